@@ -54,7 +54,7 @@ KINDS = (
                                             "checks/exchanges_by_curl.py",
     }),
     Kind("Add a command", r"\b(Activate|Assign|AddCustodian|Approve)\b", {
-        "they stand for their shapes": "*/Commands.antt */command_with_key/*",
+        "they stand for their shapes": "*/Commands.antt",
         "their refusals": "*/CustodyRefusal.antt crates/register_core/src/decision.rt",
         "any command would do": "crates/test_desk_trials/src/desks.rt docs/COSTS.md "
                                 "checks/desk_keyboard.py checks/desk_screens.py",

@@ -19,8 +19,6 @@ use Rattle.http_messages.specs.declared.route.Route.{Route}
 use Rattle.http_messages.specs.declared.route.Route.TheVariants.{Requests, Show, Usage}
 use Rattle.http_messages.specs.declared.route.RoutePattern.{RoutePattern}
 use Rattle.register_requests.specs.Request.{IsKeyNumber}
-use Rattle.register_requests.specs.RequestLine.{key_number_at}
-use Rattle.register_requests.proofs.Readers.{key_number_reader}
 use Rattle.http_messages.specs.Route.{IsRoute, route_text, routes, key_row, usage_row, requests_row}
 use Rattle.http_messages.specs.Within.Route.{pattern_of}
 
@@ -302,19 +300,6 @@ row_of (Usage key) = usage_row
 
 pub fits_number : (n : ℕ) → IsKeyNumber n → n < 2 ^ 64
 fits_number n h = omega (arith, h.1)
-
--- what is read of a field writes it, and else nothing does
-pub number_found : (field : List ℕ) (o : Option ℕ) → o ≡ key_number_at field
-    → IfSome o (λ n. (field ≡ decimal n) × IsKeyNumber n)
-number_found field None e = tt
-number_found field (Some n) e = let taken = key_number_reader.takes field n (sym e) in (taken.1, taken.0)
-
-pub no_number_found : (field : List ℕ) (o : Option ℕ) → o ≡ key_number_at field
-    → IfNone o ((n : ℕ) → IsKeyNumber n → field ≢ decimal n)
-no_number_found field None e = λ n p is.
-    let read : None ≡ Some n = e ∙ ap key_number_at is ∙ key_number_reader.again n p in
-    absurd (cc)
-no_number_found field (Some n) e = tt
 
 -- the router finds each route by its text
 pub finds_route : (r : Route) → IsRoute r → first routes (route_text r) ≡ Some (row_of r)

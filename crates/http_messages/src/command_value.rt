@@ -19,7 +19,7 @@ ghost use Rattle.register_requests.specs.declared.command_fields.Shape.TheVarian
 ghost use Rattle.register_requests.specs.Fields.{fields_of};
 ghost use Rattle.register_requests.specs.Name.{IsName};
 ghost use Rattle.register_requests.specs.Quorum.{IsQuorum};
-ghost use Rattle.register_requests.specs.Request.{AreFields, IsCommand, IsKeyNumber};
+ghost use Rattle.register_requests.specs.Request.{AreFieldsInRange, IsCommand, IsKeyNumber};
 ghost use Rattle.register_requests.specs.CommandRule.{kind_of};
 ghost use Rattle.http_messages.specs.CommandValue.{number_data, kind_data, command_data};
 ghost use Rattle.http_messages.specs.Within.CommandValue.{HasMembers, IsShaped};
@@ -182,7 +182,7 @@ fn type_and_period_fields_of(members: &Map<String, Value>) -> Option<Fields>
     ensures found { IfSome result
         (IsShaped shapes.TypeAndPeriod (members_view members.now.entries)) }
     ensures none { IfNone result ((type : KeyType) (period : Period) →
-        AreFields (TypeAndPeriod type period) →
+        AreFieldsInRange (TypeAndPeriod type period) →
         HasMembers (members_view members.now.entries) (TypeAndPeriod type period) → ⊥) }
 {
     let (_kind, originator, recipient, key_type) = four_members_of(
@@ -202,7 +202,7 @@ fn revocation_fields_of(members: &Map<String, Value>) -> Option<Fields>
     ensures found { IfSome result
         (IsShaped shapes.Revocation (members_view members.now.entries)) }
     ensures none { IfNone result ((key : ℕ) (reason : Reason) (occurrence : Option ℕ) →
-        AreFields (Revocation key reason occurrence) →
+        AreFieldsInRange (Revocation key reason occurrence) →
         HasMembers (members_view members.now.entries) (Revocation key reason occurrence) → ⊥) }
 {
     let (key, _kind, occurrence, reason) = four_members_of(
@@ -262,7 +262,7 @@ fn date_edit_fields_of(members: &Map<String, Value>) -> Option<Fields>
     ensures found { IfSome result
         (IsShaped shapes.DateEdits (members_view members.now.entries)) }
     ensures none { IfNone result ((key : ℕ) (activation protect_stop deactivation : Edit) →
-        AreFields (DateEdits key activation protect_stop deactivation) →
+        AreFieldsInRange (DateEdits key activation protect_stop deactivation) →
         HasMembers (members_view members.now.entries)
         (DateEdits key activation protect_stop deactivation) → ⊥) }
 {
@@ -321,7 +321,7 @@ fn registration_fields_of(members: &Map<String, Value>) -> Option<Fields>
         (IsShaped shapes.Registration (members_view members.now.entries)) }
     ensures none { IfNone result ((type : KeyType) (owner : List ℕ)
         (activation protect_stop deactivation : Option ℕ) (purpose : List ℕ) →
-        AreFields (Registration type owner activation protect_stop deactivation purpose) →
+        AreFieldsInRange (Registration type owner activation protect_stop deactivation purpose) →
         HasMembers (members_view members.now.entries)
         (Registration type owner activation protect_stop deactivation purpose) → ⊥) }
 {

@@ -40,7 +40,7 @@ impl<'b> Values<'b> {
     }
 
     /// With one value more.
-    fn with_value(self, value: &'b [u8]) -> Self
+    fn with_one_more(self, value: &'b [u8]) -> Self
         ensures { (vs : List (List ℕ)) → AreFound vs self.entry
             → AreFound (vs ++ value.now ∷ []) result }
     {
@@ -62,7 +62,7 @@ impl<'b> Values<'b> {
         if !is_named(prefix, line, name) {
             return self;
         }
-        self.with_value(line.value.of(prefix))
+        self.with_one_more(line.value.of(prefix))
     }
 }
 

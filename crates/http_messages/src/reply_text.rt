@@ -36,7 +36,8 @@ pub(crate) fn reply_text(
 {
     let length = body.len();
     format!(in alloc;
-        "HTTP/1.1 {status}\r\nContent-Type: application/json\r\nContent-Length: {length}\r\nConnection: close\r\n\r\n{body}"
+        "HTTP/1.1 {status}\r\nContent-Type: application/json\r\nContent-Length: {length}\r\n\
+         Connection: close\r\n\r\n{body}"
     )
 }
 
@@ -52,7 +53,8 @@ pub(crate) fn reply_text_with_allow(
 {
     let length = body.len();
     format!(in alloc;
-        "HTTP/1.1 {status}\r\nContent-Type: application/json\r\nContent-Length: {length}\r\nAllow: {method}\r\nConnection: close\r\n\r\n{body}"
+        "HTTP/1.1 {status}\r\nContent-Type: application/json\r\nContent-Length: {length}\r\n\
+         Allow: {method}\r\nConnection: close\r\n\r\n{body}"
     )
 }
 
@@ -169,7 +171,7 @@ fn put_refusal_details(
         }
         Refusal::ApprovalsMissing { have, need } => {
             put(members, alloc, "have", Value::from(have))?;
-            put(members, alloc, "need", Value::from(need))
+            put(members, alloc, "need", Value::from(need.get()))
         }
         _ => Ok(()),
     }
@@ -258,7 +260,7 @@ fn key_value(alloc: Global, shown: &Record) -> Result<Value, AllocError>
         "custodians",
         shown.custodians.as_slice(),
     )?;
-    put(&mut members, alloc, "need", Value::from(shown.need))?;
+    put(&mut members, alloc, "need", Value::from(shown.need.get()))?;
     put(&mut members, alloc, "number", Value::from(key.number))?;
     put_text_member(&mut members, alloc, "owner", key.owner.text())?;
     put_text_member(&mut members, alloc, "purpose", key.purpose.text())?;

@@ -2,14 +2,14 @@
 ghost use Rattle.std.specs.Prelude.{◌≡◌};
 
 use crate::key_row::KeyRow;
-use register_core::{Held, Names, Purpose};
+use register_core::{Held, Names, Purpose, Quorum};
 
 /// A key's row with its custody.
 #[derive(Drop)]
 pub struct Record {
     pub key: KeyRow,
     /// How many approvals its destruction needs.
-    pub need: u8,
+    pub need: Quorum,
     /// In order of their bytes.
     pub custodians: Names,
     /// Those whose approval of the key's destruction stands, in order of their bytes.

@@ -85,10 +85,10 @@ defaulted_dates_cut_to_limits p d =
 -- ---- refusals
 
 -- a date past its limit, with the limit
-abbrev pub length_refusal : Option ℕ → Option ℕ → Option DateRefusal
-length_refusal (Some date) (Some limit) = if nat_lt limit date then Some (PeriodTooLong limit) else None
-length_refusal (Some date) None = None
-length_refusal None limit = None
+abbrev pub too_long_refusal : Option ℕ → Option ℕ → Option DateRefusal
+too_long_refusal (Some date) (Some limit) = if nat_lt limit date then Some (PeriodTooLong limit) else None
+too_long_refusal (Some date) None = None
+too_long_refusal None limit = None
 
 abbrev pub order_refusal : Dates → Option DateRefusal
 order_refusal d = if are_dates_in_order d then None else Some DateOrder
@@ -116,8 +116,8 @@ fill_of p d =
     let full = dates_with_defaults p d in
     unless_refused (first_that_holds (
     order_refusal full
-    ∷ length_refusal full.protect_stop (originator_limit p full)
-    ∷ length_refusal full.deactivation (recipient_limit p full)
+    ∷ too_long_refusal full.protect_stop (originator_limit p full)
+    ∷ too_long_refusal full.deactivation (recipient_limit p full)
     ∷ range_refusal full
     ∷ [])) full
 

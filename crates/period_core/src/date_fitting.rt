@@ -2,16 +2,13 @@
 //! refused.
 ghost use Rattle.std.specs.Prelude.{◌≡◌, ◌≢◌, ◌↔◌, ◌||◌, ◌&&◌, ℕ, is_some, is_none, IsTrue};
 ghost use Rattle.std.specs.Prelude.{IsSome, IfErr, OnOk};
-ghost use Rattle.period_core.specs.Fitting.{Fits, is_not_after, are_dates_in_order};
-ghost use Rattle.period_core.specs.Fitting.{originator_limit};
-ghost use Rattle.period_core.specs.Fitting.{recipient_limit, is_either_use_too_long, earlier_of, cut_to_limit};
-ghost use Rattle.period_core.specs.Fitting.{months_on_date};
-ghost use Rattle.period_core.specs.Fitting.{with_default_protect_stop, with_default_deactivation};
-ghost use Rattle.period_core.specs.Fitting.{dates_with_defaults};
-ghost use Rattle.period_core.specs.Fitting.{defaulted_dates_cut_to_limits, order_refusal, length_refusal};
-ghost use Rattle.period_core.specs.Fitting.{range_refusal, fill_of, trim_of, KeepsGiven};
+ghost use Rattle.period_core.specs.Fitting.{Fits, Gives, KeepsGiven, are_dates_in_order};
+ghost use Rattle.period_core.specs.Fitting.{cut_to_limit, dates_with_defaults, defaulted_dates_cut_to_limits};
+ghost use Rattle.period_core.specs.Fitting.{earlier_of, fill_of, is_either_use_too_long, is_not_after};
+ghost use Rattle.period_core.specs.Fitting.{months_on_date, order_refusal, originator_limit, range_refusal};
+ghost use Rattle.period_core.specs.Fitting.{recipient_limit, too_long_refusal, trim_of};
+ghost use Rattle.period_core.specs.Fitting.{with_default_deactivation, with_default_protect_stop};
 ghost use Rattle.period_core.specs.Within.Fitting.{Checks};
-ghost use Rattle.period_core.specs.Fitting.{Gives};
 
 use crate::period::Period;
 use lifecycle_core::Dates;
@@ -201,7 +198,7 @@ fn check_order(dates: &Dates) -> Result<(), DateRefusal>
 
 /// The date is not past its limit.
 fn check_within_limit(date: Option<Moment>, limit: Option<Moment>) -> Result<(), DateRefusal>
-    ensures { Checks (length_refusal date limit) result }
+    ensures { Checks (too_long_refusal date limit) result }
 {
     let (Some(date), Some(limit)) = (date, limit) else {
         return Ok(());

@@ -1,6 +1,6 @@
 -- Laws of the custody of keys, over lawful histories.
 use Rattle.std.proofs.Common.{◌≡◌, ℕ, ◌<◌, ◌≤◌, false, List, [], ◌∷◌, ◌++◌, Option, None, Some}
-use Rattle.std.proofs.Common.{refl, ap, length, arith, IsSome, ◌⊎◌, inl, inr}
+use Rattle.std.proofs.Common.{refl, ap, subst, ◌∙◌, length, arith, IsSome, ◌⊎◌, inl, inr}
 use Rattle.std.specs.Prelude.{nat_eq}
 use Rattle.std.proofs.lemmas.Bool.Decides.{eqb_tells}
 use Rattle.lifecycle_core.specs.declared.dates.Dates.{Dates}
@@ -91,6 +91,7 @@ approved_next h q is before k has set = elim (which h q k (judged h q is.accepte
   | inl made ↦
       let its = dates_when_made h q k made in
       let keeps = filled_keeps (period h made.registration.kind) (given_to q made.registration) in
+      let none = subst (λ (o : Option ℕ). IsSome o) (ap (λ (d : Dates). d.destroy) its ∙ keeps.destroy) set in
       absurd (cc)
   | inr (inl on) ↦ elim (destroy_same (period h (type h k)) (dates h k) q.moment k q.command on.names) [
     | inl destruction ↦ destroyed_enough h q k destruction.0 is.lawful on destruction.1

@@ -9,7 +9,7 @@ use Rattle.period_core.specs.declared.date_fitting.DateRefusal.TheVariants.{Date
 use Rattle.period_core.specs.Fitting.{is_not_after, originator_limit, recipient_limit, Fits}
 use Rattle.period_core.specs.Fitting.{with_default_protect_stop, with_default_deactivation, cut_to_limit}
 use Rattle.period_core.specs.Fitting.{dates_with_defaults, defaulted_dates_cut_to_limits}
-use Rattle.period_core.specs.Fitting.{length_refusal, order_refusal, range_refusal, unless_refused, fill_of, trim_of}
+use Rattle.period_core.specs.Fitting.{too_long_refusal, order_refusal, range_refusal, unless_refused, fill_of, trim_of}
 use Rattle.register_core.specs.Verdict.{refused_dates}
 use Rattle.register_core.proofs.Filling.{past}
 
@@ -87,7 +87,7 @@ passes refusal d e = grind arith
 ordered : (b : Bool) → ◌≡◌ {A = Option DateRefusal} (cond b None (Some DateOrder)) None → b ≡ true
 ordered b e = grind arith
 
-limited : (date limit : Option ℕ) → length_refusal date limit ≡ None → is_not_after date limit ≡ true
+limited : (date limit : Option ℕ) → too_long_refusal date limit ≡ None → is_not_after date limit ≡ true
 limited date limit e = grind arith
 
 whole : (d : Dates) → range_refusal d ≡ None → IsWhole d
@@ -97,8 +97,8 @@ pub filled_fits : (period : Period) (d : Dates) → refused_dates (fill_of perio
     → Fits period (dates_with_defaults period d) × IsWhole (dates_with_defaults period d)
 filled_fits period d e =
     let full = dates_with_defaults period d in
-    let originator = length_refusal full.protect_stop (originator_limit period full) in
-    let recipient = length_refusal full.deactivation (recipient_limit period full) in
+    let originator = too_long_refusal full.protect_stop (originator_limit period full) in
+    let recipient = too_long_refusal full.deactivation (recipient_limit period full) in
     let order = past (order_refusal full) (originator ∷ recipient ∷ range_refusal full ∷ []) (passes _ full e) in
     let first = past originator (recipient ∷ range_refusal full ∷ []) order.later in
     grind (arith, past, ordered, limited, whole)

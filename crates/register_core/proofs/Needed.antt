@@ -13,7 +13,8 @@ use Rattle.register_core.specs.KeptReply.{reply}
 use Rattle.register_core.specs.Verdict.{dates_refusal, always, judge, judge_view}
 use Rattle.register_core.specs.Verdict.{judgement, named_key}
 use Rattle.register_core.specs.Decision.{change_of, change_by_request, reply_of_view, IsViewOf, LeadsTo}
-use Rattle.register_core.specs.Need.{needed_key, needed_period_type, Suffices}
+use Rattle.register_core.specs.Effect.{needed_period_type}
+use Rattle.register_core.specs.Need.{needed_key, Suffices}
 use Rattle.register_core.proofs.Decisions.{agrees_as}
 use Rattle.std.proofs.Common.{arith}
 use Rattle.std.proofs.lemmas.Bool.Decides.{nat_tests}

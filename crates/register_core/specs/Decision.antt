@@ -22,10 +22,9 @@ use Rattle.register_core.specs.Settings.{KeyNeed, TypePeriod, with_need, with_pe
 use Rattle.register_core.specs.Custody.{all_custodians, custodians, all_approvals, approvals, need, held}
 use Rattle.register_core.specs.declared.key.Key.{Key}
 use Rattle.register_core.specs.Verdict.{named_key, always}
-use Rattle.register_core.specs.Need.{needed_period_type}
 use Rattle.register_requests.specs.Subject.{Registration, Subject, Makes, Names, NoKey, subject}
 use Rattle.register_core.specs.Effect.{given_dates, dates_after, owner_after, row_with_dates_at}
-use Rattle.register_core.specs.Effect.{custody_change}
+use Rattle.register_core.specs.Effect.{custody_change, needed_period_type}
 use Rattle.register_core.specs.KeyName.{is_key_name, is_at, KeyName, key_name}
 
 -- what an accepted request makes of the key that it names by this number, by these periods of the types

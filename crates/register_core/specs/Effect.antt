@@ -1,6 +1,6 @@
 -- What a command does to a key: to its type, its owner, its dates and its custody.
 use Rattle.std.specs.Prelude.{ℕ, min, ◌==◌, Bool, true, false, unwrap_or, ◌&&◌, List, Option, None, Some, is_none}
-use Rattle.std.specs.Prelude.{if◌then◌else◌}
+use Rattle.std.specs.Prelude.{if◌then◌else◌, Result, Ok}
 use Rattle.lifecycle_core.specs.declared.dates.Dates.{Dates}
 use Rattle.lifecycle_core.specs.declared.row.Row.{Row}
 use Rattle.lifecycle_core.specs.State.{state_at}
@@ -8,13 +8,17 @@ use Rattle.lifecycle_core.specs.Reason.{is_compromise}
 use Rattle.period_core.specs.declared.key_type.KeyType.{KeyType}
 use Rattle.period_core.specs.KeyType.{key_type_code}
 use Rattle.period_core.specs.Period.{Period}
-use Rattle.period_core.specs.Fitting.{dates_with_defaults, defaulted_dates_cut_to_limits}
+use Rattle.period_core.specs.declared.date_fitting.DateRefusal.{DateRefusal}
+use Rattle.period_core.specs.Fitting.{dates_with_defaults, defaulted_dates_cut_to_limits, fill_of, trim_of}
 use Rattle.register_requests.specs.declared.request.Command.{Command}
 use Rattle.register_requests.specs.declared.request.Command.TheVariants.{Register, Activate, SetDates, Revoke, Assign}
 use Rattle.register_requests.specs.declared.request.Command.TheVariants.{AddCustodian, RemoveCustodian, Approve}
 use Rattle.register_requests.specs.declared.request.Command.TheVariants.{Withdraw, Destroy, SetQuorum, SetPeriod}
 use Rattle.register_requests.specs.declared.request.Edit.{Edit}
 use Rattle.register_requests.specs.declared.request.Edit.TheVariants.{Keep, Clear, Set}
+use Rattle.register_core.specs.declared.fitting.Fitting.{Fitting}
+use Rattle.register_core.specs.declared.fitting.Fitting.TheVariants.{Filled, Trimmed, Unfitted}
+use Rattle.register_core.specs.declared.view.Held.{Held}
 use Rattle.register_core.specs.declared.change.CustodyChange.{CustodyChange}
 use Rattle.register_core.specs.declared.change.CustodyChange.TheVariants.{Kept, CustodianAdded, CustodianRemoved}
 use Rattle.register_core.specs.declared.change.CustodyChange.TheVariants.{Approved, Withdrawn, ApprovalsEnded, NeedSet}
@@ -40,6 +44,11 @@ owner_after before _ = before
 -- no date is set before a key is registered
 abbrev pub unset_dates : Dates
 unset_dates = record { initial = 0; activation = None; protect_stop = None; deactivation = None; destroy = None; compromise = None; compromise_occurrence = None }
+
+-- the dates of the key as it stands; where there is none, no date is set
+abbrev pub dates_before : Option Held → Dates
+dates_before None = unset_dates
+dates_before (Some held) = held.row.dates
 
 -- the dates that a registration at the moment t gives, before Fill
 abbrev pub given_dates : ℕ → Option ℕ → Option ℕ → Option ℕ → Dates
@@ -80,17 +89,40 @@ compromised t occurrence d =
 abbrev pub deactivated : ℕ → Dates → Dates
 deactivated t d = record d { deactivation = Some t; protect_stop = cut_date_at t d.protect_stop }
 
+-- the dates that a command at the moment t asks for of a key with the dates d, before a period is looked at
+abbrev pub asked_dates : Dates → ℕ → Command → Dates
+asked_dates d t (Register kind owner activation protect_stop deactivation purpose) =
+    given_dates t activation protect_stop deactivation
+asked_dates d t (Activate key) = record d { activation = Some t }
+asked_dates d t (SetDates key activation protect_stop deactivation) =
+    edited_dates activation protect_stop deactivation d
+asked_dates d t (Revoke key reason occurrence) =
+    if is_compromise reason then compromised t occurrence d else deactivated t d
+asked_dates d t (Destroy key) = record d { destroy = Some t }
+asked_dates d t _ = d
+
+-- how they are fitted to the period of the key's type
+abbrev pub fitting : Command → Fitting
+fitting (Register kind owner activation protect_stop deactivation purpose) = Filled
+fitting (SetDates key activation protect_stop deactivation) = Filled
+fitting (Activate key) = Trimmed
+fitting _ = Unfitted
+
+-- the dates, fitted to the period
+abbrev pub fitted : Period → Fitting → Dates → Dates
+fitted p Filled d = dates_with_defaults p d
+fitted p Trimmed d = defaulted_dates_cut_to_limits p d
+fitted p Unfitted d = d
+
+-- or why they do not fit it
+abbrev pub fitted_or_refusal : Period → Fitting → Dates → Result Dates DateRefusal
+fitted_or_refusal p Filled d = fill_of p d
+fitted_or_refusal p Trimmed d = trim_of p d
+fitted_or_refusal p Unfitted d = Ok d
+
 -- the dates of a key after a command at the moment t, where this is the period of its type
 abbrev pub dates_after : Period → Dates → ℕ → Command → Dates
-dates_after p d t (Register kind owner activation protect_stop deactivation purpose) =
-    dates_with_defaults p (given_dates t activation protect_stop deactivation)
-dates_after p d t (Activate key) = defaulted_dates_cut_to_limits p (record d { activation = Some t })
-dates_after p d t (SetDates key activation protect_stop deactivation) =
-    dates_with_defaults p (edited_dates activation protect_stop deactivation d)
-dates_after p d t (Revoke key reason occurrence) =
-    if is_compromise reason then compromised t occurrence d else deactivated t d
-dates_after p d t (Destroy key) = record d { destroy = Some t }
-dates_after p d t _ = d
+dates_after p d t c = fitted p (fitting c) (asked_dates d t c)
 
 -- dates, with the state that they give at t
 abbrev pub row_with_dates_at : Dates → ℕ → Row
@@ -104,12 +136,25 @@ period_after kind before (SetPeriod other period) =
     if key_type_code other == key_type_code kind then Some period else before
 period_after kind before _ = before
 
--- the command gives its key dates, which are held to the period of the type
+abbrev pub is_fitted : Fitting → Bool
+is_fitted Filled = true
+is_fitted Trimmed = true
+is_fitted Unfitted = false
+
+-- the command gives its key dates, which are fitted to the period of the type
 abbrev pub sets_dates : Command → Bool
-sets_dates (Register kind owner activation protect_stop deactivation purpose) = true
-sets_dates (Activate key) = true
-sets_dates (SetDates key activation protect_stop deactivation) = true
-sets_dates _ = false
+sets_dates c = is_fitted (fitting c)
+
+-- the type of the key that is made or named, where the one that is named is there
+abbrev pub type_of : Option Held → Subject → Option KeyType
+type_of key (Makes registration) = Some registration.kind
+type_of (Some held) (Names number) = Some held.kind
+type_of _ _ = None
+
+-- The type whose period the dates that a command asks for are fitted to. Where they are not, or the key is not there,
+-- it is none.
+abbrev pub needed_period_type : Option Held → Command → Option KeyType
+needed_period_type key c = if sets_dates c then type_of key (subject c) else None
 
 -- ---- custody
 

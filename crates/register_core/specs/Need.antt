@@ -1,13 +1,12 @@
 -- What a request needs of the register: of the key that it names and of the periods, no more than its decision looks
 -- at.
-use Rattle.std.specs.Prelude.{◌≡◌, nat_lt, List, [], Option, None, Some, IfSome, if◌then◌else◌}
+use Rattle.std.specs.Prelude.{◌≡◌, nat_lt, List, [], Option, None, IfSome, if◌then◌else◌}
 use Rattle.std.specs.Option.{option_map}
-use Rattle.period_core.specs.declared.key_type.KeyType.{KeyType}
 use Rattle.register_requests.specs.declared.request.Request.{Request}
 use Rattle.register_requests.specs.declared.request.Command.{Command}
-use Rattle.register_requests.specs.declared.request.Command.TheVariants.{Register, Activate, SetDates}
 use Rattle.register_core.specs.declared.view.Held.{Held}
 use Rattle.register_core.specs.declared.view.View.{View}
+use Rattle.register_core.specs.Effect.{needed_period_type}
 use Rattle.register_core.specs.History.{latest, count, period}
 use Rattle.register_requests.specs.CommandRule.{looks_at_custody, looks_at_need}
 use Rattle.register_requests.specs.Quorum.{min_approvals}
@@ -26,14 +25,6 @@ needed_of c held = record held {
 -- refuses it whatever the key is.
 abbrev pub needed_key : List Request → Request → Option Held
 needed_key h q = if nat_lt q.moment (latest h) then None else option_map (needed_of q.command) (named_key h q.command)
-
--- The type whose period the dates that the command gives are held to: the registered type, or that of the key that it
--- names. Where it gives no dates, or the key is not there, it is none.
-abbrev pub needed_period_type : Option Held → Command → Option KeyType
-needed_period_type key (Register kind owner activation protect_stop deactivation purpose) = Some kind
-needed_period_type (Some held) (Activate key) = Some held.kind
-needed_period_type (Some held) (SetDates key activation protect_stop deactivation) = Some held.kind
-needed_period_type _ _ = None
 
 -- the view has what the request needs after this history
 pub record Suffices (view : View) (h : List Request) (q : Request) : Type 0 where

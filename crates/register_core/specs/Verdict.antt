@@ -7,7 +7,7 @@ use Rattle.lifecycle_core.specs.declared.state.State.TheVariants.{PreActive}
 use Rattle.lifecycle_core.specs.State.{state_at, is_reached_at}
 use Rattle.register_requests.specs.declared.request.Request.{Request}
 use Rattle.register_requests.specs.declared.request.Command.{Command}
-use Rattle.register_requests.specs.declared.request.Command.TheVariants.{Register, Activate, SetDates, Revoke}
+use Rattle.register_requests.specs.declared.request.Command.TheVariants.{Register, SetDates, Revoke}
 use Rattle.register_requests.specs.declared.request.Edit.{Edit}
 use Rattle.register_requests.specs.declared.request.Edit.TheVariants.{Keep}
 use Rattle.register_core.specs.declared.answer.Answer.{Answer}
@@ -24,20 +24,20 @@ use Rattle.register_core.specs.declared.reply.Refusal.TheVariants.{OccurrenceLat
 use Rattle.lifecycle_core.specs.declared.dates.Dates.{Dates}
 use Rattle.period_core.specs.declared.date_fitting.DateRefusal.{DateRefusal}
 use Rattle.period_core.specs.declared.date_fitting.DateRefusal.TheVariants as dates
-use Rattle.period_core.specs.Fitting.{first_that_holds, fill_of, trim_of}
+use Rattle.period_core.specs.Fitting.{first_that_holds}
 use Rattle.period_core.specs.declared.key_type.KeyType.{KeyType}
 use Rattle.period_core.specs.Period.{Period}
 use Rattle.register_requests.specs.Name.{is_among}
 use Rattle.register_core.specs.History.{latest, count, period}
 use Rattle.register_core.specs.KeptReply.{reply, kept, kept_under}
 use Rattle.register_requests.specs.Request.{command_text}
-use Rattle.register_core.specs.Effect.{given_dates, edited_dates}
+use Rattle.register_core.specs.Effect.{asked_dates, dates_before, fitted_or_refusal, fitting, type_of}
 use Rattle.register_core.specs.Custody.{held}
 use Rattle.register_requests.specs.CommandRule.{is_owners, is_custodians, is_offices, is_one_of, is_for}
 use Rattle.register_core.specs.CustodyRefusal.{custody_refusal_in}
 use Rattle.register_requests.specs.declared.version.Version.{Version}
 use Rattle.register_requests.specs.Version.{current, knows}
-use Rattle.register_requests.specs.Subject.{named}
+use Rattle.register_requests.specs.Subject.{named, subject}
 
 -- ---- the refusals, each where its condition holds
 
@@ -54,15 +54,12 @@ abbrev pub refused_dates : Result Dates DateRefusal → Option Refusal
 refused_dates (Ok d) = None
 refused_dates (Err refusal) = Some (refusal_of_dates refusal)
 
--- Fill, or at an activation Trim, by the period of the key's type, refuses the dates that the command gives it at t
+-- the dates that the command asks for at t do not fit the period of the key's type
 abbrev pub dates_refusal : (KeyType → Period) → Option Held → ℕ → Command → Option Refusal
-dates_refusal periods key t (Register kind owner activation protect_stop deactivation purpose) =
-    refused_dates (fill_of (periods kind) (given_dates t activation protect_stop deactivation))
-dates_refusal periods (Some held) t (Activate key) =
-    refused_dates (trim_of (periods held.kind) (record held.row.dates { activation = Some t }))
-dates_refusal periods (Some held) t (SetDates key activation protect_stop deactivation) =
-    refused_dates (fill_of (periods held.kind) (edited_dates activation protect_stop deactivation held.row.dates))
-dates_refusal periods _ t _ = None
+dates_refusal periods key t c =
+    let asked = asked_dates (dates_before key) t c in
+    option_and_then (λ kind. refused_dates (fitted_or_refusal (periods kind) (fitting c) asked))
+    (type_of key (subject c))
 
 -- the command names a key that is not there
 abbrev pub key_refusal : Option Held → Command → Option Refusal

@@ -204,8 +204,8 @@ fn check_approvals_suffice(key: &Option<Held>, command: &Command) -> Result<(), 
         return Ok(());
     };
     let have = held.approvals.len();
-    let need = usize::from(held.need);
-    if have < need {
+    let need = held.need;
+    if have < usize::from(need.get()) {
         Err(Refusal::ApprovalsMissing { have, need })
     } else {
         Ok(())

@@ -1,25 +1,24 @@
 //! What a command does to a key, to its dates, its owner and its custody, and what it changes
 //! besides.
 ghost use Rattle.std.specs.Prelude.{◌≡◌, None, Some, IsSome, IfOk, IfErr, OnOk};
-ghost use Rattle.period_core.specs.Fitting.{fill_of, trim_of};
 ghost use Rattle.period_core.specs.Period.{Period as UsagePeriod};
 ghost use Rattle.register_core.specs.Effect.{owner_after, unset_dates, given_dates};
 ghost use Rattle.register_core.specs.Effect.{date_after_edit};
-ghost use Rattle.register_core.specs.Effect.{edited_dates, cut_date_at, dates_after};
-ghost use Rattle.register_core.specs.Within.Effect.{commanded_dates_or_refusal};
-ghost use Rattle.register_core.specs.Effect.{row_with_dates_at, custody_change};
+ghost use Rattle.register_core.specs.Effect.{asked_dates, edited_dates, cut_date_at, dates_after};
+ghost use Rattle.register_core.specs.Effect.{dates_before, row_with_dates_at, custody_change};
 ghost use Rattle.register_core.specs.Decision.{change_by_request, change_without_key};
 ghost use Rattle.register_core.specs.Decision.{change_of_held_key};
-ghost use Rattle.register_core.specs.Within.Decision.{AreDatesAfter, dates_before};
+ghost use Rattle.register_core.specs.Within.Decision.{AreDatesAfter};
 ghost use Rattle.register_core.specs.Verdict.{always, dates_refusal, key_refusal};
 
 use crate::change::{Change, CustodyChange};
+use crate::fitting::Fitting;
 use crate::key::Key;
 use crate::reply::Refusal;
 use crate::view::Held;
 use lifecycle_core::{Dates, Row, state_of};
 use moment_core::{FIRST_MOMENT, Moment};
-use period_core::{DateRefusal, Period, fill, trim};
+use period_core::Period;
 use register_requests::{Command, Edit, Name, Request};
 
 /// The dates of a key before it is registered: none is set.
@@ -108,34 +107,9 @@ fn dates_before(key: &Option<Held>) -> Dates
     }
 }
 
-/// What Fill makes of the dates, by this period.
-fn filled_dates(period: Period, mut dates: Dates) -> Result<Dates, DateRefusal>
-    ensures { result ≡ fill_of period dates }
-{
-    fill(period, &mut dates)?;
-    Ok(dates)
-}
-
-/// What Trim makes of the dates, by this period.
-fn trimmed_dates(period: Period, mut dates: Dates) -> Result<Dates, DateRefusal>
-    requires { IsSome dates.activation }
-    ensures { result ≡ trim_of period dates }
-{
-    trim(period, &mut dates)?;
-    Ok(dates)
-}
-
-/// The dates of a key after the command at the moment, where this is the period of its type.
-///
-/// # Errors
-/// Why the dates that the command gives do not fit the period.
-fn commanded_dates_or_refusal(
-    period: Period,
-    dates: &Dates,
-    at: Moment,
-    command: &Command,
-) -> Result<Dates, DateRefusal>
-    ensures { result ≡ commanded_dates_or_refusal period dates.now at command.now }
+/// The dates that the command asks for at the moment, before a period is looked at.
+fn asked_dates(dates: &Dates, at: Moment, command: &Command) -> Dates
+    ensures { result ≡ asked_dates dates.now at command.now }
 {
     match *command {
         Command::Register {
@@ -143,45 +117,36 @@ fn commanded_dates_or_refusal(
             protect_stop,
             deactivation,
             ..
-        } => filled_dates(
-            period,
-            given_dates(at, activation, protect_stop, deactivation),
-        ),
-        Command::Activate { .. } => trimmed_dates(
-            period,
-            Dates {
-                activation: Some(at),
-                ..*dates
-            },
-        ),
+        } => given_dates(at, activation, protect_stop, deactivation),
+        Command::Activate { .. } => Dates {
+            activation: Some(at),
+            ..*dates
+        },
         Command::SetDates {
             activation,
             protect_stop,
             deactivation,
             ..
-        } => filled_dates(
-            period,
-            edited_dates(activation, protect_stop, deactivation, dates),
-        ),
+        } => edited_dates(activation, protect_stop, deactivation, dates),
         Command::Revoke {
             reason,
             occurrence,
             ..
-        } if reason.is_compromise() => Ok(Dates {
+        } if reason.is_compromise() => Dates {
             compromise: Some(at),
             compromise_occurrence: Some(occurrence.unwrap_or(dates.initial)),
             ..*dates
-        }),
-        Command::Revoke { .. } => Ok(Dates {
+        },
+        Command::Revoke { .. } => Dates {
             deactivation: Some(at),
             protect_stop: cut_date_at(at, dates.protect_stop),
             ..*dates
-        }),
-        Command::Destroy { .. } => Ok(Dates {
+        },
+        Command::Destroy { .. } => Dates {
             destroy: Some(at),
             ..*dates
-        }),
-        _ => Ok(*dates),
+        },
+        _ => *dates,
     }
 }
 
@@ -200,7 +165,8 @@ pub(crate) fn key_dates_after_command(
     ensures err { key_refusal key.now command.now ≡ None → IfErr result (λ refusal.
         dates_refusal (always period) key.now at command.now ≡ Some refusal) }
 {
-    Ok(commanded_dates_or_refusal(period, &dates_before(key), at, command)?)
+    let asked = asked_dates(&dates_before(key), at, command);
+    Ok(Fitting::of(command).fit(period, asked)?)
 }
 
 /// What becomes of the custody of a key with these dates, by the caller's command.

@@ -49,7 +49,7 @@ impl KeptReply {
     }
 
     /// Whether this is the command of the request: each command has one text.
-    fn has_command(&self, command: &Command) -> bool
+    fn has_same_command(&self, command: &Command) -> bool
         ensures { result ≡ is_same_command self.now.command command.now }
     {
         command_text(&self.command).as_bytes() == command_text(command).as_bytes()
@@ -60,7 +60,7 @@ impl KeptReply {
     pub fn answer_to_repeat(&self, command: &Command) -> Answer
         ensures { (new : Reply) → result ≡ answer_by (repeated self.now command.now) new }
     {
-        if self.has_command(command) {
+        if self.has_same_command(command) {
             Answer::Repeated(self.reply)
         } else {
             Answer::Refused(Refusal::RequestReused)

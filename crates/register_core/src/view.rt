@@ -4,7 +4,7 @@ use crate::names::Names;
 use lifecycle_core::Row;
 use moment_core::Moment;
 use period_core::{KeyType, Period};
-use register_requests::Name;
+use register_requests::{Name, Quorum};
 
 /// A key as it stands at some moment.
 #[derive(Drop, Debug)]
@@ -13,7 +13,7 @@ pub struct Held {
     pub owner: Name,
     pub row: Row,
     /// How many approvals its destruction needs.
-    pub need: u8,
+    pub need: Quorum,
     /// In order of their bytes.
     pub custodians: Names,
     /// Those whose approval of the key's destruction stands, in order of their bytes.

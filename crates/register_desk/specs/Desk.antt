@@ -63,6 +63,10 @@ steps_of desk = desk.connection.steps
 abbrev pub TakesSteps : {S : Type 0} {g : Ghosts S} → ℕ → Desk S g → Desk S g → Type 0
 TakesSteps most old new = Calls most old.connection new.connection
 
+-- so, whatever history the desk stands for
+abbrev pub KeepsToSteps : {S : Type 0} → (g : Ghosts S) → ℕ → Desk S g → Desk S g → Type 0
+KeepsToSteps g most old new = (h : List Request) → StandsFor g old h → IsClean g new → TakesSteps most old new
+
 -- the disk has given back what was written
 abbrev pub IsClean : {S : Type 0} → (g : Ghosts S) → Desk S g → Type 0
 IsClean g desk = HasCleanDisk (seen g desk.connection)

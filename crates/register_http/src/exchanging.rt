@@ -5,7 +5,7 @@ ghost use Rattle.register_core.specs.declared.reply.Refusal.TheVariants.{Unknown
 ghost use Rattle.register_requests.specs.declared.request.Request.{Request};
 ghost use Rattle.http_messages.specs.AnswerText.{outcome_reply};
 ghost use Rattle.http_messages.specs.CommandBody.{IsInRange};
-ghost use Rattle.register_desk.specs.Desk.{IsClean, IsWhole, TakesSteps};
+ghost use Rattle.register_desk.specs.Desk.{IsClean, IsWhole, KeepsToSteps};
 ghost use Rattle.register_desk.specs.Register.{StandsFor};
 ghost use Rattle.register_http.specs.Action.{Acts, IsTextOf};
 ghost use Rattle.register_http.specs.ActionReply.{request_at};
@@ -32,13 +32,16 @@ fn end_reply(end: End) -> &'static str
 {
     match end {
         End::Memory => {
-            "HTTP/1.1 503 Service Unavailable\r\nContent-Type: application/json\r\nContent-Length: 26\r\nConnection: close\r\n\r\n{\"end\":30,\"name\":\"Memory\"}"
+            "HTTP/1.1 503 Service Unavailable\r\nContent-Type: application/json\r\n\
+             Content-Length: 26\r\nConnection: close\r\n\r\n{\"end\":30,\"name\":\"Memory\"}"
         }
         End::Store => {
-            "HTTP/1.1 500 Internal Server Error\r\nContent-Type: application/json\r\nContent-Length: 25\r\nConnection: close\r\n\r\n{\"end\":31,\"name\":\"Store\"}"
+            "HTTP/1.1 500 Internal Server Error\r\nContent-Type: application/json\r\n\
+             Content-Length: 25\r\nConnection: close\r\n\r\n{\"end\":31,\"name\":\"Store\"}"
         }
         End::Broken => {
-            "HTTP/1.1 500 Internal Server Error\r\nContent-Type: application/json\r\nContent-Length: 26\r\nConnection: close\r\n\r\n{\"end\":32,\"name\":\"Broken\"}"
+            "HTTP/1.1 500 Internal Server Error\r\nContent-Type: application/json\r\n\
+             Content-Length: 26\r\nConnection: close\r\n\r\n{\"end\":32,\"name\":\"Broken\"}"
         }
         End::ReadFault | End::WriteFault | End::BadHeader => "",
     }
@@ -67,8 +70,7 @@ fn reply_text_showing_key<S: Alter>(
 ) -> Result<String, End>
     ensures acts { (moment : ℕ) →
         Acts S.Store moment (Asked.ShowKey key) desk.old desk.new result }
-    ensures steps { (h : List Request) → StandsFor S.Store desk.old h → IsClean S.Store desk.new
-        → TakesSteps 38 desk.old desk.new }
+    ensures steps { KeepsToSteps S.Store 38 desk.old desk.new }
 {
     match desk.show(key)? {
         Some(shown) => text_or_end(key_reply_text(alloc, &shown)),
@@ -80,8 +82,7 @@ fn reply_text_showing_key<S: Alter>(
 fn usage_reply<S: Alter>(alloc: Global, desk: &mut Desk<S>, key: u32) -> Result<String, End>
     ensures acts { (moment : ℕ) →
         Acts S.Store moment (Asked.ShowUsage key) desk.old desk.new result }
-    ensures steps { (h : List Request) → StandsFor S.Store desk.old h → IsClean S.Store desk.new
-        → TakesSteps 2 desk.old desk.new }
+    ensures steps { KeepsToSteps S.Store 2 desk.old desk.new }
 {
     match desk.usage(key)? {
         Some(usage) => text_or_end(usage_reply_text(alloc, &usage)),
@@ -111,8 +112,7 @@ fn reply_text_after_applying<S: Alter>(
 ) -> Result<String, End>
     requires { IsInRange (Asked.Apply sent.now) }
     ensures acts { Acts S.Store moment (Asked.Apply sent.now) desk.old desk.new result }
-    ensures steps { (h : List Request) → StandsFor S.Store desk.old h → IsClean S.Store desk.new
-        → TakesSteps 51 desk.old desk.new }
+    ensures steps { KeepsToSteps S.Store 51 desk.old desk.new }
 {
     let request = request_at(moment, sent);
     let answer = desk.apply(&request)?;
@@ -132,8 +132,7 @@ fn answer_asked<S: Alter>(
 ) -> Result<String, End>
     requires { IsInRange asked.now }
     ensures acts { Acts S.Store moment asked.now desk.old desk.new result }
-    ensures steps { (h : List Request) → StandsFor S.Store desk.old h → IsClean S.Store desk.new
-        → TakesSteps 51 desk.old desk.new }
+    ensures steps { KeepsToSteps S.Store 51 desk.old desk.new }
 {
     match asked {
         Asked::Reject(rejection) => text_or_end(rejection_text(alloc, *rejection)),
@@ -214,8 +213,7 @@ pub fn exchange<R: Read, W: Write, S: Alter>(
         → IsClean S.Store desk.new → LeavesOne S.Store h desk.new result.end }
     ensures clean { IsClean S.Store desk.new → IsClean S.Store desk.old }
     // However many keys there are.
-    ensures steps { (h : List Request) → StandsFor S.Store desk.old h → IsClean S.Store desk.new
-        → TakesSteps 51 desk.old desk.new }
+    ensures steps { KeepsToSteps S.Store 51 desk.old desk.new }
     ensures reader { LeavesReader R.remaining reader.old reader.new result }
     ensures writer { LeavesWriter writer.new result }
 {

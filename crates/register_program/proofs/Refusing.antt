@@ -115,18 +115,19 @@ module _ {S : Type 0} (g : Ghosts S) (may_leave : S → Image → Type 0) (found
   refuses_closed refusal refused is none = subst (Refuses g may_leave found) (sym is)
       (record { cause = tt; spares = λ h lawful holds. tt; nothing = λ nothing. tt; unopened = λ same. none })
 
-  pub refuses_unopened : {X : Type 0} (refusal : OpenRefusal) (result : Result X (Refused S))
+  pub opens_closed : (refusal : OpenRefusal) (result : Result (Desk S g) (Refused S))
       → IsErrAnd result (λ refused. refused ≡ record { refusal = refusal; store = None }) → RefusesNoTable refusal
-      → IfErr result (Refuses g may_leave found)
-  refuses_unopened refusal (Ok x) is none = absurd is
-  refuses_unopened refusal (Err refused) is none = refuses_closed refusal refused is none
+      → OpensFile g may_leave found result
+  opens_closed refusal (Ok x) is none = absurd is
+  opens_closed refusal (Err refused) is none = opens_refused refused (refuses_closed refusal refused is none)
 
-  pub refuses_unmade : {X : Type 0} (refusal : OpenRefusal) (result : Result X (Refused S))
+  pub made_closed : (refusal : OpenRefusal) (result : Result (Closed S) (Refused S))
       → IsErrAnd result (λ refused. refused ≡ record { refusal = refusal; store = None }) → RefusesNoTable refusal
-      → IfErr result (RefusesMaking g may_leave found)
-  refuses_unmade refusal (Ok x) is none = absurd is
-  refuses_unmade refusal (Err refused) is none = subst (RefusesMaking g may_leave found) (sym is)
-      (record { cause = tt; spares = λ h holds. tt; nothing = λ nothing. tt; unopened = λ same. none })
+      → MakesRegister g may_leave found result
+  made_closed refusal (Ok x) is none = absurd is
+  made_closed refusal (Err refused) is none = subst (λ r. MakesRegister g may_leave found (Err r)) (sym is)
+      (made_none (λ r. Unit {0}) (Err (record { refusal = refusal; store = None })) tt
+      (record { cause = tt; spares = λ h holds. tt; nothing = λ nothing. tt; unopened = λ same. none }))
 
   module _ (opens_again : (it : S) → IsTrue (g.view it).is_numbered → AreDatabases (g.recovers it) → (left : Image)
       → may_leave it left → ∥ ((db : Trees) × (g.recovers it db) × HoldsDatabase left db) ∥₁)

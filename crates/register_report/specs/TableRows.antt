@@ -11,11 +11,15 @@ use Rattle.register_requests.specs.Number.{max_request_number}
 use Rattle.register_report.specs.declared.importing.Rows.{Rows}
 use Rattle.register_report.specs.ImportRows.{AreRowItems, AreTexts, Item, Row, max_rows}
 
+-- the table takes each field as it stands, in records of any length, and may be read
+pub record IsPlainTable {R : Type 0} (table : Reader R) : Type 0 where
+  pub untrimmed : reader_trim table ≡ trim.None
+  pub flexible : is_flexible table ≡ true
+  pub ready : Ready table
+
 -- a row may be read
 pub record AreRowsReady {R : Type 0} (place : Rows × Reader R) : Type 0 where
-  pub plain : reader_trim place.1 ≡ trim.None
-  pub flexible : is_flexible place.1 ≡ true
-  pub ready : Ready place.1
+  pub table : IsPlainTable place.1
   pub number : place.0.number ≤ max_request_number + place.0.came
   pub came : place.0.came ≤ max_rows
 

@@ -2,21 +2,19 @@
 ghost use Rattle.std.specs.Prelude.{◌≡◌, ◌⊎◌, ◌-◌, ℕ, List, Some, true, false, IfOk, IfErr, OnOk};
 ghost use Rattle.std.specs.Bool.{OnFalse, OnTrue};
 ghost use Rattle.csv.specs.Records.{AllText, fields_of};
-ghost use Rattle.csv.specs.Reading.{Ready, ReadRecord, is_flexible, reader_config, reader_trim};
-ghost use Rattle.csv.specs.declared.reader.Trim.TheVariants as trim;
+ghost use Rattle.csv.specs.Reading.{ReadRecord};
 ghost use Rattle.register_requests.specs.declared.request.Request.{Request};
 ghost use Rattle.register_requests.specs.Number.{IsNumber};
-ghost use Rattle.streams.specs.Watched.{IsFaulted};
+ghost use Rattle.register_desk.specs.Run.{LeavesDesk, LeavesWriter, max_reads};
 ghost use Rattle.register_desk.specs.Desk.{IsClean};
 ghost use Rattle.register_desk.specs.Register.{StandsFor};
-ghost use Rattle.register_desk.specs.Run.{LeavesDesk, LeavesWriter, max_reads};
 ghost use Rattle.register_desk.specs.Lives.{LivesSome};
+ghost use Rattle.streams.specs.Watched.{IsFaulted};
 ghost use Rattle.register_report.specs.declared.importing.TheConstants.{MAX_ROWS};
-ghost use Rattle.register_report.specs.Import.{CountsRows, DoesNothing, ImportsTable};
-ghost use Rattle.register_report.specs.Import.{StopsAtRecord};
+ghost use Rattle.register_report.specs.Import.{CountsRows, DoesNothing, ImportsTable, StopsAtRecord};
 ghost use Rattle.register_report.specs.ImportRows.{header};
-ghost use Rattle.register_report.specs.TableRows.{AreRowsReady, IsUnread};
-ghost use Rattle.register_report.specs.Within.TableRows.{LacksHeader};
+ghost use Rattle.register_report.specs.TableRows.{AreRowsReady, IsPlainTable, IsUnread};
+ghost use Rattle.register_report.specs.Within.TableRows.{KeepsRows, LacksHeader, ReadsOn};
 ghost use Rattle.register_report.specs.TableRows.{RowsCame, RowsEnd, RowsFail};
 
 use crate::import_row::{is_header, row_item};
@@ -50,19 +48,13 @@ struct Rows {
 impl Rows {
     /// Reads the next record, and tells whether there was one.
     fn read_record<R: Read>(&mut self, table: &mut Reader<R>) -> Result<bool, End>
-        requires plain { reader_trim table.old ≡ trim.None }
-        requires flexible { is_flexible table.old ≡ true }
-        requires ready { Ready table.old }
+        requires { IsPlainTable table.old }
         ensures reads { IfOk result (λ found.
             ReadRecord R.remaining table.old table.new found (fields_of self.new.row)) }
         ensures text { OnOk result (AllText (fields_of self.new.row)) }
-        ensures plain { OnOk result (reader_trim table.new ≡ trim.None) }
-        ensures flexible { OnOk result (is_flexible table.new ≡ true) }
-        ensures config { OnOk result (reader_config table.new ≡ reader_config table.old) }
-        ensures ready { OnOk result (Ready table.new) }
+        ensures on { OnOk result (ReadsOn table.old table.new) }
         ensures sound { OnOk result (self.new.reader_failed ≡ self.old.reader_failed) }
-        ensures kept { self.new ≡
-            record self.old { row = self.new.row; reader_failed = self.new.reader_failed } }
+        ensures kept { KeepsRows self.old self.new }
         ensures end { IfErr result (IsUnread R.remaining table.old table.new self.new.reader_failed) }
     {
         match table.read_record(&mut self.row) {
@@ -80,17 +72,11 @@ impl Rows {
 
     /// Reads the first record, which has to be the header row.
     fn read_header<R: Read>(&mut self, table: &mut Reader<R>) -> Result<(), End>
-        requires plain { reader_trim table.old ≡ trim.None }
-        requires flexible { is_flexible table.old ≡ true }
-        requires ready { Ready table.old }
+        requires { IsPlainTable table.old }
         ensures reads { OnOk result (ReadRecord R.remaining table.old table.new true header) }
-        ensures plain { OnOk result (reader_trim table.new ≡ trim.None) }
-        ensures flexible { OnOk result (is_flexible table.new ≡ true) }
-        ensures config { OnOk result (reader_config table.new ≡ reader_config table.old) }
-        ensures ready { OnOk result (Ready table.new) }
+        ensures on { OnOk result (ReadsOn table.old table.new) }
         ensures sound { OnOk result (self.new.reader_failed ≡ self.old.reader_failed) }
-        ensures kept { self.new ≡
-            record self.old { row = self.new.row; reader_failed = self.new.reader_failed } }
+        ensures kept { KeepsRows self.old self.new }
         ensures end { IfErr result (LacksHeader R.remaining table.old table.new self.new.reader_failed) }
     {
         if self.read_record(table)? && is_header(&self.row) {

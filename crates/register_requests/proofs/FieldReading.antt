@@ -38,6 +38,20 @@ is_read {A} {read_by} own field None found none =
     sym (none_from (read_by field)
     (λ (x : A) (e : read_by field ≡ Some x). let taken = own.takes field x e in none x taken.0 taken.1))
 
+-- and what it gives is what such a field is the text of
+pub was_read : {A : Type 0} {read_by : List ℕ → Option A} {text : A → List ℕ} {P : A → Type 0}
+    → IsReader read_by text P → (field : List ℕ) (o : Option A) → o ≡ read_by field
+    → IfSome o (λ x. P x × (field ≡ text x))
+was_read own field (Some x) e = own.takes field x (sym e)
+was_read own field None e = tt
+
+pub none_was_read : {A : Type 0} {read_by : List ℕ → Option A} {text : A → List ℕ} {P : A → Type 0}
+    → IsReader read_by text P → (field : List ℕ) (o : Option A) → o ≡ read_by field
+    → IfNone o ((x : A) → P x → field ≢ text x)
+none_was_read own field (Some x) e = tt
+none_was_read {A} {read_by} own field None e = λ x p is.
+    let read : None ≡ Some x = e ∙ ap read_by is ∙ own.again x p in absurd cc
+
 -- the same where each value has a text
 pub is_read_any : {A : Type 0} {read_by : List ℕ → Option A} {text : A → List ℕ}
     → IsReader read_by text (λ _. Unit {0}) → (field : List ℕ) (o : Option A)

@@ -32,7 +32,7 @@ use Rattle.register_requests.specs.Quorum.{IsQuorum}
 use Rattle.period_core.specs.KeyType.{key_type_text}
 use Rattle.period_core.specs.Period.{Period}
 use Rattle.register_requests.specs.CommandKind.{command_kind_text, command_shape}
-use Rattle.register_requests.specs.Request.{max_line_length, AreFields, IsCommand, IsDate, IsEdit, IsKeyNumber}
+use Rattle.register_requests.specs.Request.{max_line_length, AreFieldsInRange, IsCommand, IsDate, IsEdit, IsKeyNumber}
 use Rattle.register_requests.specs.Request.{IsRequest}
 use Rattle.register_requests.specs.Request.{IsLineOf, StandsFor, IsItem, date_text, edit_text, fields_text}
 use Rattle.register_requests.specs.Request.{command_text}
@@ -40,7 +40,7 @@ use Rattle.register_requests.specs.Request.{request_text}
 use Rattle.register_requests.specs.CommandText.{IsCommandText, IsCommandItem}
 use Rattle.register_requests.specs.Within.RequestLine.{◌>>=◌, field_at, field_then, moment_at, date_at}
 use Rattle.register_requests.specs.Within.RequestLine.{edit_at}
-use Rattle.register_requests.specs.RequestLine.{key_number_at, request_number_at}
+use Rattle.register_requests.specs.Within.RequestLine.{key_number_at, request_number_at}
 use Rattle.register_requests.specs.Within.RequestLine.{reason_at, occurrence_at, name_at}
 use Rattle.register_requests.specs.Within.RequestLine.{key_type_at, purpose_at, registered, register_at, edits}
 use Rattle.register_requests.specs.Within.RequestLine.{edits_at}
@@ -132,13 +132,13 @@ after_text (Some fields) = spaced fields
 
 -- what is read as fields
 record AreRead (after : Option (List ℕ)) (f : Fields) : Type 0 where
-  in_range : AreFields f
+  in_range : AreFieldsInRange f
   text : after_text after ≡ fields_text f
 
 -- the fields that are made of what was read
 made_of : {A : Type 0} {read_by : List ℕ → Option A} {text : A → List ℕ} {P : A → Type 0} → IsReader read_by text P
-    → (made : A → Fields) → ((x : A) → P x → AreFields (made x)) → ((x : A) → fields_text (made x) ≡ spaced (text x))
-    → (bytes : List ℕ) (f : Fields) → (read_by bytes >>= λ x. Some (made x)) ≡ Some f → AreRead (Some bytes) f
+    → (made : A → Fields) → ((x : A) → P x → AreFieldsInRange (made x))
+    → ((x : A) → fields_text (made x) ≡ spaced (text x)) → (bytes : List ℕ) (f : Fields) → (read_by bytes >>= λ x. Some (made x)) ≡ Some f → AreRead (Some bytes) f
 made_of {A} {read_by} own made in_range text bytes f e = grind arith
 
 name_solid : (name : List ℕ) → IsName name → HasNoSpace name
@@ -167,7 +167,7 @@ register_reader =
     then_reader date_reader date_solid
     (λ _. then_reader date_reader date_solid (λ _. then_reader date_reader date_solid (λ _. purpose_reader)))))
 
-registered_ranges : (x : Registered) → AreRegistered x → AreFields (registered x)
+registered_ranges : (x : Registered) → AreRegistered x → AreFieldsInRange (registered x)
 registered_ranges x in_range = grind arith
 
 registered_text : (x : Registered) → fields_text (registered x) ≡ spaced (text_of_registered x)
@@ -177,8 +177,8 @@ register_takes : (bytes : List ℕ) (f : Fields) → register_at bytes ≡ Some 
 unfolding register_at
 register_takes = made_of register_reader registered registered_ranges registered_text
 
-register_again : (k : KeyType) (o : List ℕ) (a p d : Option ℕ) (u : List ℕ) → AreFields (Registration k o a p d u)
-    → register_at (before (key_type_text k) (before o
+register_again : (k : KeyType) (o : List ℕ) (a p d : Option ℕ) (u : List ℕ)
+    → AreFieldsInRange (Registration k o a p d u) → register_at (before (key_type_text k) (before o
     (before (date_text a) (before (date_text p) (before (date_text d) u))))) ≡ Some (Registration k o a p d u)
 unfolding register_at
 register_again k o a p d u in_range = grind (arith, register_reader.again (k, (o, (a, (p, (d, u))))))
@@ -196,7 +196,7 @@ edits_take : (bytes : List ℕ) (f : Fields) → edits_at bytes ≡ Some f → A
 unfolding edits_at
 edits_take = made_of edits_reader edits (λ x h. (h.0, h.1.0, h.1.1.0, h.1.1.1)) (λ x. grind (arith, joined_edits))
 
-edits_again : (key : ℕ) (a p d : Edit) → AreFields (DateEdits key a p d)
+edits_again : (key : ℕ) (a p d : Edit) → AreFieldsInRange (DateEdits key a p d)
     → edits_at (before (decimal key) (before (edit_text a) (before (edit_text p) (edit_text d)))) ≡ Some
     (DateEdits key a p d)
 unfolding edits_at
@@ -217,7 +217,7 @@ revoke_takes : (bytes : List ℕ) (f : Fields) → revoke_at bytes ≡ Some f �
 unfolding revoke_at
 revoke_takes = made_of revoke_reader revoked (λ x h. (h.0, h.1.1.0, h.1.1.1)) (λ x. grind (arith, joined_revoke))
 
-revoke_again : (key : ℕ) (r : Reason) (o : Option ℕ) → AreFields (Revocation key r o)
+revoke_again : (key : ℕ) (r : Reason) (o : Option ℕ) → AreFieldsInRange (Revocation key r o)
     → revoke_at (before (decimal key) (before (reason_text r) (date_text o))) ≡ Some (Revocation key r o)
 unfolding revoke_at
 revoke_again key r o in_range = cc (revoke_reader.again (key, (r, o)) (in_range.0, (tt, (in_range.1, in_range.2))))
@@ -234,7 +234,7 @@ unfolding keyed_at
 keyed_takes = made_of key_number_reader Key (λ key h. h) (λ key. refl)
 
 named_takes : (made : ℕ → List ℕ → Fields)
-    → ((key : ℕ) (name : List ℕ) → IsKeyNumber key × IsName name → AreFields (made key name))
+    → ((key : ℕ) (name : List ℕ) → IsKeyNumber key × IsName name → AreFieldsInRange (made key name))
     → ((key : ℕ) (name : List ℕ) → fields_text (made key name) ≡ codes " " ++ decimal key ++ codes " " ++ name)
     → (bytes : List ℕ) (f : Fields) → named_at made bytes ≡ Some f → AreRead (Some bytes) f
 unfolding named_at
@@ -249,7 +249,7 @@ key_and_need_takes : (bytes : List ℕ) (f : Fields) → key_and_need_at bytes �
 unfolding key_and_need_at
 key_and_need_takes = made_of key_and_need_reader (λ y. KeyAndNeed y.0 y.1) (λ y h. h) (λ y. grind (arith, joined_named))
 
-key_and_need_again : (key need : ℕ) → AreFields (KeyAndNeed key need)
+key_and_need_again : (key need : ℕ) → AreFieldsInRange (KeyAndNeed key need)
     → key_and_need_at (before (decimal key) (decimal need)) ≡ Some (KeyAndNeed key need)
 unfolding key_and_need_at
 key_and_need_again key need in_range = rw (key_and_need_reader.again (key, need) in_range) refl
@@ -269,7 +269,7 @@ unfolding type_and_period_at
 type_and_period_takes =
     made_of type_and_period_reader set_period (λ x h. grind arith) (λ x. grind (arith, joined_revoke))
 
-type_and_period_again : (kind : KeyType) (p : Period) → AreFields (TypeAndPeriod kind p)
+type_and_period_again : (kind : KeyType) (p : Period) → AreFieldsInRange (TypeAndPeriod kind p)
     → type_and_period_at (before (key_type_text kind) (before (decimal p.originator) (decimal p.recipient)))
     ≡ Some (TypeAndPeriod kind p)
 unfolding type_and_period_at
@@ -361,7 +361,7 @@ has_text f = grind (arith, joined_register, joined_edits, joined_revoke, joined_
 
 ruleset keyed_fields_again = (keyed_again, named_again, key_and_need_again, edits_again, revoke_again)
 
-read_again : (f : Fields) → AreFields f → after_at (shape_of f) (after_of f) ≡ Some f
+read_again : (f : Fields) → AreFieldsInRange f → after_at (shape_of f) (after_of f) ≡ Some f
 read_again f in_range = grind (arith, keyed_fields_again, type_and_period_again, register_again)
 
 -- ---- commands

@@ -23,9 +23,8 @@ use Rattle.register_requests.specs.Purpose.{IsPurpose}
 use Rattle.period_core.specs.KeyType.{key_type_text}
 use Rattle.period_core.specs.Period.{max_months}
 use Rattle.register_requests.specs.CommandKind.{command_kind_text}
-use Rattle.register_requests.specs.RequestLine.{number_at, key_number_at}
+use Rattle.register_requests.specs.Within.RequestLine.{number_at, key_number_at, request_number_at}
 use Rattle.register_requests.specs.Within.RequestLine.{moment_at, date_at, edit_at, reasons}
-use Rattle.register_requests.specs.RequestLine.{request_number_at}
 use Rattle.register_requests.specs.Within.RequestLine.{reason_at, occurrence_at, quorum_at, originator_at}
 use Rattle.register_requests.specs.Within.RequestLine.{recipient_at, name_at, purpose_at, key_types, key_type_at}
 use Rattle.register_requests.specs.Within.RequestLine.{command_kinds}

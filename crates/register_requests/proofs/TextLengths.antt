@@ -9,7 +9,7 @@ use Rattle.register_requests.specs.declared.command_fields.Fields.TheVariants.{R
 use Rattle.register_requests.specs.declared.request.Command.{Command}
 use Rattle.register_requests.specs.declared.request.Edit.{Edit}
 use Rattle.register_requests.specs.CommandText.{max_command_length}
-use Rattle.register_requests.specs.Request.{AreFields, IsCommand, IsDate, IsEdit, IsKeyNumber, command_text, date_text}
+use Rattle.register_requests.specs.Request.{AreFieldsInRange, IsCommand, IsDate, IsEdit, IsKeyNumber, command_text, date_text}
 use Rattle.register_requests.specs.Request.{edit_text, fields_text}
 
 moment_short : (t : ℕ) → IsMoment t → length (decimal t) ≤ 12
@@ -32,7 +32,7 @@ abbrev room : Fields → ℕ
 room (Registration kind owner activation protect_stop deactivation purpose) = 328
 room fields = 320
 
-fields_short : (fields : Fields) → AreFields fields → length (fields_text fields) ≤ room fields
+fields_short : (fields : Fields) → AreFieldsInRange fields → length (fields_text fields) ≤ room fields
 fields_short fields is = grind (arith, length-append, key_short, months_short, date_short, edit_short)
 
 pub text_short : (c : Command) → IsCommand c → length (command_text c) ≤ max_command_length

@@ -10,5 +10,4 @@ pub mod Request
 pub mod CommandRule
 pub mod CommandText
 pub mod Subject
-pub mod RequestLine
 pub mod Within

@@ -49,22 +49,22 @@ IsEdit Clear = Unit {0}
 IsEdit (Set date) = IsMoment date
 
 -- the fields of a command are in their ranges
-abbrev pub AreFields : Fields → Type 0
-AreFields Nothing = Unit {0}
-AreFields (Key key) = IsKeyNumber key
-AreFields (KeyAndName key name) = IsKeyNumber key × IsName name
-AreFields (KeyAndOwner key owner) = IsKeyNumber key × IsName owner
-AreFields (KeyAndNeed key need) = IsKeyNumber key × IsQuorum need
-AreFields (TypeAndPeriod kind period) = IsPeriod period
-AreFields (Registration kind owner activation protect_stop deactivation purpose) =
+abbrev pub AreFieldsInRange : Fields → Type 0
+AreFieldsInRange Nothing = Unit {0}
+AreFieldsInRange (Key key) = IsKeyNumber key
+AreFieldsInRange (KeyAndName key name) = IsKeyNumber key × IsName name
+AreFieldsInRange (KeyAndOwner key owner) = IsKeyNumber key × IsName owner
+AreFieldsInRange (KeyAndNeed key need) = IsKeyNumber key × IsQuorum need
+AreFieldsInRange (TypeAndPeriod kind period) = IsPeriod period
+AreFieldsInRange (Registration kind owner activation protect_stop deactivation purpose) =
     IsName owner × IsDate activation × IsDate protect_stop × IsDate deactivation × IsPurpose purpose
-AreFields (DateEdits key activation protect_stop deactivation) =
+AreFieldsInRange (DateEdits key activation protect_stop deactivation) =
     IsKeyNumber key × IsEdit activation × IsEdit protect_stop × IsEdit deactivation
-AreFields (Revocation key reason occurrence) =
+AreFieldsInRange (Revocation key reason occurrence) =
     IsKeyNumber key × IsDate occurrence × (is_compromise reason ≡ false → occurrence ≡ None)
 
 abbrev pub IsCommand : Command → Type 0
-IsCommand c = AreFields (fields_of c)
+IsCommand c = AreFieldsInRange (fields_of c)
 
 pub record IsRequest (q : Request) : Type 0 where
   pub moment : IsMoment q.moment

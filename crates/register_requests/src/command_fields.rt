@@ -1,8 +1,6 @@
 //! The kinds of commands, each with its word and the shape of its fields; and these fields. A
 //! command is its kind and its fields, and what is read off the fields has no row for a command.
 ghost use Rattle.std.specs.Prelude.{◌≡◌};
-ghost use Rattle.register_requests.specs.declared.command_fields.Fields.TheVariants.{Nothing, Key};
-ghost use Rattle.register_requests.specs.declared.command_fields.Fields.TheVariants.{KeyAndName};
 ghost use Rattle.register_requests.specs.Fields.{fields_of, command_with};
 
 use crate::request::{Command, Edit};
@@ -50,7 +48,7 @@ impl CommandKind {
     ghost use Rattle.register_requests.specs.CommandKind.{first_version};
 
     /// Each kind once.
-    pub const ALL: [CommandKind; 13] = [
+    pub const ALL: &'static [CommandKind] = &[
         CommandKind::Register,
         CommandKind::Activate,
         CommandKind::SetDates,
@@ -119,7 +117,7 @@ impl CommandKind {
         ensures found { IfSome result (λ k. bytes.now ≡ command_kind_text k) }
         ensures none { IfNone result ((k : CommandKind) → bytes.now ≢ command_kind_text k) }
     {
-        CommandKind::first_with_text(&CommandKind::ALL, bytes)
+        CommandKind::first_with_text(CommandKind::ALL, bytes)
     }
 
     /// The first of these kinds whose word this is.
@@ -239,40 +237,6 @@ impl Fields {
     }
 }
 
-/// The command of this kind, whose word stands alone.
-fn command_without_fields(kind: CommandKind) -> Option<Command>
-    ensures { result ≡ command_with kind Nothing }
-{
-    match kind {
-        CommandKind::Advance => Some(Command::Advance),
-        _ => None,
-    }
-}
-
-/// The command of this kind on a key alone.
-fn command_with_key(kind: CommandKind, key: u32) -> Option<Command>
-    ensures { result ≡ command_with kind (Key key) }
-{
-    match kind {
-        CommandKind::Activate => Some(Command::Activate { key }),
-        CommandKind::Approve => Some(Command::Approve { key }),
-        CommandKind::Withdraw => Some(Command::Withdraw { key }),
-        CommandKind::Destroy => Some(Command::Destroy { key }),
-        _ => None,
-    }
-}
-
-/// The command of this kind on a key and a name.
-fn command_with_key_and_name(kind: CommandKind, key: u32, name: Name) -> Option<Command>
-    ensures { result ≡ command_with kind (KeyAndName key name) }
-{
-    match kind {
-        CommandKind::AddCustodian => Some(Command::AddCustodian { key, name }),
-        CommandKind::RemoveCustodian => Some(Command::RemoveCustodian { key, name }),
-        _ => None,
-    }
-}
-
 impl Command {
     ghost use Rattle.register_requests.specs.Request.{is_in_range};
     ghost use Rattle.register_requests.specs.Subject.{named};
@@ -330,38 +294,27 @@ impl Command {
         ensures { result ≡ command_with kind fields.now }
     {
         use CommandKind as Kind;
-        match *fields {
-            Fields::Nothing => command_without_fields(kind),
-            Fields::Key { key } => command_with_key(kind, key),
-            Fields::KeyAndName { key, name } => command_with_key_and_name(kind, key, name),
-            Fields::KeyAndOwner { key, owner } => match kind {
-                Kind::Assign => Some(Command::Assign { key, owner }),
-                _ => None,
-            },
-            Fields::KeyAndNeed { key, need } => match kind {
-                Kind::SetQuorum => Some(Command::SetQuorum { key, need }),
-                _ => None,
-            },
-            Fields::TypeAndPeriod { kind: key_type, period } => match kind {
-                Kind::SetPeriod => Some(Command::SetPeriod { kind: key_type, period }),
-                _ => None,
-            },
-            Fields::Registration { kind: key_type, owner, activation, protect_stop, deactivation, purpose } => {
-                match kind {
-                    Kind::Register => Some(Command::Register {
-                        kind: key_type, owner, activation, protect_stop, deactivation, purpose,
-                    }),
-                    _ => None,
-                }
+        match (kind, *fields) {
+            (Kind::Register, Fields::Registration { kind, owner, activation, protect_stop, deactivation, purpose }) => {
+                Some(Command::Register { kind, owner, activation, protect_stop, deactivation, purpose })
             }
-            Fields::DateEdits { key, activation, protect_stop, deactivation } => match kind {
-                Kind::SetDates => Some(Command::SetDates { key, activation, protect_stop, deactivation }),
-                _ => None,
-            },
-            Fields::Revocation { key, reason, occurrence } => match kind {
-                Kind::Revoke => Some(Command::Revoke { key, reason, occurrence }),
-                _ => None,
-            },
+            (Kind::Activate, Fields::Key { key }) => Some(Command::Activate { key }),
+            (Kind::SetDates, Fields::DateEdits { key, activation, protect_stop, deactivation }) => {
+                Some(Command::SetDates { key, activation, protect_stop, deactivation })
+            }
+            (Kind::Revoke, Fields::Revocation { key, reason, occurrence }) => {
+                Some(Command::Revoke { key, reason, occurrence })
+            }
+            (Kind::Assign, Fields::KeyAndOwner { key, owner }) => Some(Command::Assign { key, owner }),
+            (Kind::AddCustodian, Fields::KeyAndName { key, name }) => Some(Command::AddCustodian { key, name }),
+            (Kind::RemoveCustodian, Fields::KeyAndName { key, name }) => Some(Command::RemoveCustodian { key, name }),
+            (Kind::Approve, Fields::Key { key }) => Some(Command::Approve { key }),
+            (Kind::Withdraw, Fields::Key { key }) => Some(Command::Withdraw { key }),
+            (Kind::Destroy, Fields::Key { key }) => Some(Command::Destroy { key }),
+            (Kind::Advance, Fields::Nothing) => Some(Command::Advance),
+            (Kind::SetQuorum, Fields::KeyAndNeed { key, need }) => Some(Command::SetQuorum { key, need }),
+            (Kind::SetPeriod, Fields::TypeAndPeriod { kind, period }) => Some(Command::SetPeriod { kind, period }),
+            _ => None,
         }
     }
 }

@@ -70,7 +70,7 @@ fn put_spaced_key_number(text: &mut ArrayString<MAX_COMMAND_LENGTH>, key: u32)
     put_number(text, u64::from(key));
 }
 
-/// The same with a name after the number.
+/// Appends the number of a key and then a name, each with a space before it.
 fn put_spaced_key_and_name(text: &mut ArrayString<MAX_COMMAND_LENGTH>, key: u32, name: &Name)
     requires { array_string_len text.old ≤ MAX_WORD_LENGTH }
     ensures { text.new.bytes ≡ text.old.bytes ++
@@ -81,7 +81,7 @@ fn put_spaced_key_and_name(text: &mut ArrayString<MAX_COMMAND_LENGTH>, key: u32,
     text.push_str(name.text());
 }
 
-/// The same with a number of approvals after it.
+/// Appends the number of a key and then a number of approvals, each with a space before it.
 fn put_spaced_key_and_need(text: &mut ArrayString<MAX_COMMAND_LENGTH>, key: u32, need: Quorum)
     requires { array_string_len text.old ≤ MAX_WORD_LENGTH }
     ensures { text.new.bytes ≡ text.old.bytes ++

@@ -6,9 +6,8 @@ ghost use Rattle.lifecycle_core.specs.Reason.{reason_code};
 ghost use Rattle.register_requests.specs.Request.{IsKeyNumber};
 ghost use Rattle.register_requests.specs.Within.RequestLine.{Gives, is_space, field_at, field_as};
 ghost use Rattle.register_requests.specs.Within.RequestLine.{moment_at};
-ghost use Rattle.register_requests.specs.RequestLine.{key_number_at};
+ghost use Rattle.register_requests.specs.Within.RequestLine.{key_number_at, request_number_at};
 ghost use Rattle.register_requests.specs.Within.RequestLine.{date_at, edit_at, reason_at};
-ghost use Rattle.register_requests.specs.RequestLine.{request_number_at};
 ghost use Rattle.register_requests.specs.Within.RequestLine.{occurrence_at, name_at};
 ghost use Rattle.register_requests.specs.Within.RequestLine.{key_type_at, kind_at, purpose_at};
 ghost use Rattle.register_requests.specs.Within.RequestLine.{quorum_at};
@@ -20,6 +19,7 @@ ghost use Rattle.register_requests.specs.Within.RequestLine.{key_and_need_at, sh
 ghost use Rattle.register_requests.specs.Within.RequestLine.{command_at};
 ghost use Rattle.register_requests.specs.Within.RequestLine.{type_and_period_at};
 ghost use Rattle.register_requests.specs.CommandText.{IsCommandItem};
+ghost use Rattle.register_requests.specs.Number.{IsNumber};
 ghost use Rattle.register_requests.specs.Quorum.{IsQuorum};
 ghost use Rattle.period_core.specs.Period.{max_months};
 
@@ -146,19 +146,27 @@ fn key_number_in_range(number: u64) -> Option<u32>
     u32::try_from(number).ok()
 }
 
-/// The number of a key that the field writes in decimal, from 1 to 2^32 - 1, or `None` where it
-/// writes none.
-pub fn read_key_number(field: &[u8]) -> Option<u32>
+/// The number of a key that the field writes.
+fn key_number_of(field: &[u8]) -> Option<u32>
     ensures { result ≡ key_number_at field.now }
 {
     key_number_in_range(read_decimal(field)?)
+}
+
+/// The number of a key that the field writes in decimal, from 1 to 2^32 - 1, or `None` where it
+/// writes none.
+pub fn read_key_number(field: &[u8]) -> Option<u32>
+    ensures found { IfSome result (λ n. IsKeyNumber n × (field.now ≡ decimal n)) }
+    ensures none { IfNone result ((n : ℕ) → IsKeyNumber n → field.now ≢ decimal n) }
+{
+    key_number_of(field)
 }
 
 /// Takes the key's number before the first space, and leaves what stands after that space.
 fn take_key_number_before_space(rest: &mut &[u8]) -> Option<u32>
     ensures { Gives (λ key. (key, rest.new.now)) result (field_as key_number_at rest.old.now) }
 {
-    read_key_number(take_field_before_space(rest)?)
+    key_number_of(take_field_before_space(rest)?)
 }
 
 /// The reason with this code, or `None` where no reason has it.
@@ -199,11 +207,19 @@ fn occurrence_of(reason: Reason, field: &[u8]) -> Option<Option<Moment>>
     }
 }
 
-/// The request's number that the field writes in decimal, or `None` where it writes none.
-pub fn read_request_number(field: &[u8]) -> Option<RequestNumber>
+/// The request's number that the field writes.
+fn request_number_of(field: &[u8]) -> Option<RequestNumber>
     ensures { result ≡ request_number_at field.now }
 {
     RequestNumber::new(read_decimal(field)?)
+}
+
+/// The request's number that the field writes in decimal, or `None` where it writes none.
+pub fn read_request_number(field: &[u8]) -> Option<RequestNumber>
+    ensures found { IfSome result (λ n. IsNumber n × (field.now ≡ decimal n)) }
+    ensures none { IfNone result ((n : ℕ) → IsNumber n → field.now ≢ decimal n) }
+{
+    request_number_of(field)
 }
 
 /// Takes the request's number before the first space, and leaves what stands after that space.
@@ -211,7 +227,7 @@ pub(crate) fn take_request_number_before_space(rest: &mut &[u8]) -> Option<Reque
     ensures { Gives (λ number. (number, rest.new.now)) result
         (field_as request_number_at rest.old.now) }
 {
-    read_request_number(take_field_before_space(rest)?)
+    request_number_of(take_field_before_space(rest)?)
 }
 
 /// So many approvals, or `None` out of the range.
@@ -391,7 +407,7 @@ fn fields_of_shape(shape: Shape, bytes: &[u8]) -> Option<Fields>
 {
     match shape {
         Shape::Nothing => None,
-        Shape::Key => read_key_number(bytes).map(|key| Fields::Key { key }),
+        Shape::Key => key_number_of(bytes).map(|key| Fields::Key { key }),
         Shape::KeyAndName => {
             let (key, name) = key_and_name_of(bytes)?;
             Some(Fields::KeyAndName { key, name })

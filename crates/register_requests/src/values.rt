@@ -262,6 +262,11 @@ impl Model for Quorum {
 }
 
 impl Quorum {
+    /// The least, which is needed where the key's owner has set nothing.
+    pub const LEAST: Quorum = Quorum {
+        approvals: MIN_APPROVALS,
+    };
+
     /// So many approvals, or `None` out of the range.
     pub fn new(approvals: u8) -> Option<Self>
         ensures in_range { IsSome result ↔ IsQuorum approvals }

@@ -30,5 +30,5 @@ Migrates = WhereNone HasNewTable TakesToSecond
 
 -- ---- what a look for them tells
 
-abbrev pub FindsNew : {S : Type 0} → (g : Ghosts S) → Connection S → Connection S → Type 0
-FindsNew g = FindsIn g HasNewTable
+abbrev pub FindsNewTable : {S : Type 0} → (g : Ghosts S) → Connection S → Connection S → Type 0
+FindsNewTable g = FindsIn g HasNewTable

@@ -78,7 +78,7 @@ pub(crate) enum KeyCell {
     Number,
 }
 
-/// Those of meta.
+/// The cells of the table meta.
 #[derive(Clone, Copy, Debug, PartialEq, Eq)]
 pub(crate) enum MetaCell {
     Id,
@@ -87,14 +87,14 @@ pub(crate) enum MetaCell {
     KeyCount,
 }
 
-/// Those of the tables of names at keys.
+/// The cells of the tables of names at keys.
 #[derive(Clone, Copy, Debug, PartialEq, Eq)]
 pub(crate) enum NameCell {
     Key,
     Name,
 }
 
-/// Those of requests, with whose it is after what is kept of it.
+/// The cells of the table of requests: what is kept of one, and then whose it is.
 #[derive(Clone, Copy, Debug, PartialEq, Eq)]
 pub(crate) enum RequestCell {
     Command,

@@ -3,7 +3,7 @@ ghost use Rattle.std.specs.Prelude.{◌≡◌, false, Err};
 ghost use Rattle.sql_steps.specs.Steps.{Transacts};
 ghost use Rattle.sql_steps.specs.Within.Steps.{Steps};
 ghost use Rattle.register_store.specs.Within.Beside.{UpdatesMeta};
-ghost use Rattle.register_store.specs.Migration.{FindsNew};
+ghost use Rattle.register_store.specs.Migration.{FindsNewTable};
 ghost use Rattle.register_store.specs.Migration.{Migrates};
 ghost use Rattle.register_store.specs.Within.Migration.{SetsVersion};
 
@@ -66,7 +66,7 @@ pub fn migrate<S: Alter>(connection: &mut Connection<S>) -> Result<(), CreateErr
     ensures idle { connection.new.in_transaction ≡ false }
     ensures migrated { Transacts S.Store Migrates connection.old connection.new result }
     ensures there { result ≡ Err CreateError.HasTables
-        → FindsNew S.Store connection.old connection.new }
+        → FindsNewTable S.Store connection.old connection.new }
 {
     change_schema(connection, &Migration)
 }

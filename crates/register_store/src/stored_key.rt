@@ -442,7 +442,7 @@ pub fn load_key<S: Alter>(
     alloc: Global,
     connection: &mut Counted<S>,
     number: u32,
-    need: u8,
+    need: Quorum,
 ) -> Result<Option<(Held, Purpose)>, StoreError>
     ensures counted { CallsOver S.Store (load_steps number) connection.old connection.new }
     ensures reads { Reads S.Store (HasKey number need) connection.old connection.new result }

@@ -10,9 +10,9 @@ use lifecycle_core::{Row, State, state_of};
 use moment_core::Moment;
 use period_core::{KeyType, period_of};
 use register_core::{
-    Command, CommandKind, Giver, Held, KeyPart, MIN_APPROVALS, Name, Names, Purpose, Quorum,
-    Refusal, Reply, Request, Version, View, command_text, given_dates, needed_period_type,
-    read_command, read_request, reply_line,
+    Command, CommandKind, Giver, Held, KeyPart, Name, Names, Purpose, Quorum, Refusal, Reply,
+    Request, Version, View, command_text, given_dates, needed_period_type, read_command,
+    read_request, reply_line,
 };
 use std::alloc::{AllocError, Global};
 use std::fmt;
@@ -113,7 +113,7 @@ const REFUSALS: [(Refusal, &str); 7] = [
     (Refusal::RequestReused, "refused 2 RequestReused\n"),
     (Refusal::DateOrder, "refused 9 DateOrder\n"),
     (Refusal::DateRange, "refused 11 DateRange\n"),
-    (Refusal::ApprovalsMissing { have: 1, need: 2 }, "refused 18 ApprovalsMissing have=1 need=2\n"),
+    (Refusal::ApprovalsMissing { have: 1, need: Quorum::LEAST }, "refused 18 ApprovalsMissing have=1 need=2\n"),
     (Refusal::Full, "refused 20 Full\n"),
     (Refusal::NotOffice, "refused 21 NotOffice\n"),
 ];
@@ -365,7 +365,7 @@ fn is_answer(alloc: Global, line: &str, expected: &Result<State, Refusal>) -> bo
         kind: KeyType::DataEncryption,
         owner,
         row: Row { dates, state },
-        need: MIN_APPROVALS,
+        need: Quorum::LEAST,
         custodians: Names::from_vec(Vec::new(alloc)),
         approvals: Names::from_vec(Vec::new(alloc)),
     };

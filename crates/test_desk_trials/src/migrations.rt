@@ -133,7 +133,7 @@ static REPLIES: &str = "ok 1 Active 100\nok 1 Active 200\nok 0 - 200\nok 2 Activ
 /// Whether the desk goes on over what was of the first version.
 fn goes_on(alloc: Global, desk: &mut Desk<MemStore>) -> Result<bool, Fail> {
     let need = match desk.show(1)? {
-        Some(record) => record.need,
+        Some(record) => record.need.get(),
         None => return Ok(false),
     };
     let mut output = Vec::new(alloc);

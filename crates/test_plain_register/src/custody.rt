@@ -12,7 +12,7 @@ ghost use Rattle.register_core.specs.Effect.{need_after};
 ghost use Rattle.register_requests.specs.Subject.{key_of, is_key};
 
 use crate::history::dates;
-use register_core::{Command, MIN_APPROVALS, Name, Names, Quorum, Request};
+use register_core::{Command, Name, Names, Quorum, Request};
 use std::alloc::{AllocError, Global};
 
 /// Whether the command adds this custodian of the key, or removes it.
@@ -154,15 +154,12 @@ fn need_with(before: Option<Quorum>, key: u32, command: &Command) -> Option<Quor
 }
 
 /// How many approvals the key's destruction needs.
-pub(crate) fn need(history: &[Request], key: u32) -> u8
+pub(crate) fn need(history: &[Request], key: u32) -> Quorum
     ensures { result ≡ need history.now key }
 {
     let mut set = None;
     for request in history {
         set = need_with(set, key, &request.command);
     }
-    match set {
-        Some(need) => need.get(),
-        None => MIN_APPROVALS,
-    }
+    set.unwrap_or(Quorum::LEAST)
 }

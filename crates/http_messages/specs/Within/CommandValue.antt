@@ -3,7 +3,7 @@ use Rattle.std.specs.Prelude.{◌≡◌}
 use Rattle.register_requests.specs.declared.command_fields.Fields.{Fields}
 use Rattle.register_requests.specs.declared.command_fields.Shape.{Shape}
 use Rattle.register_requests.specs.Within.Fields.{shape_of}
-use Rattle.register_requests.specs.Request.{AreFields}
+use Rattle.register_requests.specs.Request.{AreFieldsInRange}
 use Rattle.serde_json.specs.Data.{Data, Members}
 use Rattle.http_messages.specs.CommandValue.{fields_members}
 
@@ -16,4 +16,4 @@ HasMembers members fields = (kind : Data) × (members ≡ fields_members kind fi
 -- the members are those of fields of this shape, in their ranges
 abbrev pub IsShaped : Shape → Members → Fields → Type 0
 IsShaped shape members fields =
-    AreFields fields × (shape_of fields ≡ shape) × HasMembers members fields
+    AreFieldsInRange fields × (shape_of fields ≡ shape) × HasMembers members fields

@@ -1,16 +1,10 @@
 -- What functions within the crate say of one another, beside `specs/Decision.antt`.
-use Rattle.std.specs.Prelude.{◌≡◌, Option, None, Some}
+use Rattle.std.specs.Prelude.{◌≡◌, Option}
 use Rattle.lifecycle_core.specs.declared.dates.Dates.{Dates}
 use Rattle.period_core.specs.Period.{Period}
 use Rattle.register_requests.specs.declared.request.Request.{Request}
 use Rattle.register_core.specs.declared.view.Held.{Held}
-use Rattle.register_core.specs.Custody.{held}
-use Rattle.register_core.specs.Effect.{unset_dates, dates_after}
-
--- the dates of the key as it stands; where there is none, no date is set
-abbrev pub dates_before : Option Held → Dates
-dates_before None = unset_dates
-dates_before (Some held) = held.row.dates
+use Rattle.register_core.specs.Effect.{dates_after, dates_before}
 
 -- by this period these are the dates after the request of the key that it makes, or that it names and that stands so
 abbrev pub AreDatesAfter : Period → Option Held → Request → Dates → Type 0

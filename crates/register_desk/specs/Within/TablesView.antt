@@ -2,7 +2,7 @@
 use Rattle.std.specs.Prelude.{◌≡◌, length, IfSome}
 use Rattle.register_requests.specs.declared.request.Request.{Request}
 use Rattle.register_core.specs.declared.view.View.{View}
-use Rattle.register_core.specs.Need.{needed_period_type}
+use Rattle.register_core.specs.Effect.{needed_period_type}
 use Rattle.register_store.specs.Tables.{Tables}
 use Rattle.register_desk.specs.TablesView.{key_needed, period_over}
 

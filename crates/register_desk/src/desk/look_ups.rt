@@ -1,15 +1,13 @@
 //! Looking up what a decision rests on.
 ghost use Rattle.std.specs.Prelude.{◌≡◌, unwrap_or};
 ghost use Rattle.period_core.specs.Period.{periods};
-ghost use Rattle.register_requests.specs.Quorum.{min_approvals};
 ghost use Rattle.register_desk.specs.TablesView.{held_without_custody};
 
 use crate::desk::Desk;
 use crate::end::End;
 use period_core::{KeyType, Period, period_of};
 use register_core::{
-    Command, Held, Key, KeyPart, MIN_APPROVALS, Names, Purpose, Quorum, Request, View,
-    needed_period_type,
+    Command, Held, Key, KeyPart, Names, Purpose, Quorum, Request, View, needed_period_type,
 };
 use register_store::{find_key_need, find_key_row, find_office_period, load_key};
 use sqlite::Alter;
@@ -27,7 +25,7 @@ impl<S: Alter> Desk<S> {
     ghost use Rattle.register_desk.specs.Within.DeskCalls.{KeepsAll, LooksUp};
     ghost use Rattle.register_desk.specs.Register.{Sees};
     ghost use Rattle.register_core.specs.Decision.{IsRightKey};
-    ghost use Rattle.register_core.specs.Need.{needed_period_type};
+    ghost use Rattle.register_core.specs.Effect.{needed_period_type};
     ghost use Rattle.register_desk.specs.TablesView.{key_for, key_needed, need_over};
     ghost use Rattle.register_desk.specs.Within.TablesView.{IsViewOver};
     ghost use Rattle.register_desk.specs.TablesView.{key_with_custody, key_without_custody};
@@ -153,7 +151,7 @@ impl<S: Alter> Desk<S> {
     {
         match command.rule().looks_at {
             KeyPart::Row => self.look_up_key_without_custody(number),
-            KeyPart::Custody => self.look_up_key_with_custody(number, MIN_APPROVALS),
+            KeyPart::Custody => self.look_up_key_with_custody(number, Quorum::LEAST),
             KeyPart::CustodyAndNeed => {
                 let need = self.look_up_need(number)?;
                 self.look_up_key_with_custody(number, need)
@@ -161,7 +159,7 @@ impl<S: Alter> Desk<S> {
         }
     }
 
-    /// The same with nobody in its custody.
+    /// The key with this number as it stands in the tables, with nobody in its custody.
     fn look_up_key_without_custody(&mut self, number: u32) -> Result<Option<Held>, End>
         requires { IsWhole self.old }
         ensures looks { LooksUp S.Store 2 self.old self.new result }
@@ -176,8 +174,9 @@ impl<S: Alter> Desk<S> {
         }
     }
 
-    /// The same with its custody, where its destruction needs so many approvals.
-    fn look_up_key_with_custody(&mut self, number: u32, need: u8) -> Result<Option<Held>, End>
+    /// The key with this number as it stands in the tables, with its custody, where its destruction
+    /// needs so many approvals.
+    fn look_up_key_with_custody(&mut self, number: u32, need: Quorum) -> Result<Option<Held>, End>
         ensures looks { LooksUp S.Store 36 self.old self.new result }
         ensures there { IfOk result (λ key. key ≡ None → IsNoKey self.old.keys number) }
         ensures found { (t : Tables) → Sees S.Store t self.old → IsClean S.Store self.new
@@ -235,7 +234,7 @@ impl<S: Alter> Desk<S> {
     }
 
     /// How many approvals the destruction of the key with this number needs, by the tables.
-    pub(super) fn look_up_need(&mut self, number: u32) -> Result<u8, End>
+    pub(super) fn look_up_need(&mut self, number: u32) -> Result<Quorum, End>
         requires { IsWhole self.old }
         ensures looks { LooksUp S.Store 2 self.old self.new result }
         ensures no_memory { result ≢ Err End.Memory }
@@ -243,7 +242,7 @@ impl<S: Alter> Desk<S> {
             → IfOk result (λ need. need ≡ need_over t number) }
     {
         match find_key_need(&mut self.connection, number) {
-            Ok(found) => Ok(need_or_default(found)),
+            Ok(found) => Ok(found.unwrap_or(Quorum::LEAST)),
             Err(_) => Err(self.break_desk()),
         }
     }
@@ -253,7 +252,7 @@ impl<S: Alter> Desk<S> {
     pub(super) fn look_up_whole_key(
         &mut self,
         number: u32,
-        need: u8,
+        need: Quorum,
     ) -> Result<Option<(Held, Purpose)>, End>
         ensures looks { LooksUp S.Store 36 self.old self.new result }
         ensures there { IfOk result (λ key. key ≡ None → IsNoKey self.old.keys number) }
@@ -278,17 +277,10 @@ fn held_without_custody(alloc: Global, key: Key) -> Held
         kind: key.kind,
         owner: key.owner,
         row: key.row,
-        need: MIN_APPROVALS,
+        need: Quorum::LEAST,
         custodians: Names::from_vec(Vec::new(alloc)),
         approvals: Names::from_vec(Vec::new(alloc)),
     }
-}
-
-/// How many approvals a destruction needs where this is set for its key, if anything is.
-fn need_or_default(set: Option<Quorum>) -> u8
-    ensures { result ≡ unwrap_or set min_approvals }
-{
-    set.map_or(MIN_APPROVALS, |need| need.get())
 }
 
 /// The usage period of the type, where this is set for it, if anything is.

@@ -14,7 +14,7 @@ impl<S: Alter> Desk<S> {
     ghost use Rattle.register_requests.specs.declared.request.Request.{Request};
     ghost use Rattle.register_store.specs.Tables.{Tables};
     ghost use Rattle.register_desk.specs.Desk.{IsBroken, IsClean, IsWhole, ChangesNothing, Ends};
-    ghost use Rattle.register_desk.specs.Desk.{IsNoKey, TakesSteps, keys_of};
+    ghost use Rattle.register_desk.specs.Desk.{IsNoKey, KeepsToSteps, TakesSteps, keys_of};
     ghost use Rattle.register_desk.specs.Register.{StandsFor, Sees};
     ghost use Rattle.period_core.specs.declared.key_type.KeyType.{KeyType};
     ghost use Rattle.register_desk.specs.Shown.{usage, shown};
@@ -33,8 +33,7 @@ impl<S: Alter> Desk<S> {
         ensures reads { ChangesNothing S.Store self.old self.new }
         ensures shown { (h : List Request) → StandsFor S.Store self.old h → IsClean S.Store self.new
             → IfOk result (λ found. found ≡ shown h number) }
-        ensures steps { (h : List Request) → StandsFor S.Store self.old h → IsClean S.Store self.new
-            → TakesSteps 38 self.old self.new }
+        ensures steps { KeepsToSteps S.Store 38 self.old self.new }
         // None only of a key that is not counted, whatever the tables hold.
         ensures there { IfOk result (λ found. found ≡ None → IsNoKey (keys_of self.old) number) }
     {
@@ -59,8 +58,7 @@ impl<S: Alter> Desk<S> {
         ensures reads { ChangesNothing S.Store self.old self.new }
         ensures found { (h : List Request) → StandsFor S.Store self.old h → IsClean S.Store self.new
             → IfOk result (λ found. found ≡ period h kind) }
-        ensures steps { (h : List Request) → StandsFor S.Store self.old h → IsClean S.Store self.new
-            → TakesSteps 2 self.old self.new }
+        ensures steps { KeepsToSteps S.Store 2 self.old self.new }
     {
         if self.is_broken {
             return Err(End::Broken);
@@ -129,8 +127,7 @@ impl<S: Alter> Desk<S> {
         ensures no_memory { result ≢ Err End.Memory }
         ensures used { (h : List Request) → StandsFor S.Store self.old h → IsClean S.Store self.new
             → IfOk result (λ found. found ≡ usage h number) }
-        ensures steps { (h : List Request) → StandsFor S.Store self.old h → IsClean S.Store self.new
-            → TakesSteps 2 self.old self.new }
+        ensures steps { KeepsToSteps S.Store 2 self.old self.new }
         ensures there { IfOk result (λ found. found ≡ None → IsNoKey (keys_of self.old) number) }
     {
         if self.is_broken {

@@ -1,11 +1,21 @@
 -- What functions within the crate say of one another, beside `specs/TableRows.antt`.
 use Rattle.std.specs.Prelude.{◌≡◌, ◌≢◌, ℕ, Bool, true, List, Option}
 use Rattle.csv.specs.declared.reader.Reader.{Reader}
-use Rattle.csv.specs.Reading.{ReadRecord}
+use Rattle.csv.specs.Reading.{ReadRecord, reader_config}
 use Rattle.register_desk.specs.declared.end.End.{End}
 use Rattle.register_desk.specs.declared.end.End.TheVariants.{Memory, Store, Broken, ReadFault, WriteFault, BadHeader}
 use Rattle.register_report.specs.ImportRows.{Row, header}
-use Rattle.register_report.specs.TableRows.{IsUnread}
+use Rattle.register_report.specs.declared.importing.Rows.{Rows}
+use Rattle.register_report.specs.TableRows.{IsPlainTable, IsUnread}
+
+-- a record was read: the table may be read on
+pub record ReadsOn {R : Type 0} (old new : Reader R) : Type 0 where
+  pub table : IsPlainTable new
+  pub config : reader_config new ≡ reader_config old
+
+-- no more of the rows changed than the record, and whether the reader failed
+abbrev pub KeepsRows : Rows → Rows → Type 0
+KeepsRows old new = new ≡ record old { row = new.row; reader_failed = new.reader_failed }
 
 module _ {R : Type 0} (remaining : R → Option (List ℕ)) where
   -- why no header row was read: no record could be read, or there was none, or another one

@@ -1,8 +1,9 @@
 -- Reading a request line from left to right, each step a function on lists.
 use Rattle.std.specs.Prelude.{◌≡◌, ℕ, ◌+◌, ◌-◌, ◌==◌, nat_le, nat_lt, Bool, ◌&&◌, not, List, [], ◌∷◌, length, take}
-use Rattle.std.specs.Prelude.{drop, codes, Option, None, Some, slice_index, if◌then◌else◌, find}
+use Rattle.std.specs.Prelude.{decimal, drop, codes, Option, None, Some, slice_index, if◌then◌else◌, find}
 use Rattle.std.specs.List.{list_all, position}
 use Rattle.std.specs.Str.{bytes_eq, is_utf8}
+use Rattle.std.specs.Str.Parse.{digits_value}
 use Rattle.lifecycle_core.specs.declared.reason.Reason.{Reason}
 use Rattle.lifecycle_core.specs.declared.reason.Reason.TheVariants.{Unspecified, KeyCompromise, CaCompromise}
 use Rattle.lifecycle_core.specs.declared.reason.Reason.TheVariants.{AffiliationChanged, Superseded}
@@ -30,10 +31,10 @@ use Rattle.register_requests.specs.Name.{is_name_byte, max_name_length}
 use Rattle.register_requests.specs.Purpose.{is_purpose_byte, max_purpose_length}
 use Rattle.register_requests.specs.Quorum.{min_approvals, max_approvals}
 use Rattle.register_requests.specs.CommandKind.{command_kind_text, command_shape}
-use Rattle.register_requests.specs.Request.{max_line_length}
+use Rattle.register_requests.specs.Number.{max_request_number}
+use Rattle.register_requests.specs.Request.{max_key_number, max_line_length}
 use Rattle.period_core.specs.KeyType.{key_type_text}
 use Rattle.period_core.specs.Period.{max_months, of_months}
-use Rattle.register_requests.specs.RequestLine.{key_number_at, number_at, request_number_at}
 
 -- one step, and then the next, unless the first gives none
 infixl 10 ◌>>=◌
@@ -56,6 +57,20 @@ unfoldable pub field_at : List ℕ → Option (List ℕ × List ℕ)
 field_at bytes = do
   place ← position is_space bytes
   Some (take place bytes, drop (place + 1) bytes)
+
+-- the number from least to most that the field writes
+abbrev pub number_at : ℕ → ℕ → List ℕ → Option ℕ
+number_at least most field =
+    let number = digits_value 10 field in
+    if nat_le least number && nat_le number most && bytes_eq (decimal number) field then Some number else None
+
+-- the number of a key that the field writes
+unfoldable pub key_number_at : List ℕ → Option ℕ
+key_number_at field = number_at 1 max_key_number field
+
+-- a request's number that the field writes
+unfoldable pub request_number_at : List ℕ → Option ℕ
+request_number_at field = number_at 1 max_request_number field
 
 -- the moment that the field writes
 unfoldable pub moment_at : List ℕ → Option ℕ

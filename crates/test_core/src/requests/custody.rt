@@ -71,7 +71,7 @@ const OF_SIXTEEN: [Asked; 5] = [
     (PRE, "1000 bob 1 add-custodian 1 bob", Err(TOO_MANY)),
     (PRE, "1000 bob 1 add-custodian 1 c8", Err(Refusal::AlreadyCustodian)),
     (PRE, "1000 bob 1 remove-custodian 1 c8", Ok(PRE)),
-    (PRE, "1000 bob 1 destroy 1", Err(Refusal::ApprovalsMissing { have: 0, need: 2 })),
+    (PRE, "1000 bob 1 destroy 1", Err(Refusal::ApprovalsMissing { have: 0, need: Quorum::LEAST })),
 ];
 
 /// The same where there are fifteen, and the first has approved.
@@ -79,8 +79,8 @@ const OF_SIXTEEN: [Asked; 5] = [
 const OF_FIFTEEN: [Asked; 6] = [
     (PRE, "1000 bob 1 add-custodian 1 fay", Ok(PRE)),
     (PRE, "1000 bob 1 add-custodian 1 bob", Err(BOTH)),
-    (PRE, "1000 bob 1 destroy 1", Err(Refusal::ApprovalsMissing { have: 1, need: 2 })),
-    (COMPROMISED, "1000 bob 1 destroy 1", Err(Refusal::ApprovalsMissing { have: 1, need: 2 })),
+    (PRE, "1000 bob 1 destroy 1", Err(Refusal::ApprovalsMissing { have: 1, need: Quorum::LEAST })),
+    (COMPROMISED, "1000 bob 1 destroy 1", Err(Refusal::ApprovalsMissing { have: 1, need: Quorum::LEAST })),
     (ACTIVE, "1000 bob 1 destroy 1", Err(Refusal::WrongState { state: ACTIVE })),
     (PRE, "1000 c1 1 destroy 1", Err(Refusal::NotOwner)),
 ];

@@ -3,7 +3,9 @@ use super::keys::names_of;
 use lifecycle_core::State;
 use moment_core::Moment;
 use period_core::KeyType;
-use register_core::{Answer, Held, Name, Names, Refusal, Reply, Request, read_request, reply_line};
+use register_core::{
+    Answer, Held, Name, Names, Quorum, Refusal, Reply, Request, read_request, reply_line,
+};
 use std::alloc::{AllocError, Global};
 use std::process::Abort;
 use std::test::Fail;
@@ -141,11 +143,14 @@ fn compromise(rt: HostRuntime) -> Result<(), Fail> {
 /// What was asked for last counts, and two where nothing was.
 #[test]
 fn needs(rt: HostRuntime) -> Result<(), Fail> {
-    assert_eq!(rt; held_after(&rt, rt.alloc(), &COMPROMISED)?.need, 2);
+    assert_eq!(rt;
+        held_after(&rt, rt.alloc(), &COMPROMISED)?.need,
+        Quorum::LEAST
+    );
     let asked = held_after(&rt, rt.alloc(), NEEDING.get(..1).ok_or("a row")?)?;
-    assert_eq!(rt; asked.need, 3);
+    assert_eq!(rt; asked.need.get(), 3);
     let key = held_after(&rt, rt.alloc(), &NEEDING)?;
-    assert_eq!(rt; key.need, 2);
+    assert_eq!(rt; key.need, Quorum::LEAST);
     assert!(rt; is_key(&key, State::Destroyed, Some(107), None, &["cat", "dan"]));
     Ok(())
 }

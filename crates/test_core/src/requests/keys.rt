@@ -7,7 +7,7 @@ use lifecycle_core::{Dates, Row, State, state_of};
 use moment_core::Moment;
 use period_core::{KeyType, period_of};
 use register_core::{
-    Accept, Change, Held, MIN_APPROVALS, Name, Names, Refusal, Reply, Request, View, decide,
+    Accept, Change, Held, Name, Names, Quorum, Refusal, Reply, Request, View, decide,
 };
 use std::alloc::Global;
 use std::test::Fail;
@@ -59,7 +59,7 @@ pub fn view_with(
         kind: KeyType::Master,
         owner: Name::new(b"bob").ok_or("a name")?,
         row: Row { dates, state },
-        need: MIN_APPROVALS,
+        need: Quorum::LEAST,
         custodians: names_of(alloc, custodians)?,
         approvals: names_of(alloc, approvals)?,
     };

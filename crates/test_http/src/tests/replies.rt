@@ -6,7 +6,7 @@ use key_rows::{KeyRow, Record};
 use lifecycle_core::{Dates, Process, Row, State, Usage};
 use moment_core::Moment;
 use period_core::KeyType;
-use register_core::{Answer, Name, Names, Purpose, Refusal, Reply};
+use register_core::{Answer, Name, Names, Purpose, Quorum, Refusal, Reply};
 use std::alloc::{AllocError, Global};
 use std::test::Fail;
 
@@ -38,7 +38,7 @@ const REFUSALS: [(Refusal, &str, &str); 19] = [
     (Refusal::OwnerCustodian, CONFLICT, r#"{"name":"OwnerCustodian","refused":15}"#),
     (Refusal::AlreadyApproved, CONFLICT, r#"{"name":"AlreadyApproved","refused":16}"#),
     (Refusal::NoApproval, CONFLICT, r#"{"name":"NoApproval","refused":17}"#),
-    (Refusal::ApprovalsMissing { have: 0, need: 2 }, CONFLICT, r#"{"have":0,"name":"ApprovalsMissing","need":2,"refused":18}"#),
+    (Refusal::ApprovalsMissing { have: 0, need: Quorum::LEAST }, CONFLICT, r#"{"have":0,"name":"ApprovalsMissing","need":2,"refused":18}"#),
     (Refusal::OccurrenceLater, CONFLICT, r#"{"name":"OccurrenceLater","refused":19}"#),
     (Refusal::Full, CONFLICT, r#"{"name":"Full","refused":20}"#),
     (Refusal::NotOffice, CONFLICT, r#"{"name":"NotOffice","refused":21}"#),
@@ -207,7 +207,7 @@ fn a_key_has_its_body(rt: HostRuntime) -> Result<(), Fail> {
     let alloc = rt.alloc();
     let shown = Record {
         key: key().ok_or("a key")?,
-        need: 3,
+        need: Quorum::new(3).ok_or("three")?,
         custodians: names(alloc, &["cat", "dan"])?,
         approvals: names(alloc, &["cat"])?,
     };

@@ -2,8 +2,6 @@
 use Rattle.std.proofs.Common.{◌≡◌, ℕ, List, ◌∷◌, [], None, Some, rules, ap, sym, subst, ◌∙◌}
 use Rattle.std.specs.Prelude.{decimal}
 use Rattle.register_requests.specs.Name.{IsName}
-use Rattle.register_requests.specs.RequestLine.{request_number_at}
-use Rattle.register_requests.proofs.Readers.{request_number_reader}
 use Rattle.http_messages.specs.Asked.{IsFrom}
 use Rattle.http_messages.specs.HeaderFields.{Lines}
 use Rattle.http_messages.proofs.InOrder.{if_none}
@@ -32,13 +30,11 @@ returns-in_err-only_value-2-clause-none c = λ lines all. if_none _ (AreOfNobody
 pub returns-in_err-number-clause-none : goal.returns-in_err-number-clause-none
 returns-in_err-number-clause-none c = λ lines all. if_none _ (AreOfNobody lines) (λ caller n p.
     let field = one_is _ (decimal n) _ (c.in_ok-only_value-2.ensures.found _ all.request_number) p.number_is in
-    let read : None ≡ Some n =
-    c.in_err-number.ensures ∙ ap request_number_at field ∙ request_number_reader.again n p.in_range in
-    absurd cc)
+    c.in_err-number.ensures.none n p.in_range field)
 
 pub returns-clause-found : goal.returns-clause-found
 returns-clause-found c = λ lines all.
-    let taken = request_number_reader.takes _ _ (sym c.in_ok-number.ensures) in
+    let taken = c.in_ok-number.ensures.found in
     record {
       caller_is = c.in_ok-only_value.ensures.found _ all.caller ∙ ap (λ v. v ∷ []) (sym c.in_ok-caller.ensures.value);
       name = search rules;

@@ -8,7 +8,7 @@ use Rattle.register_requests.specs.declared.request.Command.{Command}
 use Rattle.register_requests.specs.CommandKind.{command_shape}
 use Rattle.register_requests.specs.CommandRule.{kind_of}
 use Rattle.register_requests.specs.Fields.{fields_of, command_with}
-use Rattle.register_requests.specs.Request.{IsCommand, AreFields}
+use Rattle.register_requests.specs.Request.{IsCommand, AreFieldsInRange}
 use Rattle.register_requests.proofs.Commands.{made, has_shape, some_made}
 use Rattle.http_messages.specs.Within.CommandValue.{HasMembers, IsShaped}
 use Rattle.http_messages.proofs.command_value.command_with_members.Goals as goal
@@ -34,7 +34,7 @@ module _ (kind : CommandKind) (ms : Members) (shape : Shape) (is_shape : shape �
   some_command f None is has = tt
   some_command f (Some c) is has =
       let of = made f kind c (sym is) in
-      (subst AreFields (sym of.fields_are) has.0, of.kind_is, subst (HasMembers ms) (sym of.fields_are) has.2)
+      (subst AreFieldsInRange (sym of.fields_are) has.0, of.kind_is, subst (HasMembers ms) (sym of.fields_are) has.2)
 
   always_some : (f : Fields) (o : Option Command) → o ≡ command_with kind f → IsShaped (command_shape kind) ms f
       → IfNone o (NoneHas kind ms)

@@ -9,7 +9,7 @@ use Rattle.register_requests.specs.declared.command_fields.Fields.TheVariants.{R
 use Rattle.register_requests.specs.declared.command_fields.Shape.{Shape}
 use Rattle.register_requests.specs.declared.command_fields.Shape.TheVariants as shapes
 use Rattle.register_requests.specs.declared.request.Edit.{Edit}
-use Rattle.register_requests.specs.Request.{AreFields}
+use Rattle.register_requests.specs.Request.{AreFieldsInRange}
 use Rattle.http_messages.specs.Within.CommandValue.{HasMembers, IsShaped}
 use Rattle.http_messages.proofs.InOrder.{none_then}
 use Rattle.http_messages.proofs.command_value.fields_of_shape.Goals as goal
@@ -20,25 +20,25 @@ NoneHas shape ms = (f : Fields) → IsShaped shape ms f → ⊥
 
 module _ {shape : Shape} {ms : Members} where
   no_period : shape ≡ shapes.TypeAndPeriod
-      → ((t : KeyType) (p : Period) → AreFields (TypeAndPeriod t p) → HasMembers ms (TypeAndPeriod t p) → ⊥)
+      → ((t : KeyType) (p : Period) → AreFieldsInRange (TypeAndPeriod t p) → HasMembers ms (TypeAndPeriod t p) → ⊥)
       → NoneHas shape ms
   no_period is none (TypeAndPeriod t p) has = none t p has.0 has.2
   no_period is none f has = absurd (let same = has.1 in cc (is, same))
 
   no_registration : shape ≡ shapes.Registration
-      → ((t : KeyType) (n : List ℕ) (a p d : Option ℕ) (u : List ℕ) → AreFields (Registration t n a p d u)
+      → ((t : KeyType) (n : List ℕ) (a p d : Option ℕ) (u : List ℕ) → AreFieldsInRange (Registration t n a p d u)
       → HasMembers ms (Registration t n a p d u) → ⊥) → NoneHas shape ms
   no_registration is none (Registration t n a p d u) has = none t n a p d u has.0 has.2
   no_registration is none f has = absurd (let same = has.1 in cc (is, same))
 
   no_edits : shape ≡ shapes.DateEdits
-      → ((key : ℕ) (a p d : Edit) → AreFields (DateEdits key a p d) → HasMembers ms (DateEdits key a p d) → ⊥)
+      → ((key : ℕ) (a p d : Edit) → AreFieldsInRange (DateEdits key a p d) → HasMembers ms (DateEdits key a p d) → ⊥)
       → NoneHas shape ms
   no_edits is none (DateEdits key a p d) has = none key a p d has.0 has.2
   no_edits is none f has = absurd (let same = has.1 in cc (is, same))
 
   no_revocation : shape ≡ shapes.Revocation
-      → ((key : ℕ) (r : Reason) (d : Option ℕ) → AreFields (Revocation key r d)
+      → ((key : ℕ) (r : Reason) (d : Option ℕ) → AreFieldsInRange (Revocation key r d)
       → HasMembers ms (Revocation key r d) → ⊥) → NoneHas shape ms
   no_revocation is none (Revocation key r d) has = none key r d has.0 has.2
   no_revocation is none f has = absurd (let same = has.1 in cc (is, same))

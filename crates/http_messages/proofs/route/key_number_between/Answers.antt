@@ -4,7 +4,6 @@ use Rattle.std.proofs.lemmas.List.{append_cancel_left, append_cancel_right}
 use Rattle.std.proofs.lemmas.Option.{IfSome_then}
 use Rattle.register_requests.specs.Request.{IsKeyNumber}
 use Rattle.http_messages.proofs.InOrder.{if_none, none_then}
-use Rattle.http_messages.proofs.Routing.{number_found, no_number_found}
 use Rattle.http_messages.proofs.route.key_number_between.Goals as goal
 
 pub returns-in_err-field-clause-none : goal.returns-in_err-field-clause-none
@@ -15,7 +14,7 @@ returns-in_err-field-clause-none c =
 pub returns-clause-found : goal.returns-clause-found
 returns-clause-found c =
     let number = c.read_key_number.result in
-    IfSome_then number (number_found c.in_ok-field.field.now number c.read_key_number.ensures) (λ n (is, p).
+    IfSome_then number c.read_key_number.ensures.found (λ n (p, is).
     (c.in_ok-field.ensures.found ∙ ap (λ l. c.args.prefix.now ++ (l ++ c.args.back.now)) is, p))
 
 pub returns-clause-none : goal.returns-clause-none
@@ -25,4 +24,4 @@ returns-clause-none c =
     let same : c.args.prefix.now ++ (field ++ c.args.back.now)
     ≡ c.args.prefix.now ++ (decimal n ++ c.args.back.now) = sym c.in_ok-field.ensures.found ∙ e in
     none n p (append_cancel_right field (decimal n) c.args.back.now (append_cancel_left c.args.prefix.now _ _ same)))
-    (no_number_found field c.read_key_number.result c.read_key_number.ensures)
+    c.read_key_number.ensures.none

@@ -2,7 +2,7 @@ use Rattle.std.proofs.Common.{[], arith, refl}
 use Rattle.register_desk.specs.Register.{tables}
 use Rattle.register_desk.proofs.Found.{finds_nothing, finds_register, leaves_alone}
 use Rattle.register_program.proofs.OfDesk.{of_desk}
-use Rattle.register_program.proofs.Refusing.{made_none, refuses_making, refuses_unmade}
+use Rattle.register_program.proofs.Refusing.{made_closed, made_none, refuses_making}
 use Rattle.register_program.proofs.register_file.init_file.Goals as goal
 
 pub returns : goal.returns
@@ -34,9 +34,8 @@ returns g c = record {
 
 pub returns-in_err-connection : goal.returns-in_err-connection
 returns-in_err-connection g c =
-    made_none g.F.Opened.Store g.F.Files.may_leave g.F.Files.start _ c.from_residual.result c.from_residual.ensures.1
-    (refuses_unmade g.F.Opened.Store g.F.Files.may_leave g.F.Files.start c.in_err-connection.field-0.0
-    c.from_residual.result c.from_residual.ensures.1 c.in_err-connection.ensures.blames_none)
+    made_closed g.F.Opened.Store g.F.Files.may_leave g.F.Files.start c.in_err-connection.field-0.0
+    c.from_residual.result c.from_residual.ensures.1 c.in_err-connection.ensures.blames_none
 
 pub returns-in_err-desk : goal.returns-in_err-desk
 returns-in_err-desk g c =

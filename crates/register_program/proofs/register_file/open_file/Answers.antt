@@ -3,8 +3,8 @@ use Rattle.register_desk.specs.declared.opening.OpenRefusal.TheVariants.{Store}
 use Rattle.register_desk.proofs.Found.{finds_nothing, finds_register, lawful_there}
 use Rattle.register_desk.proofs.NoRegister.{passes_nothing}
 use Rattle.register_desk.proofs.Opened.{meet_checks, stored_in}
-use Rattle.register_program.proofs.Refusing.{opens_none, opens_refused, refuses_closed, refuses_opened}
-use Rattle.register_program.proofs.Refusing.{refuses_unopened}
+use Rattle.register_program.proofs.Refusing.{opens_closed, opens_none, opens_refused, refuses_closed}
+use Rattle.register_program.proofs.Refusing.{refuses_opened}
 use Rattle.register_program.proofs.register_file.open_file.Goals as goal
 
 pub returns : goal.returns
@@ -25,9 +25,8 @@ returns g c =
 
 pub returns-in_err-connection : goal.returns-in_err-connection
 returns-in_err-connection g c =
-    opens_none g.F.Opened.Store g.F.Files.may_leave g.F.Files.start _ c.from_residual.result c.from_residual.ensures.1
-    (refuses_unopened g.F.Opened.Store g.F.Files.may_leave g.F.Files.start c.in_err-connection.field-0.0
-    c.from_residual.result c.from_residual.ensures.1 c.in_err-connection.ensures.blames_none)
+    opens_closed g.F.Opened.Store g.F.Files.may_leave g.F.Files.start c.in_err-connection.field-0.0
+    c.from_residual.result c.from_residual.ensures.1 c.in_err-connection.ensures.blames_none
 
 pub returns-in_err-desk : goal.returns-in_err-desk
 returns-in_err-desk g c =

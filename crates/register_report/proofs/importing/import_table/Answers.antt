@@ -21,7 +21,7 @@ use Rattle.register_report.proofs.importing.import_table.Goals as goal
 pub serve_items-requires-clause-begins : goal.serve_items-requires-clause-begins
 serve_items-requires-clause-begins g c =
     let begun : reader_config c.from_reader-table.result ≡ default_config = search rules in
-    rows_none (c.read_header.new.self, c.read_header.new.table) (c.in-Ok.ensures.config ∙ begun)
+    rows_none (c.read_header.new.self, c.read_header.new.table) (c.in-Ok.ensures.on.config ∙ begun)
     (ap (λ (r : Rows). r.came) c.in-Ok.ensures.kept ∙ c.requires.came)
 
 pub returns-in-Ok-clause-table : goal.returns-in-Ok-clause-table

@@ -1,15 +1,16 @@
-use Rattle.std.proofs.Common.{◌≡◌, ℕ, List, Option, None, Some, ap, sym, ◌∙◌}
-use Rattle.register_requests.specs.RequestLine.{request_number_at}
-use Rattle.register_requests.proofs.Readers.{request_number_reader}
+use Rattle.std.proofs.Common.{◌≡◌, ℕ, List, Option, None, Some, IfNone, IfSome, sym, ◌∙◌}
+use Rattle.std.specs.Prelude.{◌≢◌, decimal}
+use Rattle.register_requests.specs.Number.{IsNumber}
 use Rattle.register_words.specs.Values.{IsFirst, Reads}
 use Rattle.register_words.proofs.values.read_first_number.Goals as goal
 
-reads_first : (text : List ℕ) (made : Option ℕ) → made ≡ request_number_at text → Reads IsFirst text made
-reads_first text None e = λ n given.
-    let read : None ≡ Some n = e ∙ ap request_number_at given.0 ∙ request_number_reader.again n given.1 in absurd cc
-reads_first text (Some n) e = let taken = request_number_reader.takes text n (sym e) in (taken.1, taken.0)
+reads_first : (text bytes : List ℕ) (made : Option ℕ) → bytes ≡ text
+    → IfSome made (λ n. IsNumber n × (bytes ≡ decimal n)) → IfNone made ((n : ℕ) → IsNumber n → bytes ≢ decimal n)
+    → Reads IsFirst text made
+reads_first text bytes None same found none = λ n given. none n given.1 (same ∙ given.0)
+reads_first text bytes (Some n) same found none = (sym same ∙ found.1, found.0)
 
 pub returns : goal.returns
 returns c =
-    reads_first c.args.text.now c.read_request_number.result
-    (c.read_request_number.ensures ∙ ap request_number_at c.as_bytes.ensures.value)
+    reads_first c.args.text.now c.as_bytes.result.now c.read_request_number.result c.as_bytes.ensures.value
+    c.read_request_number.ensures.found c.read_request_number.ensures.none

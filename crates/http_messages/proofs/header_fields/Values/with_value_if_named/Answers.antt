@@ -14,7 +14,7 @@ pub returns : goal.returns
 returns c = λ lines found.
     let line = header_bytes c.args.prefix.now c.args.line.now in
     let before = values_of c.args.name.now lines in
-    subst (λ vs. AreFound vs c.with_value.result)
+    subst (λ vs. AreFound vs c.with_one_more.result)
     (ap (λ v. before ++ v ∷ []) c.of.ensures
     ∙ sym (line_hit c.args.name.now lines line (sym c.is_named.ensures ∙ c.if-not-is_named.false)))
-    (c.with_value.ensures before found)
+    (c.with_one_more.ensures before found)

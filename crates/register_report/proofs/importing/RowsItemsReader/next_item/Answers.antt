@@ -15,5 +15,5 @@ returns-clause-came g c item is start items came =
     let number = ap (λ (r : Rows). r.number) reads.kept in
     let counted = ap (λ (r : Rows). r.came) reads.kept in
     rows_then came (fields_of c.read_record.new.self.row) item (rw found at reads.reads) reads.text
-    (rw (moment, caller, number, same) at c.row_item-item.ensures.item) reads.config moment caller
+    (rw (moment, caller, number, same) at c.row_item-item.ensures.item) reads.on.config moment caller
     (omega (arith, number)) (omega (arith, counted)) (omega (arith, counted, c.if-self-eq-MAX_ROWS.false))
