@@ -26,7 +26,7 @@ ghost use Rattle.register_store.specs.Within.Due.{moved_on, update_text, with_ea
 use crate::columns::{RequestCell, columns};
 use crate::counted::{Counted, Inside, StepCount, Work};
 use crate::error::StoreError;
-use crate::setting::{set_need, set_period};
+use crate::setting::{Setting, write_setting};
 use crate::stored_key::RoleChange::{Given, Taken};
 use crate::stored_key::{
     MomentCell, Role, add_key, end_approvals, give_or_take_role, key_number_or_zero_in, moment_in,
@@ -304,7 +304,13 @@ fn write_custody<T: Inside>(
         Approved(name) => give_or_take_role(tx, steps, Given(Role::Approver), number, name),
         Withdrawn(name) => give_or_take_role(tx, steps, Taken(Role::Approver), number, name),
         ApprovalsEnded => end_approvals(tx, steps, number),
-        NeedSet(need) => set_need(tx, steps, number, *need),
+        NeedSet(need) => {
+            let need = Setting::Need {
+                key: number,
+                need: *need,
+            };
+            write_setting(tx, steps, need)
+        }
     }
 }
 
@@ -333,7 +339,13 @@ fn write_change<T: Inside>(
             set_owner_state_and_dates(tx, steps, *key, owner, row)?;
             write_custody(tx, steps, *key, custody)
         }
-        Change::PeriodSet { kind, period } => set_period(tx, steps, *kind, *period),
+        Change::PeriodSet { kind, period } => {
+            let period = Setting::Period {
+                kind: *kind,
+                period: *period,
+            };
+            write_setting(tx, steps, period)
+        }
         Change::Nothing => Ok(()),
     }
 }
