@@ -1,5 +1,5 @@
 -- What the statements do by which an entry is taken out of a table by its number, and by which one is put in.
-use Rattle.std.proofs.Common.{◌≡◌, ◌≢◌, ◌==◌, ℕ, List, [], ◌∷◌, ◌++◌, filter, not, Ok, sym, ap, refl}
+use Rattle.std.proofs.Common.{◌≢◌, ◌==◌, ℕ, [], ◌∷◌, ◌++◌, filter, not, Ok, sym, ap, refl}
 use Rattle.std.proofs.Common.{subst, Bool, Result, arith}
 use Rattle.std.proofs.lemmas.Bool.{eq-eqb}
 use Rattle.sqlite.specs.Edit.{put_all}
@@ -10,7 +10,7 @@ use Rattle.sqlite_trees.proofs.ListLemmas.{all-filter}
 use Rattle.sql_steps.specs.Steps.{StepsBy}
 use Rattle.sql_steps.specs.Within.Steps.{Then}
 use Rattle.sql_steps.proofs.Deletes.{ids_shown}
-use Rattle.sql_steps.proofs.Inserting.{edit, puts}
+use Rattle.sql_steps.proofs.Inserting.{puts}
 use Rattle.sql_steps.proofs.Removing.{removes}
 use Rattle.sql_steps.proofs.Statements.{is_picked}
 use Rattle.sql_steps.proofs.Stepping.{steps_then, steps_weaker}

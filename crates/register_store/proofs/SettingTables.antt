@@ -1,37 +1,28 @@
 -- A table of what is set: its statements, and what it shows.
-use Rattle.std.proofs.Common.{arith, ◌≡◌, ◌+◌, ◌==◌, ℕ, pos, List, [], ◌∷◌, ◌++◌, map, length, slice_get, false, Some}
-use Rattle.std.proofs.Common.{codes, drop, refl, sym, ap, subst}
+use Rattle.std.proofs.Common.{◌≡◌, ◌+◌, ◌==◌, ℕ, pos, List, [], ◌∷◌, ◌++◌, map, length, slice_get, false, Some}
+use Rattle.std.proofs.Common.{codes, refl, sym, subst}
 use Rattle.std.proofs.Math.Bool.{and-true}
 use Rattle.std.specs.List.{AllByRecursion}
 use Rattle.sqlite.specs.declared.types.Value.TheVariants.{Null, Int}
 use Rattle.sqlite.specs.Effect.{Database}
-use Rattle.sqlite.specs.Listing.{understood}
 use Rattle.sqlite.specs.Order.{Row as Cells}
 use Rattle.sqlite.specs.State.{State}
 use Rattle.sqlite.specs.Term.{Term, eval_all}
-use Rattle.sqlite_resolve.specs.Compile.{first}
 use Rattle.sqlite_rules.specs.Action.{works}
 use Rattle.sqlite_schema.specs.declared.schema.Keys.TheVariants.{Enforced}
-use Rattle.sqlite_tied.specs.Compute.{everything}
 use Rattle.sql_steps.proofs.Comparing.{equal_numbers}
 use Rattle.sql_steps.proofs.Deletes.{ids_shown}
 use Rattle.sql_steps.proofs.Inserting.{edit}
-use Rattle.sql_steps.proofs.Statements.{plain_query, is_picked, cast_int, cast_null}
+use Rattle.sql_steps.proofs.Statements.{plain_query, is_picked}
 use Rattle.sql_steps.proofs.Written.{Wrote}
-use Rattle.period_core.specs.KeyType.{key_type_code}
-use Rattle.period_core.specs.Period.{IsPeriod, Period as UsagePeriod}
-use Rattle.register_requests.specs.Quorum.{IsQuorum}
 use Rattle.register_requests.specs.Version.{current}
-use Rattle.register_core.specs.Settings.{KeyNeed, TypePeriod}
 use Rattle.register_store.specs.declared.table.TableName.{TableName}
-use Rattle.register_store.specs.declared.table.TableName.TheVariants.{Meta, Period, Quorum}
-use Rattle.register_store.specs.Columns.{need_columns, period_columns, select}
+use Rattle.register_store.specs.declared.table.TableName.TheVariants.{Meta}
+use Rattle.register_store.specs.Columns.{select}
 use Rattle.register_store.specs.TableForms.{Named, name_of}
 use Rattle.register_store.specs.Tables.{AreApart, Form, Layout, ShowsKeyed, ShowsSinceSecond, Tables, form}
 use Rattle.register_store.specs.Tables.{place_of, table_of}
 use Rattle.register_store.specs.Schema.{Holds, rows_of, schema_with}
-use Rattle.register_store.specs.Within.TableReads.{ShowsNeed, ShowsPeriod}
-use Rattle.register_store.proofs.Actions.{idle}
 use Rattle.register_store.proofs.ColumnTerms.{inserted, inserts, shown_from}
 use Rattle.register_store.proofs.EachTable.{content_is, each}
 use Rattle.register_store.proofs.EntryAdded.{IsInsert}

@@ -17,6 +17,7 @@ ghost use Rattle.register_store.specs.Within.TableChanges.{Always, with_counts, 
 ghost use Rattle.register_store.specs.TableChanges.{with_recorded, AreRightAt, HasKeys};
 ghost use Rattle.register_store.specs.TableChanges.{with_keys_advanced};
 ghost use Rattle.register_store.specs.TableReads.{Calls, HasRequest, Reads, ShowsRequest, seen};
+ghost use Rattle.register_store.specs.Within.TableReads.{GivesCell, GivesCellIn};
 ghost use Rattle.register_core.specs.Verdict.{max_keys};
 ghost use Rattle.sql_steps.specs.Steps.{TransactsBy};
 ghost use Rattle.register_store.specs.AcceptedRequest.{CanTake, with_request};
@@ -77,9 +78,7 @@ impl<'a> ToSql<'a> for ReplyStateCell {
 
 /// The state of a reply in the cell, which may be none.
 fn state_or_none_in(row: &Row, at: usize) -> Option<Option<State>>
-    ensures { MatchOption result
-        ((state : Option State) → column row.now at ≢ Int (pos (state_cell state)))
-        (λ state. column row.now at ≡ Int (pos (state_cell state))) }
+    ensures { GivesCell result (column row.now at) (λ state. Int (pos (state_cell state))) }
 {
     if unsigned_integer_in(row, at)? == 0 {
         return Some(None);
@@ -89,9 +88,7 @@ fn state_or_none_in(row: &Row, at: usize) -> Option<Option<State>>
 
 /// The number of a request in the cell.
 pub(crate) fn request_number_in(row: &Row, at: usize) -> Option<RequestNumber>
-    ensures { MatchOption result
-        ((number : ℕ) → IsNumber number → column row.now at ≢ Int (pos number))
-        (λ number. column row.now at ≡ Int (pos number)) }
+    ensures { GivesCellIn result (column row.now at) IsNumber (λ number. Int (pos number)) }
 {
     RequestNumber::new(unsigned_integer_in(row, at)?)
 }

@@ -1,14 +1,12 @@
 //! What is set beside the keys themselves: the usage periods of types, and how many approvals the
 //! destruction of a key needs.
-ghost use Rattle.std.specs.Prelude.{MatchOption};
-ghost use Rattle.period_core.specs.Period.{Period as UsagePeriod};
 ghost use Rattle.register_store.specs.Within.StepCount.{Writes};
 ghost use Rattle.register_store.specs.TableChanges.{Makes};
 ghost use Rattle.register_store.specs.Within.TableChanges.{Always, HasNoneSet};
 ghost use Rattle.register_store.specs.Within.TableChanges.{more_set, with_set, without_set};
 ghost use Rattle.register_store.specs.TableReads.{Calls, HasNeed, HasPeriod, KeepsSight, Reads};
 ghost use Rattle.register_store.specs.TableReads.{seen};
-ghost use Rattle.register_store.specs.Within.TableReads.{ShowsPeriod};
+ghost use Rattle.register_store.specs.Within.TableReads.{GivesRow, ShowsPeriod};
 
 use crate::columns::columns;
 use crate::counted::{Counted, Inside, StepCount};
@@ -119,8 +117,7 @@ pub fn find_key_need<S: Alter>(
 
 /// The period in the first two cells.
 fn period_in(row: &Row) -> Option<Period>
-    ensures { MatchOption result ((period : UsagePeriod) → ¬ ShowsPeriod row.now period)
-        (ShowsPeriod row.now) }
+    ensures { GivesRow result (ShowsPeriod row.now) (λ period. period) }
 {
     Period::new(months_in(row, 0)?, months_in(row, 1)?)
 }

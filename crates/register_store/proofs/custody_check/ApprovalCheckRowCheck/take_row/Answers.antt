@@ -34,10 +34,10 @@ pub returns-clause-taken : goal.returns-clause-taken
 returns-clause-taken c result first rows taken =
     let key = c.in-Some.shown.key in
     let name = c.in-Some.shown.name in
-    let seen = list_read c.args.self.now.custodians key c.in-Some-index_of_key_number.at c.len.result
-    c.index.result.now c.in-Some-index_of_key_number.ensures c.if-at-len.false c.len.ensures c.index.ensures in
     let passed : c.contains.result ≡ true = cc in
     let told : c.contains.result ≡ is_among name c.deref.result.now = c.contains.ensures.value in
+    let seen = list_read c.args.self.now.custodians key c.in-Some-index_of_key_number.at c.len.result
+    c.index.result.now c.in-Some-index_of_key_number.ensures c.if-at-len.false c.len.ensures c.index.ensures in
     let listed : IsListed c.args.self.now.custodians.items (key_name key name) = record {
       names = c.index.result.now;
       there = seen;
