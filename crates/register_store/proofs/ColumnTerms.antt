@@ -1,8 +1,9 @@
 -- What a statement shows or gives of columns, by their places.
-use Rattle.std.proofs.Common.{ℕ, ◌+◌, List, [], ◌∷◌, set}
+use Rattle.std.proofs.Common.{ℕ, ◌+◌, List, [], ◌∷◌, ◌++◌, codes, set}
 use Rattle.sqlite.specs.declared.types.Value.TheVariants.{Null}
 use Rattle.sqlite.specs.Term.{Term, col, lit}
-use Rattle.register_store.specs.Columns.{key_columns}
+use Rattle.register_store.specs.Columns.{key_columns, listed}
+use Rattle.register_store.specs.Within.Columns.{given}
 use Rattle.register_store.specs.TableForms.{Named}
 
 -- the cells of a row that stand in the columns from this place on
@@ -14,6 +15,19 @@ shown_from place (column ∷ columns) = col 1 place ∷ shown_from (place + 1) c
 abbrev pub given_from : ℕ → List Named → List Term
 given_from place [] = []
 given_from place (column ∷ columns) = col 0 place ∷ given_from (place + 1) columns
+
+-- ---- a row that is put in a table, under its INTEGER PRIMARY KEY and with these columns past it
+
+abbrev pub inserts : List ℕ → List ℕ → List Named → List ℕ
+inserts table key columns =
+    codes "INSERT INTO " ++ table ++ codes " (" ++ key ++ codes ", " ++ listed columns
+    ++ codes ") VALUES (:" ++ key ++ given columns ++ codes ")"
+
+-- the key is the rowid, and is kept as NULL
+abbrev pub inserted : List Named → List Term
+inserted columns = col 0 0 ∷ lit Null ∷ given_from 1 columns
+
+-- ---- keys
 
 -- the cells of a key past the number
 abbrev pub key_shown : List Term

@@ -9,6 +9,7 @@ use Rattle.std.specs.Prelude.{IsErrAnd}
 use Rattle.std.specs.List.{AllByRecursion}
 use Rattle.std.specs.List.Sorted.{IsPermutation}
 use Rattle.std.specs.Global.{Vec}
+use Rattle.std.specs.Vec.{vec_len}
 use Rattle.sqlite.specs.declared.types.Value.TheVariants.{Null, Int, Text as Words}
 use Rattle.sqlite.specs.Effect.{Database as Db}
 use Rattle.sqlite.specs.Order.{Row, column}
@@ -32,7 +33,7 @@ use Rattle.register_store.specs.CheckedTables.{IsOdd, ShowsName, check_error, ch
 use Rattle.register_store.specs.Within.CheckedTables.{ChecksTable}
 use Rattle.register_store.specs.Stored.{HoldsStored, Stored}
 use Rattle.register_store.specs.Tables.{IsNamed, name_cells}
-use Rattle.register_store.specs.CheckedRows.{AreKept, HasCustodians, IsListed, RefusesCustodians}
+use Rattle.register_store.specs.CheckedRows.{AreKept, HasCustodians, IsListed, RefusesCustodians, list_at}
 use Rattle.register_store.specs.Within.CheckedRows.{AreEmpty, KnowsCustodians}
 use Rattle.register_store.specs.OpeningChecks.{AreCustodians, IsCustodian, MayBeCustodian, owner_at, owners_of}
 use Rattle.register_store.proofs.Actions.{shows_all}
@@ -273,9 +274,14 @@ module _ (t : Stored) (most : ℕ) (most_is : most ≡ custodians_of t.version) 
 
 -- the list at a place
 pub list_seen : (lists : List (Vec (List ℕ))) (key at : ℕ) (seen : Vec (List ℕ)) → key ≡ suc at → at < length lists
-    → seen ≡ get_or lists at seen → Rattle.register_store.specs.CheckedRows.list_at lists key ≡ Some seen
+    → seen ≡ get_or lists at seen → list_at lists key ≡ Some seen
 list_seen lists key at seen e low is =
     let it = get_some lists at low in search arith
+
+-- the list that is read there, where the place was seen to be below the length
+pub list_read : (lists : Vec (Vec (List ℕ))) (key at len : ℕ) (seen : Vec (List ℕ)) → key ≡ suc at → at < len
+    → len ≡ vec_len lists → seen ≡ get_or lists.items at seen → list_at lists.items key ≡ Some seen
+list_read lists key at len seen e room is read = list_seen lists.items key at seen e (omega (arith, room, is)) read
 
 -- a key that is not there has no list
 pub not_listed : (lists : List (Vec (List ℕ))) (entry : KeyName) → ((1 ≤ entry.key) × (entry.key ≤ length lists) → ⊥)

@@ -29,6 +29,7 @@ use Rattle.sqlite_resolve.specs.Write.{updated, deleted}
 use Rattle.sqlite_resolve.specs.Compile.{first, compiled, planned, meaning, returning, timed, command, read, update}
 use Rattle.sqlite_resolve.specs.Compile.{delete, target, shows, with_command}
 use Rattle.sqlite_rules.specs.Lists.{Has}
+use Rattle.sqlite_schema.specs.declared.program.Program.{Program}
 use Rattle.sqlite_sql.specs.Query.{Query, inner, end}
 use Rattle.sqlite_syntax.specs.declared.statement.Parsed.{Parsed}
 use Rattle.sqlite_typing.specs.declared.class.Class.{Class}
@@ -118,35 +119,27 @@ module _ (s : Schema) (table : Table) (has : table_classes s [] table.tree ≡ S
   unfolding program
   programs d from accepted = search arith
 
-  asked_so : (sql : List ℕ) (q : Query) (names : List (List ℕ)) (a : Asks s table sql q names) → compiled s sql
-      ≡ Ok (means a.p (Select (record { lets = []; body = query_of a.d }) names))
-  unfolding compiled planned meaning returning timed command read
-  asked_so sql q names a = search (arith, programs)
+  -- what a text means that has a draft over that table
+  drafted_so : (sql : List ℕ) (p : Parsed) (d : Draft) (q : Query) (does : Program → Command)
+      → query_of d ≡ q → compiled s sql ≡ Ok (means p (does (record { lets = []; body = query_of d })))
+      → Meant s sql (does (record { lets = []; body = q }))
+  drafted_so sql p d q does same is =
+      subst (λ b. Meant s sql (does (record { lets = []; body = b }))) same (compiled_so s sql p _ is)
 
   pub asks : (sql : List ℕ) (q : Query) (names : List (List ℕ)) → Asks s table sql q names
       → Meant s sql (Select (record { lets = []; body = q }) names)
-  asks sql q names a = subst (λ b. Meant s sql (Select (record { lets = []; body = b }) names)) a.same
-      (compiled_so s sql a.p _ (asked_so sql q names a))
-
-  set_so : (sql : List ℕ) (at : ℕ) (q : Query) (a : Sets s table at sql q) → compiled s sql
-      ≡ Ok (means a.p (Update at (record { lets = []; body = query_of a.d })))
-  unfolding compiled planned meaning returning timed command update shows
-  set_so sql at q a = search (arith, programs)
+  unfolding compiled planned meaning returning timed command read
+  asks sql q names a = drafted_so sql a.p a.d q (λ b. Select b names) a.same (search (arith, programs))
 
   pub sets : (sql : List ℕ) (at : ℕ) (q : Query) → Sets s table at sql q
       → Meant s sql (Update at (record { lets = []; body = q }))
-  sets sql at q a = subst (λ b. Meant s sql (Update at (record { lets = []; body = b }))) a.same
-      (compiled_so s sql a.p _ (set_so sql at q a))
-
-  taken_so : (sql : List ℕ) (at : ℕ) (q : Query) (a : Takes s table at sql q) → compiled s sql
-      ≡ Ok (means a.p (Delete at (record { lets = []; body = query_of a.d })))
-  unfolding compiled planned meaning returning timed command delete shows
-  taken_so sql at q a = search (arith, programs)
+  unfolding compiled planned meaning returning timed command update shows
+  sets sql at q a = drafted_so sql a.p a.d q (Update at) a.same (search (arith, programs))
 
   pub takes : (sql : List ℕ) (at : ℕ) (q : Query) → Takes s table at sql q
       → Meant s sql (Delete at (record { lets = []; body = q }))
-  takes sql at q a = subst (λ b. Meant s sql (Delete at (record { lets = []; body = b }))) a.same
-      (compiled_so s sql a.p _ (taken_so sql at q a))
+  unfolding compiled planned meaning returning timed command delete shows
+  takes sql at q a = drafted_so sql a.p a.d q (Delete at) a.same (search (arith, programs))
 
 -- ---- the register's tables
 

@@ -17,6 +17,7 @@ ghost use Rattle.register_store.specs.Within.TableChanges.{Always, with_counts, 
 ghost use Rattle.register_store.specs.TableChanges.{with_recorded, AreRightAt, HasKeys};
 ghost use Rattle.register_store.specs.TableChanges.{with_keys_advanced};
 ghost use Rattle.register_store.specs.TableReads.{Calls, HasRequest, Reads, ShowsRequest, seen};
+ghost use Rattle.register_store.specs.Within.TableReads.{GivesCell, GivesCellIn};
 ghost use Rattle.register_core.specs.Verdict.{max_keys};
 ghost use Rattle.sql_steps.specs.Steps.{TransactsBy};
 ghost use Rattle.register_store.specs.AcceptedRequest.{CanTake, with_request};
@@ -26,7 +27,7 @@ ghost use Rattle.register_store.specs.Within.Due.{moved_on, update_text, with_ea
 use crate::columns::{RequestCell, columns};
 use crate::counted::{Counted, Inside, StepCount, Work};
 use crate::error::StoreError;
-use crate::setting::{set_need, set_period};
+use crate::setting::{Setting, write_setting};
 use crate::stored_key::RoleChange::{Given, Taken};
 use crate::stored_key::{
     MomentCell, Role, add_key, end_approvals, give_or_take_role, key_number_or_zero_in, moment_in,
@@ -77,9 +78,7 @@ impl<'a> ToSql<'a> for ReplyStateCell {
 
 /// The state of a reply in the cell, which may be none.
 fn state_or_none_in(row: &Row, at: usize) -> Option<Option<State>>
-    ensures { MatchOption result
-        ((state : Option State) → column row.now at ≢ Int (pos (state_cell state)))
-        (λ state. column row.now at ≡ Int (pos (state_cell state))) }
+    ensures { GivesCell result (column row.now at) (λ state. Int (pos (state_cell state))) }
 {
     if unsigned_integer_in(row, at)? == 0 {
         return Some(None);
@@ -89,9 +88,7 @@ fn state_or_none_in(row: &Row, at: usize) -> Option<Option<State>>
 
 /// The number of a request in the cell.
 pub(crate) fn request_number_in(row: &Row, at: usize) -> Option<RequestNumber>
-    ensures { MatchOption result
-        ((number : ℕ) → IsNumber number → column row.now at ≢ Int (pos number))
-        (λ number. column row.now at ≡ Int (pos number)) }
+    ensures { GivesCellIn result (column row.now at) IsNumber (λ number. Int (pos number)) }
 {
     RequestNumber::new(unsigned_integer_in(row, at)?)
 }
@@ -304,7 +301,13 @@ fn write_custody<T: Inside>(
         Approved(name) => give_or_take_role(tx, steps, Given(Role::Approver), number, name),
         Withdrawn(name) => give_or_take_role(tx, steps, Taken(Role::Approver), number, name),
         ApprovalsEnded => end_approvals(tx, steps, number),
-        NeedSet(need) => set_need(tx, steps, number, *need),
+        NeedSet(need) => {
+            let need = Setting::Need {
+                key: number,
+                need: *need,
+            };
+            write_setting(tx, steps, need)
+        }
     }
 }
 
@@ -333,7 +336,13 @@ fn write_change<T: Inside>(
             set_owner_state_and_dates(tx, steps, *key, owner, row)?;
             write_custody(tx, steps, *key, custody)
         }
-        Change::PeriodSet { kind, period } => set_period(tx, steps, *kind, *period),
+        Change::PeriodSet { kind, period } => {
+            let period = Setting::Period {
+                kind: *kind,
+                period: *period,
+            };
+            write_setting(tx, steps, period)
+        }
         Change::Nothing => Ok(()),
     }
 }

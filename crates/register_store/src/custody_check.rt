@@ -3,10 +3,11 @@ ghost use Rattle.std.specs.Prelude.{◌≡◌, ◌≢◌, ◌<◌, ◌∷◌, �
 ghost use Rattle.std.specs.Prelude.{Some, IsTrue, OnOk, IfOk, IfErr, MatchOption};
 ghost use Rattle.sqlite.specs.Held.{state};
 ghost use Rattle.sqlite.specs.State.{HasCleanDisk, Survives};
-ghost use Rattle.register_core.specs.KeyName.{KeyName, key_name};
+ghost use Rattle.register_core.specs.KeyName.{key_name};
 ghost use Rattle.register_store.specs.CheckedTables.{ShowsName};
 ghost use Rattle.register_store.specs.Within.CheckedTables.{ChecksTable};
 ghost use Rattle.register_store.specs.Stored.{Stored};
+ghost use Rattle.register_store.specs.Within.TableReads.{GivesRow};
 ghost use Rattle.register_store.specs.Within.CheckedRows.{AreEmpty, IsAny, KnowsCustodians};
 ghost use Rattle.register_store.specs.OpeningChecks.{owners_of};
 ghost use Rattle.register_store.specs.declared.table.TableName.TheVariants.{Approval, Custodian};
@@ -28,8 +29,7 @@ struct NameAtKey {
 
 /// The name at a key that the row shows.
 fn key_number_and_name_in(row: &Row) -> Option<NameAtKey>
-    ensures { MatchOption result ((entry : KeyName) → ¬ ShowsName row.now entry)
-        (λ shown. ShowsName row.now (key_name shown.key shown.name)) }
+    ensures { GivesRow result (ShowsName row.now) (λ shown. key_name shown.key shown.name) }
 {
     Some(NameAtKey {
         key: unsigned_integer_in(row, NameCell::Key as usize)?,

@@ -1,8 +1,7 @@
 //! Taking a register of the first version to the second.
 ghost use Rattle.std.specs.Prelude.{◌≡◌, false, Err};
 ghost use Rattle.sql_steps.specs.Steps.{Transacts};
-ghost use Rattle.sql_steps.specs.Within.Steps.{Steps};
-ghost use Rattle.register_store.specs.Within.Beside.{UpdatesMeta};
+ghost use Rattle.register_store.specs.Within.Beside.{Alters, UpdatesMeta};
 ghost use Rattle.register_store.specs.Migration.{FindsNewTable};
 ghost use Rattle.register_store.specs.Migration.{Migrates};
 ghost use Rattle.register_store.specs.Within.Migration.{SetsVersion};
@@ -15,9 +14,7 @@ use sqlite::{Alter, Connection, Error, Transaction, params};
 
 /// Writes the version.
 fn set_version<S: Alter>(tx: &mut Transaction<'_, S>) -> Result<usize, Error>
-    ensures same_reference { tx.new.conn.ghost_name ≡ tx.old.conn.ghost_name }
-    ensures set { Steps S.Store (λ _. SetsVersion) tx.old.conn.now tx.new.conn.now result }
-    ensures beside { Steps S.Store (λ _. UpdatesMeta) tx.old.conn.now tx.new.conn.now result }
+    ensures { Alters S.Store SetsVersion UpdatesMeta tx.old.conn tx.new.conn result }
 {
     tx.execute(
         "UPDATE meta SET version = ?1 WHERE id = 1",

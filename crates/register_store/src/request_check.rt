@@ -1,10 +1,10 @@
 //! The check of the table of requests.
-ghost use Rattle.std.specs.Prelude.{◌≡◌, ◌↔◌, false, MatchOption, IsTrue};
+ghost use Rattle.std.specs.Prelude.{◌≡◌, ◌↔◌, false, IsTrue};
 ghost use Rattle.sqlite.specs.Held.{state};
 ghost use Rattle.sqlite.specs.State.{Survives};
-ghost use Rattle.register_core.specs.declared.kept_reply.KeptReply.{KeptReply};
 ghost use Rattle.register_store.specs.declared.table.TableName.TheVariants.{Request};
 ghost use Rattle.register_store.specs.Stored.{Stored, mark};
+ghost use Rattle.register_store.specs.Within.TableReads.{GivesRow};
 ghost use Rattle.register_store.specs.OpeningChecks.{IsReplyOf};
 ghost use Rattle.register_store.specs.CheckedTables.{ShowsKept, mark_of};
 ghost use Rattle.register_store.specs.Within.CheckedTables.{ChecksTable};
@@ -22,8 +22,7 @@ use std::alloc::AllocError;
 
 /// What the row shows of a request, by its first four cells with its caller and its number.
 fn kept_request_in(row: &Row) -> Option<KeptReply>
-    ensures { MatchOption result
-        ((k : KeptReply) → ¬ ShowsKept row.now k) (ShowsKept row.now) }
+    ensures { GivesRow result (ShowsKept row.now) (λ kept. kept) }
 {
     let caller = name_in(row, RequestCell::Caller as usize)?;
     let number = request_number_in(row, RequestCell::Number as usize)?;

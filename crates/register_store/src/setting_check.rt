@@ -1,13 +1,13 @@
 //! The checks of the tables of what is set: periods and needs.
-ghost use Rattle.std.specs.Prelude.{◌≡◌, ◌↔◌, false, MatchOption, IsTrue};
+ghost use Rattle.std.specs.Prelude.{◌≡◌, ◌↔◌, false, IsTrue};
 ghost use Rattle.sqlite.specs.Held.{state};
 ghost use Rattle.sqlite.specs.State.{Survives};
-ghost use Rattle.register_core.specs.Settings.{KeyNeed, TypePeriod};
 ghost use Rattle.register_requests.specs.declared.version.Version.TheVariants.{Second};
 ghost use Rattle.register_store.specs.CheckedTables.{ShowsKeyNeed, ShowsTypePeriod};
 ghost use Rattle.register_store.specs.Within.CheckedTables.{ChecksTable};
 ghost use Rattle.register_store.specs.CheckedTables.{counts_of, mark_of};
 ghost use Rattle.register_store.specs.Stored.{Stored, mark};
+ghost use Rattle.register_store.specs.Within.TableReads.{GivesRow};
 ghost use Rattle.register_store.specs.Within.CheckedRows.{IsAny, key_need, type_period};
 ghost use Rattle.register_store.specs.OpeningChecks.{IsNeedOf};
 ghost use Rattle.register_store.specs.declared.table.TableName.TheVariants as table;
@@ -38,8 +38,8 @@ struct NeedRow {
 
 /// The period of a type that the row shows.
 fn period_row_in(row: &Row) -> Option<PeriodRow>
-    ensures { MatchOption result ((set : TypePeriod) → ¬ ShowsTypePeriod row.now set)
-        (λ shown. ShowsTypePeriod row.now (type_period shown.kind shown.period)) }
+    ensures { GivesRow result (ShowsTypePeriod row.now)
+        (λ shown. type_period shown.kind shown.period) }
 {
     let kind = key_type_in(row, 0)?;
     let originator = months_in(row, 1)?;
@@ -50,8 +50,7 @@ fn period_row_in(row: &Row) -> Option<PeriodRow>
 
 /// The need of a key that the row shows.
 fn need_row_in(row: &Row) -> Option<NeedRow>
-    ensures { MatchOption result ((set : KeyNeed) → ¬ ShowsKeyNeed row.now set)
-        (λ shown. ShowsKeyNeed row.now (key_need shown.key shown.need)) }
+    ensures { GivesRow result (ShowsKeyNeed row.now) (λ shown. key_need shown.key shown.need) }
 {
     let key = unsigned_integer_in(row, 0)?;
     let need = quorum_in(row, 1)?;

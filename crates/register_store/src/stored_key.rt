@@ -25,7 +25,7 @@ ghost use Rattle.register_store.specs.Within.TableChanges.{Always};
 ghost use Rattle.register_store.specs.Within.TableChanges.{without_approvals};
 ghost use Rattle.register_store.specs.TableReads.{seen, Calls, HasRow, KeepsSight, Reads};
 ghost use Rattle.register_store.specs.TableReads.{ShowsDates, ShowsKey, CallsOver};
-ghost use Rattle.register_store.specs.Within.TableReads.{AreNamesOf};
+ghost use Rattle.register_store.specs.Within.TableReads.{AreNamesOf, GivesCell, GivesCellIn};
 ghost use Rattle.register_store.specs.TableReads.{HasKey};
 ghost use Rattle.register_store.specs.Within.TableReads.{count_at, HasNames, HasNoName};
 ghost use Rattle.register_store.specs.TableReads.{load_steps};
@@ -59,8 +59,7 @@ impl<'a> ToSql<'a> for MomentCell {
 
 /// The number in the cell.
 pub(crate) fn unsigned_integer_in(row: &sqlite::Row, at: usize) -> Option<u64>
-    ensures { MatchOption result ((n : ℕ) → column row.now at ≢ Int (pos n))
-        (λ n. column row.now at ≡ Int (pos n)) }
+    ensures { GivesCell result (column row.now at) (λ n. Int (pos n)) }
 {
     let Ok(ValueRef::Int(cell)) = row.get_ref(at) else {
         return None;
@@ -81,62 +80,51 @@ pub(crate) fn text_in(row: &sqlite::Row, at: usize) -> Option<&[u8]>
 
 /// The type of key in the cell.
 pub(crate) fn key_type_in(row: &sqlite::Row, at: usize) -> Option<KeyType>
-    ensures { MatchOption result
-        ((kind : KeyType) → column row.now at ≢ Int (pos (key_type_code kind)))
-        (λ kind. column row.now at ≡ Int (pos (key_type_code kind))) }
+    ensures { GivesCell result (column row.now at) (λ kind. Int (pos (key_type_code kind))) }
 {
     KeyType::from_code(u8::try_from(unsigned_integer_in(row, at)?).ok()?)
 }
 
 /// A number of months in the cell.
 pub(crate) fn months_in(row: &sqlite::Row, at: usize) -> Option<u16>
-    ensures { MatchOption result
-        ((months : ℕ) → months ≤ max_months → column row.now at ≢ Int (pos months))
-        (λ months. column row.now at ≡ Int (pos months)) }
+    ensures { GivesCellIn result (column row.now at) (λ months. months ≤ max_months)
+        (λ months. Int (pos months)) }
 {
     u16::try_from(unsigned_integer_in(row, at)?).ok()
 }
 
 /// How many approvals the cell says that a destruction needs.
 pub(crate) fn quorum_in(row: &sqlite::Row, at: usize) -> Option<Quorum>
-    ensures { MatchOption result
-        ((need : ℕ) → IsQuorum need → column row.now at ≢ Int (pos need))
-        (λ need. column row.now at ≡ Int (pos need)) }
+    ensures { GivesCellIn result (column row.now at) IsQuorum (λ need. Int (pos need)) }
 {
     Quorum::new(u8::try_from(unsigned_integer_in(row, at)?).ok()?)
 }
 
 /// The state in the cell.
 pub(crate) fn state_in(row: &sqlite::Row, at: usize) -> Option<State>
-    ensures { MatchOption result
-        ((state : State) → column row.now at ≢ Int (pos (state_code state)))
-        (λ state. column row.now at ≡ Int (pos (state_code state))) }
+    ensures { GivesCell result (column row.now at) (λ state. Int (pos (state_code state))) }
 {
     State::from_code(u8::try_from(unsigned_integer_in(row, at)?).ok()?)
 }
 
 /// The name in the cell.
 pub(crate) fn name_in(row: &sqlite::Row, at: usize) -> Option<Name>
-    ensures { MatchOption result ((name : List ℕ) → IsName name → column row.now at ≢ Words name)
-        (λ name. column row.now at ≡ Words name) }
+    ensures { GivesCellIn result (column row.now at) IsName Words }
 {
     Name::new(text_in(row, at)?)
 }
 
 /// The moment in the cell.
 pub(crate) fn moment_in(row: &sqlite::Row, at: usize) -> Option<Moment>
-    ensures { MatchOption result
-        ((second : ℕ) → IsMoment second → column row.now at ≢ Int (pos second))
-        (λ moment. column row.now at ≡ Int (pos moment)) }
+    ensures { GivesCellIn result (column row.now at) IsMoment (λ second. Int (pos second)) }
 {
     Moment::new(unsigned_integer_in(row, at)?)
 }
 
 /// The number of a key in the cell, or the 0 that stands for none.
 pub(crate) fn key_number_or_zero_in(row: &sqlite::Row, at: usize) -> Option<u32>
-    ensures { MatchOption result
-        ((key : ℕ) → key ≤ max_key_number → column row.now at ≢ Int (pos key))
-        (λ key. column row.now at ≡ Int (pos key)) }
+    ensures { GivesCellIn result (column row.now at) (λ key. key ≤ max_key_number)
+        (λ key. Int (pos key)) }
 {
     u32::try_from(unsigned_integer_in(row, at)?).ok()
 }
@@ -179,8 +167,7 @@ impl<'a> ToSql<'a> for DateCell {
 
 /// The purpose in the cell.
 fn purpose_in(row: &sqlite::Row, at: usize) -> Option<Purpose>
-    ensures { MatchOption result ((text : List ℕ) → IsPurpose text → column row.now at ≢ Words text)
-        (λ purpose. column row.now at ≡ Words purpose) }
+    ensures { GivesCellIn result (column row.now at) IsPurpose Words }
 {
     Purpose::new(text_in(row, at)?)
 }

@@ -1,12 +1,17 @@
 -- What functions within the crate say of one another, beside `specs/Beside.antt`.
-use Rattle.std.specs.Prelude.{◌≡◌, ◌≢◌, ◌⊎◌, ◌≤◌, ℕ, true, false}
+use Rattle.std.specs.Prelude.{◌≡◌, ◌≢◌, ◌⊎◌, ◌≤◌, ℕ, true, false, Result}
+use Rattle.std.specs.Borrow.{MutBor}
 use Rattle.sqlite.specs.Change.{next_tree}
 use Rattle.sqlite.specs.Effect.{Database}
+use Rattle.sqlite.specs.Held.{Held}
 use Rattle.sqlite.specs.Table.{Table}
 use Rattle.sqlite_rules.specs.Lists.{Has}
 use Rattle.sqlite_schema.specs.declared.schema.Index.{Index}
 use Rattle.sqlite_schema.specs.declared.schema.Reference.{Reference}
 use Rattle.sqlite_schema.specs.declared.schema.View.{View}
+use Rattle.sqlite_trees.specs.declared.store.Store.{Ghosts}
+use Rattle.sql_steps.specs.Steps.{Change}
+use Rattle.sql_steps.specs.Within.Steps.{Steps}
 use Rattle.register_store.specs.declared.table.TableName.{TableName}
 use Rattle.register_store.specs.declared.table.TableName.TheVariants.{Meta}
 use Rattle.register_store.specs.Beside.{HasMetaApart, is_meta}
@@ -54,3 +59,12 @@ InsertsMeta old new =
 -- rows of it are changed, to which no table refers
 abbrev pub UpdatesMeta : Database → Database → Type 0
 UpdatesMeta old new = HasMetaApart old.schema → WritesMeta old new
+
+-- ---- one call in a transaction
+
+-- the transaction stays the same one, and where the call succeeds it makes this of the register and that beside it
+pub record Alters {S T E : Type 0} (g : Ghosts S) (Made Beside : Change) (old new : MutBor (Held S))
+    (result : Result T E) : Type 0 where
+  pub same_reference : new.ghost_name ≡ old.ghost_name
+  pub made : Steps g (λ _. Made) old.now new.now result
+  pub beside : Steps g (λ _. Beside) old.now new.now result

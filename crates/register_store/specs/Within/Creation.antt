@@ -27,6 +27,10 @@ pub record HasFirst (n : ℕ) (db : Database) : Type 0 where
 abbrev pub MakesFirst : ℕ → Database → Database → Type 0
 MakesFirst n old new = old.schema ≡ no_schema → HasFirst n new
 
+-- all of them
+abbrev pub MakesTables : Database → Database → Type 0
+MakesTables = MakesFirst (length all_tables)
+
 -- the index of keys is made where the tables and the indexes before it are
 abbrev pub MakesIndex : KeyIndex → Database → Database → Type 0
 MakesIndex index = Indexes (schema_with (fresh (take (index_place index) made_indexes))) (keys (fresh []))
@@ -39,6 +43,10 @@ pub record HasIndexes (n : ℕ) (db : Database) : Type 0 where
 
 abbrev pub MakesIndexes : ℕ → Database → Database → Type 0
 MakesIndexes n old new = HasFirst (length all_tables) old → HasIndexes n new
+
+-- all of the indexes
+abbrev pub AddsIndexes : Database → Database → Type 0
+AddsIndexes = MakesIndexes (length made_indexes)
 
 -- the tables, each empty, come to be those of an empty register, and the indexes stay
 abbrev pub AddsMeta : Database → Database → Type 0

@@ -6,9 +6,10 @@ use Rattle.register_core.specs.declared.kept_reply.KeptReply.{KeptReply}
 use Rattle.register_core.specs.declared.key.Key.{Key}
 use Rattle.register_core.specs.KeyName.{KeyName, is_key_name, is_at}
 use Rattle.register_core.specs.Settings.{KeyNeed, TypePeriod, with_need}
-use Rattle.period_core.specs.declared.key_type.KeyType.{KeyType}
 use Rattle.period_core.specs.KeyType.{key_type_code}
-use Rattle.period_core.specs.Period.{Period}
+use Rattle.register_store.specs.declared.setting.Setting.{Setting}
+use Rattle.register_store.specs.declared.setting.Setting.TheVariants.{Need, Period}
+use Rattle.register_store.specs.TableChanges.{with_period_set}
 use Rattle.register_store.specs.Tables.{Tables}
 
 -- whatever the tables hold
@@ -27,30 +28,26 @@ in_state state k = record k { row = record { dates = k.row.dates; state = state 
 
 -- ---- what is set
 
-abbrev pub without_period : KeyType → Tables → Tables
-without_period kind t =
+-- without what is set for the same type or key
+abbrev pub without_set : Setting → Tables → Tables
+without_set (Period kind period) t =
     record t { periods = filter (λ (set : TypePeriod). not (key_type_code set.kind == key_type_code kind)) t.periods }
+without_set (Need key need) t = record t { needs = filter (λ (set : KeyNeed). not (set.key == key)) t.needs }
 
--- no period is set for the type
-abbrev pub HasNoPeriod : KeyType → Tables → Type 0
-HasNoPeriod kind t = (set : TypePeriod) → Has t.periods set → key_type_code set.kind ≢ key_type_code kind
+-- nothing is set for it
+abbrev pub HasNoneSet : Setting → Tables → Type 0
+HasNoneSet (Period kind period) t =
+    (set : TypePeriod) → Has t.periods set → key_type_code set.kind ≢ key_type_code kind
+HasNoneSet (Need key need) t = (set : KeyNeed) → Has t.needs set → set.key ≢ key
 
-abbrev pub more_period : KeyType → Period → Tables → Tables
-more_period kind period t = record t { periods = t.periods ++ record { kind = kind; period = period } ∷ [] }
+abbrev pub more_set : Setting → Tables → Tables
+more_set (Period kind period) t = record t { periods = t.periods ++ record { kind = kind; period = period } ∷ [] }
+more_set (Need key need) t = record t { needs = t.needs ++ record { key = key; need = need } ∷ [] }
 
-abbrev pub without_need : ℕ → Tables → Tables
-without_need key t = record t { needs = filter (λ (set : KeyNeed). not (set.key == key)) t.needs }
-
--- no need is set for the key
-abbrev pub HasNoNeed : ℕ → Tables → Type 0
-HasNoNeed key t = (set : KeyNeed) → Has t.needs set → set.key ≢ key
-
-abbrev pub more_need : ℕ → ℕ → Tables → Tables
-more_need key need t = record t { needs = t.needs ++ record { key = key; need = need } ∷ [] }
-
--- the need of the key, in the place of the one that was set before, if one was
-abbrev pub with_need_set : ℕ → ℕ → Tables → Tables
-with_need_set key need t = record t { needs = with_need key need t.needs }
+-- it is set, in the place of what was set before, if something was
+abbrev pub with_set : Setting → Tables → Tables
+with_set (Period kind period) t = with_period_set kind period t
+with_set (Need key need) t = record t { needs = with_need key need t.needs }
 
 -- ---- names at keys
 

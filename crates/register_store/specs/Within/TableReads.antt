@@ -1,5 +1,7 @@
 -- What functions within the crate say of one another, beside `specs/TableReads.antt`.
 use Rattle.std.specs.Prelude.{◌≡◌, ◌≢◌, ℕ, pos, List, length, map, Option, None, Some, Result, Ok, Err, IsPermutation}
+use Rattle.std.specs.Prelude.{MatchOption}
+use Rattle.sqlite.specs.declared.types.Value.{Value}
 use Rattle.sqlite.specs.declared.types.Value.TheVariants.{Int, Text as Words}
 use Rattle.sqlite.specs.Order.{Row, column}
 use Rattle.sqlite.specs.declared.error.Error.{Error}
@@ -35,6 +37,19 @@ abbrev pub count_at : ℕ → Role → Tables → ℕ
 count_at key role t = length (names_at key (names_of role t))
 
 -- ---- what is read of an answer
+
+-- of a cell the value is given whose cell it is, or nothing where it is no value's
+abbrev pub GivesCell : {A : Type 0} → Option A → Value → (A → Value) → Type 0
+GivesCell {A} given cell cell_of = MatchOption given ((x : A) → cell ≢ cell_of x) (λ x. cell ≡ cell_of x)
+
+-- the same where nothing need be given of one that is no value's in this range
+abbrev pub GivesCellIn : {A : Type 0} → Option A → Value → (A → Type 0) → (A → Value) → Type 0
+GivesCellIn {A} given cell InRange cell_of =
+    MatchOption given ((x : A) → InRange x → cell ≢ cell_of x) (λ x. cell ≡ cell_of x)
+
+-- of a row the value is given that it shows, or nothing where it shows none
+abbrev pub GivesRow : {A B : Type 0} → Option B → (A → Type 0) → (B → A) → Type 0
+GivesRow {A} given Shown value_of = MatchOption given ((x : A) → ¬ Shown x) (λ x. Shown (value_of x))
 
 -- the row shows a key, and its number after that
 pub record ShowsAt (row : Row) (it : ℕ × Key) : Type 0 where

@@ -45,8 +45,8 @@ pub returns-in-PeriodSet : goal.returns-in-PeriodSet
 returns-in-PeriodSet g c =
     let arm = c.in-PeriodSet in
     let a = g.T.Inside.sees c.args.tx.now in
-    let b = g.T.Inside.sees c.set_period.new.tx in
+    let b = g.T.Inside.sees c.write_setting.new.tx in
     let All = λ (change : Change). Makes (HasKeys c.args.keys) (with_change change) in
     wrote (search rules) (search rules) (
-    subst (λ (change : Change). StepsBy (λ _. All change) a b c.set_period.result) (sym arm.is)
+    subst (λ (change : Change). StepsBy (λ _. All change) a b c.write_setting.result) (sym arm.is)
     (search (arith, steps_weaker)))

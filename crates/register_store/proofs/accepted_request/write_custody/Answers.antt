@@ -40,7 +40,7 @@ returns-in-ApprovalsEnded g c =
 
 pub returns-in-NeedSet : goal.returns-in-NeedSet
 returns-in-NeedSet g c =
-    written g.T.Inside.sees g.T.Inside.name _ c.args.number _ _ _ _ _ _ _ c.in-NeedSet.is (omega arith) c.set_need.ensures
+    written g.T.Inside.sees g.T.Inside.name _ c.args.number _ _ _ _ _ _ _ c.in-NeedSet.is (omega arith) c.write_setting.ensures
 
 pub returns-in-Kept : goal.returns-in-Kept
 returns-in-Kept g c =

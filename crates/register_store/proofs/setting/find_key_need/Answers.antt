@@ -1,10 +1,11 @@
 use Rattle.std.proofs.Common.{rules}
 use Rattle.register_store.proofs.AnswersRead.{reads_one}
 use Rattle.register_store.proofs.KeyedFound.{value_read}
-use Rattle.register_store.proofs.NeedFound.{need_search, needs_keyed}
+use Rattle.register_store.proofs.SettingTexts.{needs_are}
 use Rattle.register_store.proofs.setting.find_key_need.Goals as goal
 
 pub returns-clause-reads : goal.returns-clause-reads
 returns-clause-reads g c =
-    reads_one g.S.Store (value_read needs_keyed need_search c.args.key) (search rules) c.args.connection.now
-    c.find_one_row.new.self c.find_one_row.result (rw c.params-to_sql.ensures at c.find_one_row.ensures.finds)
+    reads_one g.S.Store (value_read needs_are c.args.key) (search rules)
+    c.args.connection.now c.find_one_row.new.self c.find_one_row.result
+    (rw c.params-to_sql.ensures at c.find_one_row.ensures.finds)

@@ -2,19 +2,20 @@ use Rattle.std.proofs.Common.{rules}
 use Rattle.period_core.specs.KeyType.{key_type_code}
 use Rattle.register_store.specs.TableReads.{seen}
 use Rattle.register_store.proofs.AnswersRead.{reads_one}
-use Rattle.register_store.proofs.KeyedFound.{number_params, value_read}
+use Rattle.register_store.proofs.KeyedFound.{searched, value_read}
 use Rattle.register_store.proofs.OpenQueries.{keeps_sight}
-use Rattle.register_store.proofs.PeriodFound.{period_search, period_text, periods_keyed}
+use Rattle.register_store.proofs.SettingTables.{find_text, number_params}
+use Rattle.register_store.proofs.SettingTexts.{periods, periods_are}
 use Rattle.register_store.proofs.setting.find_office_period.Goals as goal
 
 pub returns-clause-reads : goal.returns-clause-reads
 returns-clause-reads g c =
-    reads_one g.S.Store (value_read periods_keyed period_search (key_type_code c.args.kind)) (search rules)
-    c.args.connection.now c.find_one_row.new.self c.find_one_row.result
+    reads_one g.S.Store (value_read periods_are (key_type_code c.args.kind))
+    (search rules) c.args.connection.now c.find_one_row.new.self c.find_one_row.result
     (rw (c.params-to_sql.ensures, c.from.ensures, c.code.ensures) at c.find_one_row.ensures.finds)
 
 pub returns-clause-sight : goal.returns-clause-sight
 returns-clause-sight g c =
     let one = rw (c.params-to_sql.ensures, c.from.ensures, c.code.ensures) at c.find_one_row.ensures.finds in
-    keeps_sight period_text (number_params (key_type_code c.args.kind)) period_search.query
+    keeps_sight (find_text periods) (number_params (key_type_code c.args.kind)) (searched periods_are).query
     (seen g.S.Store c.args.connection.now) (seen g.S.Store c.find_one_row.new.self) one.answer one.row

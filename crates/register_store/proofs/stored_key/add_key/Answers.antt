@@ -1,21 +1,16 @@
-use Rattle.std.proofs.Common.{◌≡◌, ◌+◌, length, rules, arith}
-use Rattle.sql_steps.proofs.Stepping.{runs}
+use Rattle.std.proofs.Common.{rules, arith}
 use Rattle.register_store.specs.Tables.{IsKey}
-use Rattle.register_store.specs.TableChanges.{Makes, with_key}
 use Rattle.register_store.proofs.KeyRow.{insert_text, params, adds_key}
-use Rattle.register_store.proofs.Wrote.{wrote}
+use Rattle.register_store.proofs.Wrote.{ran}
 use Rattle.register_store.proofs.stored_key.add_key.Goals as goal
 
 pub returns : goal.returns
 returns g c =
-    let old = g.T.Inside.sees c.args.tx.now in
-    let new = g.T.Inside.sees c.execute.new.self in
     let number = c.args.number in
     let key = c.args.key.now in
     let in_range : IsKey key = search arith in
-    wrote (search rules) (search rules) (
-    runs (Makes (λ t. number ≡ length t.keys + 1) (with_key key)) insert_text (params number key) old new
-    c.in_ok-execute.field-0 (adds_key number key in_range old new)
+    ran insert_text (params number key) c.in_ok-execute.field-0 (search rules) (search rules)
+    (adds_key number key in_range _ _)
     (λ clean inside. rw (
       c.params-to_sql.ensures,
       c.params-to_sql-2.ensures,
@@ -35,4 +30,4 @@ returns g c =
       c.params-to_sql-10.ensures.value,
       c.params-to_sql-11.ensures.value,
       c.params-to_sql-12.ensures.value,
-    ) at (c.in_ok-execute.ensures.runs clean inside)) c.in_ok-execute.ensures.survives)
+    ) at (c.in_ok-execute.ensures.runs clean inside)) c.in_ok-execute.ensures.survives

@@ -3,7 +3,7 @@ use Rattle.register_core.specs.KeyName.{KeyName, key_name}
 use Rattle.register_requests.specs.Name.{is_among}
 use Rattle.register_store.specs.CheckedTables.{ShowsName}
 use Rattle.register_store.specs.CheckedRows.{IsListed, list_at}
-use Rattle.register_store.proofs.CustodiansChecked.{list_seen, not_listed, one_name}
+use Rattle.register_store.proofs.CustodiansChecked.{list_read, not_listed, one_name}
 use Rattle.register_store.proofs.EachChecked.{one_more, one_odd}
 use Rattle.register_store.proofs.custody_check.ApprovalCheckRowCheck.take_row.Goals as goal
 
@@ -34,14 +34,10 @@ pub returns-clause-taken : goal.returns-clause-taken
 returns-clause-taken c result first rows taken =
     let key = c.in-Some.shown.key in
     let name = c.in-Some.shown.name in
-    let seen = list_seen c.args.self.now.custodians.items key c.in-Some-index_of_key_number.at c.index.result.now
-    c.in-Some-index_of_key_number.ensures (let room = c.if-at-len.false in let len = c.len.ensures in omega (
-      arith,
-      room,
-      len,
-    )) c.index.ensures in
     let passed : c.contains.result ≡ true = cc in
     let told : c.contains.result ≡ is_among name c.deref.result.now = c.contains.ensures.value in
+    let seen = list_read c.args.self.now.custodians key c.in-Some-index_of_key_number.at c.len.result
+    c.index.result.now c.in-Some-index_of_key_number.ensures c.if-at-len.false c.len.ensures c.index.ensures in
     let listed : IsListed c.args.self.now.custodians.items (key_name key name) = record {
       names = c.index.result.now;
       there = seen;
@@ -57,12 +53,8 @@ pub returns-clause-refused : goal.returns-clause-refused
 returns-clause-refused c result first rows taken =
     let key = c.in-Some.shown.key in
     let name = c.in-Some.shown.name in
-    let seen = list_seen c.args.self.now.custodians.items key c.in-Some-index_of_key_number.at c.index.result.now
-    c.in-Some-index_of_key_number.ensures (let room = c.if-at-len.false in let len = c.len.ensures in omega (
-      arith,
-      room,
-      len,
-    )) c.index.ensures in
+    let seen = list_read c.args.self.now.custodians key c.in-Some-index_of_key_number.at c.len.result
+    c.index.result.now c.in-Some-index_of_key_number.ensures c.if-at-len.false c.len.ensures c.index.ensures in
     one_odd ShowsName (IsListed first.custodians.items) rows c.args.row.now (λ entry shows is.
     let same = one_name c.args.row.now entry (key_name key name) shows c.in-Some.ensures in
     let listed = subst (IsListed first.custodians.items) same is in

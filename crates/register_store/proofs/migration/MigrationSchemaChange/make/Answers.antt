@@ -21,7 +21,7 @@ returns-clause-made g c =
     (Ok c.in_ok-make_table-2.field-0) (c.in_ok-make_table.ensures.next (omega arith))
     (c.in_ok-make_table-2.ensures.next (omega arith)) in
     let three = steps_then (λ _. Then (MakesNext Period) (MakesNext Quorum)) (λ _. SetsVersion) a d e
-    c.in_ok-make_table-2.field-0 (Ok c.in_ok-set_version.field-0) two c.in_ok-set_version.ensures.set in
+    c.in_ok-make_table-2.field-0 (Ok c.in_ok-set_version.field-0) two c.in_ok-set_version.ensures.made in
     let Periods = Adds (IsMadeAs Period) in
     let Needs = Adds (IsMadeAs Quorum) in
     let beside_two = steps_then (λ _. Periods) (λ _. Needs) a b d c.in_ok-make_table.field-0
