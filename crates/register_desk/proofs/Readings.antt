@@ -1,14 +1,13 @@
 -- Calls of a desk that only read, and calls that do nothing.
-use Rattle.std.proofs.Common.{◌≡◌, ℕ, ◌≢◌, ◌≤◌, false, cond, List, [], ◌∷◌, ◌++◌, Some, Result, Ok, Err}
-use Rattle.std.proofs.Common.{inl, inr, refl, sym, ap, subst, ◌∙◌}
+use Rattle.std.proofs.Common.{◌≡◌, ℕ, ◌≢◌, ◌≤◌, List, Result, Ok, Err}
+use Rattle.std.proofs.Common.{inl, inr, refl, sym, subst, ◌∙◌}
 use Rattle.std.specs.Prelude.{IfErr, IfOk}
 use Rattle.sqlite_trees.specs.declared.store.Store as store
 use Rattle.sqlite.specs.State.{State, HasCleanDisk, IsUnchanged, Survives}
 use Rattle.sqlite.proofs.StateLemmas.{survives_then}
 use Rattle.register_store.specs.declared.counted.Counted.{Counted}
 use Rattle.register_requests.specs.declared.request.Request.{Request}
-use Rattle.register_core.specs.Fold.{history_after}
-use Rattle.register_core.specs.Verdict.{is_accepted, max_keys, verdict}
+use Rattle.register_core.specs.Verdict.{max_keys}
 use Rattle.register_store.specs.declared.error.StoreError.{StoreError}
 use Rattle.register_store.specs.declared.error.StoreError.TheVariants.{Database, Memory, NoRegister}
 use Rattle.register_store.specs.TableReads.{seen, Calls, HoldsWhereOpen, KeepsSight, ReadsBy}
@@ -60,17 +59,7 @@ abbrev pub called : {S : Type 0} {g : store.Ghosts S} (desk : Desk S g) → Coun
 called desk after within = record desk { connection = after; within = within }
 
 module _ {S : Type 0} (g : store.Ghosts S) where
-  -- what a desk stands for is a matter of its counts and of the tables that it sees
-  pub stands_still : (old new : Desk S g) → ChangesNothing g old new → (h : List Request) → StandsFor g old h
-      → StandsFor g new h
-  stands_still old new nothing h stands = record {
-    lawful = stands.lawful;
-    latest_is = nothing.counts.latest ∙ stands.latest_is;
-    keys_are = nothing.counts.keys ∙ stands.keys_are;
-    sees = nothing.rows (tables h) stands.sees;
-  }
-
-  -- and so is being over tables
+  -- which tables a desk is over is a matter of its counts and of the tables that it sees
   pub over_still : (old new : Desk S g) → ChangesNothing g old new → (t : Tables) → IsOver g old t → IsOver g new t
   over_still old new nothing t over = record {
     latest_is = nothing.counts.latest ∙ over.latest_is;
@@ -80,11 +69,13 @@ module _ {S : Type 0} (g : store.Ghosts S) where
     sees = nothing.rows t over.sees;
   }
 
-  -- after a request that is not accepted the history is the same
-  pub stands_unaccepted : (desk : Desk S g) (h : List Request) (q : Request) → is_accepted (verdict h q) ≡ false
-      → StandsFor g desk h → StandsFor g desk (history_after h (Some q))
-  stands_unaccepted desk h q refused stands =
-      subst (StandsFor g desk) (sym (ap (λ b. cond b (h ++ q ∷ []) h) refused)) stands
+  -- and so is what it stands for
+  pub stands_still : (old new : Desk S g) → ChangesNothing g old new → (h : List Request) → StandsFor g old h
+      → StandsFor g new h
+  stands_still old new nothing h stands = record {
+    lawful = stands.lawful;
+    over = over_still old new nothing (tables h) stands.over;
+  }
 
   pub nothing_done : (desk : Desk S g) → ChangesNothing g desk desk
   nothing_done desk = record {
