@@ -1,17 +1,16 @@
 -- A desk that is over some tables is after an accepted request over what its change makes of them, whatever history
 -- they are of, if any.
 use Rattle.std.proofs.Common.{◌≡◌, ◌≤◌, inl, inr, ℕ, ◌+◌, nat_le, Bool, true, false, if◌then◌else◌, cond, List, [], ◌∷◌}
-use Rattle.std.proofs.Common.{length, map, Option, None, Some, Result, Ok, IsTrue, refl, sym, ap, subst, ◌∙◌, arith}
+use Rattle.std.proofs.Common.{length, map, Option, None, Some, Result, Ok, refl, sym, ap, subst, ◌∙◌, arith}
 use Rattle.std.specs.Prelude.{◌==◌}
 use Rattle.std.specs.List.{AllByRecursion, enumerate_from}
 use Rattle.std.proofs.lemmas.Bool.{leb-false}
+use Rattle.std.proofs.lemmas.Bool.Decides.{nat_tests}
 use Rattle.std.proofs.lemmas.List.{length-append, length-map}
 use Rattle.std.proofs.lemmas.List.FromFn.{length-enumerate_from}
 use Rattle.sqlite_trees.specs.declared.store.Store as store
-use Rattle.sqlite.specs.Tree.{Trees}
 use Rattle.sqlite.specs.Effect.{Database}
 use Rattle.sql_steps.specs.Steps.{TransactsBy}
-use Rattle.sql_steps.proofs.Stepping.{leaves_alone}
 use Rattle.lifecycle_core.specs.declared.row.Row.{Row}
 use Rattle.lifecycle_core.specs.Row.{IsRightAt}
 use Rattle.period_core.specs.declared.key_type.KeyType.{KeyType}
@@ -22,7 +21,7 @@ use Rattle.register_requests.specs.declared.request.Request.{Request}
 use Rattle.register_requests.specs.Request.{IsRequest}
 use Rattle.register_requests.specs.Subject.{Subject, Makes, Names, NoKey, subject}
 use Rattle.register_requests.specs.Version.{current}
-use Rattle.register_requests.specs.Within.Subject.{count_by}
+use Rattle.register_requests.specs.Within.Subject.{made_by}
 use Rattle.register_requests.proofs.Subjects.{is_registration, registers}
 use Rattle.register_core.specs.declared.answer.Answer.{Answer}
 use Rattle.register_core.specs.declared.answer.Answer.TheVariants.{Accepted, Refused}
@@ -58,17 +57,12 @@ use Rattle.register_desk.specs.TablesView.{change_over, judgement_over, key_need
 use Rattle.register_desk.specs.TablesView.{with_accepted}
 use Rattle.register_desk.specs.Within.TablesView.{IsViewOver}
 use Rattle.register_desk.proofs.Grows.{change_counts}
+use Rattle.register_desk.proofs.Readings.{Settles, keeps_committed}
 
 -- ---- how many keys there are
 
 keys_with : (made : Change) (t : Tables) → length (with_change made t).keys ≡ length t.keys + made_count made
-keys_with (Made key) t = length-append t.keys (key ∷ [])
-keys_with (change.Held number owner row custody) t =
-    let same = length-map (enumerate_from 1 t.keys) (where_number number (held_by owner row)) in
-    let counted = length-enumerate_from 1 t.keys in
-    omega (arith, same, counted)
-keys_with (change.PeriodSet kind period) t = omega arith
-keys_with Nothing t = omega arith
+keys_with made t = grind (arith, length-append, length-map, length-enumerate_from)
 
 -- ---- the state of each key
 
@@ -83,15 +77,11 @@ IsRightChange at (change.PeriodSet kind period) = Unit {0}
 IsRightChange at Nothing = Unit {0}
 
 right_without : (t : ℕ) (c : Command) → IsRightChange t (change_without_key c)
-right_without t (SetPeriod kind period) = tt
-right_without t c = tt
+right_without t c = grind arith
 
 right_change : (periods : KeyType → Period) (s : Subject) (key : Option Held) (q : Request)
     → IsRightChange q.moment (change_of periods s key q)
-right_change periods (Makes made) key q = refl
-right_change periods (Names k) None q = tt
-right_change periods (Names k) (Some held) q = refl
-right_change periods NoKey key q = right_without q.moment q.command
+right_change periods s key q = grind (arith, right_without)
 
 advanced_right : (at : ℕ) (keys : List Key) → AllRight at (map (advanced at) keys)
 advanced_right at [] = tt
@@ -135,28 +125,18 @@ module _ (t : Tables) (q : Request) (view : View) (is : IsViewOver t q view) whe
   replied_over : reply_of_view view q ≡ reply_over t q
   replied_over i = reply_to (is.keys_are i) q.moment (changed_over i)
 
+room_for : (keys : ℕ) (c : Command) → keys ≤ max_keys → limit_refusal keys c ≡ None → keys + made_by c ≤ max_keys
+room_for keys c within none = grind (arith, nat_tests)
+
 -- where a request is accepted, there is room for what it makes
 pub room_left : (view : View) (q : Request) (change : Change) → view.keys ≤ max_keys → judge_view view q ≡ None
     → change ≡ change_by_request (always view.period) view.key q → view.keys + made_count change ≤ max_keys
 room_left view q change within accepted is =
-    let counted : made_count change ≡ count_by (subject q.command) =
+    let counted : made_count change ≡ made_by q.command =
     ap made_count is ∙ change_counts (always view.period) view.key q in
-    let room = by (subject q.command) (λ i. subject q.command) in
+    let room = room_for view.keys q.command within
+    (passes current view.latest view.keys (always view.period) view.key q accepted).numbered in
     omega (arith, counted, room)
-  where
-    below : (b : Bool) → cond b (Some Full) None ≡ None → b ≡ false
-    below true e = absurd (cc)
-    below false e = λ i. false
-
-    by : (s : Subject) → subject q.command ≡ s → view.keys + count_by s ≤ max_keys
-    by (Makes made) makes =
-        let none : limit_refusal view.keys (registers made) ≡ None =
-        ap (limit_refusal view.keys) (sym (is_registration q.command made makes))
-        ∙ (passes current view.latest view.keys (always view.period) view.key q accepted).numbered in
-        let less = leb-false max_keys view.keys (below (nat_le max_keys view.keys) none) in
-        omega (arith, less)
-    by (Names k) names = omega arith
-    by NoKey none = omega arith
 
 -- ---- after an acceptance
 
@@ -225,8 +205,7 @@ module _ {S : Type 0} (g : store.Ghosts S) (old new : Desk S g) (t : Tables) (q 
 
   pub answers_request : {A E : Type 0} (x : A)
       → TransactsBy {E = E} Commits (seen g old.connection) (seen g new.connection) (Ok x)
-      → ((s : S) (db : Trees) → IsTrue (g.view s).is_open → g.recovers s db → db ≡ (g.view s).committed)
-      → new.latest ≡ given.moment → new.keys ≡ old.keys + made_count made
+      → Settles g → new.latest ≡ given.moment → new.keys ≡ old.keys + made_count made
       → IsAnsweredOver g t q (Accepted given) new
   answers_request x written settled moment counted = record {
     found = None;
@@ -244,15 +223,8 @@ module _ {S : Type 0} (g : store.Ghosts S) (old new : Desk S g) (t : Tables) (q 
           let did = written.accepted clean in
           let holds = made_holds (seen g old.connection).now (seen g new.connection).now
           ((over.sees whole early).shows did.2).holds did.0 in
-          record {
-            shows = λ is_open. record { is_open = is_open; holds = holds; committed = did.1 };
-            leaves = λ trees may. (
-              (seen g new.connection).now,
-              holds,
-              leaves_alone g settled Commits (seen g old.connection) new.connection.connection (Ok x) written clean trees
-                  may,
-            );
-          };
+          keeps_committed g settled new.connection.connection (with_accepted t q)
+          (record { is_open = did.3; holds = holds; committed = did.1 });
     };
   }
 
