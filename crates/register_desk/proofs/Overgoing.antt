@@ -1,10 +1,8 @@
 -- A desk that is over some tables is after an accepted request over what its change makes of them, whatever history
 -- they are of, if any.
-use Rattle.std.proofs.Common.{◌≡◌, ◌≤◌, inl, inr, ℕ, ◌+◌, nat_le, Bool, true, false, if◌then◌else◌, cond, List, [], ◌∷◌}
+use Rattle.std.proofs.Common.{◌≡◌, ◌≤◌, inl, inr, ℕ, ◌+◌, Bool, true, false, if◌then◌else◌, List, [], ◌∷◌}
 use Rattle.std.proofs.Common.{length, map, Option, None, Some, Result, Ok, refl, sym, ap, subst, ◌∙◌, arith}
-use Rattle.std.specs.Prelude.{◌==◌}
 use Rattle.std.specs.List.{AllByRecursion, enumerate_from}
-use Rattle.std.proofs.lemmas.Bool.{leb-false}
 use Rattle.std.proofs.lemmas.Bool.Decides.{nat_tests}
 use Rattle.std.proofs.lemmas.List.{length-append, length-map}
 use Rattle.std.proofs.lemmas.List.FromFn.{length-enumerate_from}
@@ -16,13 +14,11 @@ use Rattle.lifecycle_core.specs.Row.{IsRightAt}
 use Rattle.period_core.specs.declared.key_type.KeyType.{KeyType}
 use Rattle.period_core.specs.Period.{Period}
 use Rattle.register_requests.specs.declared.request.Command.{Command}
-use Rattle.register_requests.specs.declared.request.Command.TheVariants.{SetPeriod}
 use Rattle.register_requests.specs.declared.request.Request.{Request}
 use Rattle.register_requests.specs.Request.{IsRequest}
-use Rattle.register_requests.specs.Subject.{Subject, Makes, Names, NoKey, subject}
+use Rattle.register_requests.specs.Subject.{Subject, subject}
 use Rattle.register_requests.specs.Version.{current}
 use Rattle.register_requests.specs.Within.Subject.{made_by}
-use Rattle.register_requests.proofs.Subjects.{is_registration, registers}
 use Rattle.register_core.specs.declared.answer.Answer.{Answer}
 use Rattle.register_core.specs.declared.answer.Answer.TheVariants.{Accepted, Refused}
 use Rattle.register_core.specs.declared.change.Change.{Change}
@@ -31,7 +27,7 @@ use Rattle.register_core.specs.declared.change.Change.TheVariants as change
 use Rattle.register_core.specs.declared.key.Key.{Key}
 use Rattle.register_core.specs.declared.kept_reply.KeptReply.{KeptReply}
 use Rattle.register_core.specs.declared.reply.Refusal.{Refusal}
-use Rattle.register_core.specs.declared.reply.Refusal.TheVariants.{Full, RequestReused}
+use Rattle.register_core.specs.declared.reply.Refusal.TheVariants.{RequestReused}
 use Rattle.register_core.specs.declared.reply.Reply.{Reply}
 use Rattle.register_core.specs.declared.view.Held.{Held}
 use Rattle.register_core.specs.declared.view.View.{View}
@@ -93,11 +89,7 @@ held_right : (at number : ℕ) (owner : List ℕ) (row : Row) → IsRightAt row 
     → AllRight at (map (where_number number (held_by owner row)) (enumerate_from n keys))
 held_right at number owner row right n [] each = tt
 held_right at number owner row right n (k ∷ keys) each =
-    (one (n == number), held_right at number owner row right (n + 1) keys each.1)
-  where
-    one : (b : Bool) → IsRightAt (cond b (held_by owner row k) k).row at
-    one true = right
-    one false = each.0
+    grind (arith, held_right at number owner row right (n + 1) keys each.1)
 
 right_with : (made : Change) (t : Tables) (at : ℕ) → IsRightChange at made
     → AreRightAt at (with_change made (with_keys_advanced at t))
@@ -105,8 +97,7 @@ right_with (Made key) t at right =
     all_more (λ (k : Key). IsRightAt k.row at) (map (advanced at) t.keys) key (advanced_right at t.keys) right
 right_with (change.Held number owner row custody) t at right =
     held_right at number owner row right 1 (map (advanced at) t.keys) (advanced_right at t.keys)
-right_with (change.PeriodSet kind period) t at right = advanced_right at t.keys
-right_with Nothing t at right = advanced_right at t.keys
+right_with made t at right = advanced_right at t.keys
 
 -- ---- a decision by a view
 
