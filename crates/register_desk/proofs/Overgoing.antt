@@ -1,6 +1,6 @@
 -- A desk that is over some tables is after an accepted request over what its change makes of them, whatever history
 -- they are of, if any.
-use Rattle.std.proofs.Common.{◌≡◌, ◌≤◌, inl, inr, ℕ, ◌+◌, Bool, true, false, if◌then◌else◌, List, [], ◌∷◌}
+use Rattle.std.proofs.Common.{◌≡◌, ◌≤◌, inl, inr, ℕ, ◌+◌, Bool, false, if◌then◌else◌, List, [], ◌∷◌}
 use Rattle.std.proofs.Common.{length, map, Option, None, Some, Result, Ok, refl, sym, ap, subst, ◌∙◌, arith}
 use Rattle.std.specs.List.{AllByRecursion, enumerate_from}
 use Rattle.std.proofs.lemmas.Bool.Decides.{nat_tests}
@@ -235,8 +235,7 @@ answers_refusal g desk t q view refusal over none seen_so refused = record {
 over_again : {S : Type 0} (g : store.Ghosts S) (desk : Desk S g) (t : Tables) (q : Request) (before : KeptReply)
     (new : Reply) (b : Bool) → IsOver g desk t
     → IsOver g desk (tables_after t q (answer_by (if b then Repeats before.reply else Refuses RequestReused) new))
-over_again g desk t q before new true over = over
-over_again g desk t q before new false over = over
+over_again g desk t q before new b over = grind arith
 
 pub answers_again : {S : Type 0} (g : store.Ghosts S) (desk : Desk S g) (t : Tables) (q : Request)
     (before : KeptReply) (given : Answer) → IsOver g desk t → HasRequest q.caller q.number t (Some before)
