@@ -1,5 +1,4 @@
--- A desk that is over some tables is after an accepted request over what its change makes of them, whatever history
--- they are of, if any.
+-- What applying a request does to a desk that is over some tables, whatever history they are of if any.
 use Rattle.std.proofs.Common.{◌≡◌, ◌≤◌, inl, inr, ℕ, ◌+◌, Bool, false, if◌then◌else◌, List, [], ◌∷◌}
 use Rattle.std.proofs.Common.{length, map, Option, None, Some, Result, Ok, refl, sym, ap, subst, ◌∙◌, arith}
 use Rattle.std.specs.List.{AllByRecursion, enumerate_from}
@@ -47,7 +46,7 @@ use Rattle.register_store.specs.TableChanges.{AreRightAt, advanced, held_by, whe
 use Rattle.register_store.specs.TableReads.{HasRequest, seen}
 use Rattle.register_store.specs.Tables.{Tables}
 use Rattle.register_desk.specs.declared.desk.Desk.{Desk}
-use Rattle.register_desk.specs.Desk.{IsAnsweredOver, IsClean, IsOpen, LeavesWithRequest}
+use Rattle.register_desk.specs.Desk.{IsAnsweredOver, IsClean, IsNew, IsOpen, LeavesWithRequest}
 use Rattle.register_desk.specs.Register.{IsOver}
 use Rattle.register_desk.specs.TablesView.{change_over, judgement_over, key_needed, period_over, reply_over, tables_after}
 use Rattle.register_desk.specs.TablesView.{with_accepted}
@@ -135,7 +134,7 @@ module _ {S : Type 0} (g : store.Ghosts S) (old new : Desk S g) (t : Tables) (q 
     (made : Change) (given : Reply) (whole : old.is_broken ≡ false) (over : IsOver g old t) (request : IsRequest q)
     (few : view.keys ≤ max_keys) (is : made ≡ change_by_request (always view.period) view.key q)
     (told : given ≡ reply_of_view view q) (accepted : judge_view view q ≡ None) (seen_so : IsViewOver t q view)
-    (none : HasRequest q.caller q.number t None) where
+    (none : IsNew t q) where
   abbrev Commits : Database → Database → Type 0
   Commits =
       tabled.Makes (CanTake old.keys old.latest (kept_with q given)) (with_request old.keys made (kept_with q given))
@@ -222,7 +221,7 @@ module _ {S : Type 0} (g : store.Ghosts S) (old new : Desk S g) (t : Tables) (q 
 -- ---- after a refusal, or a reply that is given again
 
 pub answers_refusal : {S : Type 0} (g : store.Ghosts S) (desk : Desk S g) (t : Tables) (q : Request) (view : View)
-    (refusal : Refusal) → IsOver g desk t → HasRequest q.caller q.number t None → IsViewOver t q view
+    (refusal : Refusal) → IsOver g desk t → IsNew t q → IsViewOver t q view
     → judge_view view q ≡ Some refusal → IsAnsweredOver g t q (Refused refusal) desk
 answers_refusal g desk t q view refusal over none seen_so refused = record {
   found = None;

@@ -99,9 +99,13 @@ pub record IsAnsweredOver {S : Type 0} (g : Ghosts S) (t : Tables) (q : Request)
   pub answer_is : given ≡ answer_by (verdict_over t q found) (reply_over t q)
   pub over : IsOver g desk (tables_after t q given)
 
--- the request is to be accepted over these tables: they keep nothing under its caller and number, and no refusal holds
+-- these tables keep nothing under the request's caller and number
+abbrev pub IsNew : Tables → Request → Type 0
+IsNew t q = HasRequest q.caller q.number t None
+
+-- the request is to be accepted over these tables: it is new to them, and no refusal holds
 pub record IsAcceptedOver (t : Tables) (q : Request) : Type 0 where
-  pub new : HasRequest q.caller q.number t None
+  pub new : IsNew t q
   pub judged : judgement_over t q ≡ None
 
 -- a stop leaves these tables, or them with the request where that is to be accepted
@@ -123,8 +127,8 @@ pub record ChangesNothing {S : Type 0} (g : Ghosts S) (old new : Desk S g) : Typ
   pub rows : (t : Tables) → Sees g t old → Sees g t new
   pub survives : Survives (seen g old.connection) (seen g new.connection) (λ _. ⊥)
 
--- What applying a request does over tables, whatever history these are of if any: an accepted request makes one change
--- of them, nothing else does, and after the end 31 a stop leaves them, or them with the request.
+-- What applying a request does over tables, whatever history these are of if any: they answer it, and an accepted request
+-- makes one change of them; nothing else does, and after the end 31 a stop leaves them, or them with the request.
 pub record AppliesOver {S : Type 0} (g : Ghosts S) (q : Request) (old new : Desk S g) (result : Result Answer End)
     : Type 0 where
   pub over : (t : Tables) → IsOver g old t → IsRequest q → IsClean g new

@@ -1,9 +1,7 @@
 -- What the private calls of a desk say of one another.
-use Rattle.std.specs.Prelude.{◌≡◌, ℕ, List, None, OnOk, Result}
+use Rattle.std.specs.Prelude.{◌≡◌, ℕ, List, OnOk, Result}
 use Rattle.sqlite_trees.specs.declared.store.Store.{Ghosts}
 use Rattle.register_requests.specs.declared.request.Request.{Request}
-use Rattle.register_store.specs.TableReads.{HasRequest}
-use Rattle.register_store.specs.Tables.{Tables}
 use Rattle.register_desk.specs.declared.desk.Desk.{Desk}
 use Rattle.register_desk.specs.declared.end.End.{End}
 use Rattle.register_desk.specs.Desk.{ChangesNothing, Ends, IsClean, IsOpen, KeepsCounts, TakesSteps}
@@ -23,7 +21,3 @@ pub record LooksUp {S T : Type 0} (g : Ghosts S) (most : ℕ) (old new : Desk S 
   pub reads : ChangesNothing g old new
   pub steps : (h : List Request) → StandsFor g old h → IsClean g new → TakesSteps most old new
   pub opened : OnOk result (IsOpen g new)
-
--- these tables keep nothing under the request's caller and number
-abbrev pub IsNew : Tables → Request → Type 0
-IsNew t q = HasRequest q.caller q.number t None

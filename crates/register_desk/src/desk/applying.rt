@@ -16,10 +16,10 @@ impl<S: Alter> Desk<S> {
     ghost use Rattle.register_requests.specs.CommandRule.{looks_at_custody};
     ghost use Rattle.register_desk.specs.Desk.{IsBroken, IsClean, IsWhole, keys_of, latest_of};
     ghost use Rattle.register_desk.specs.Desk.{ChangesNothing, Ends, IsAnsweredOver, IsOpen};
-    ghost use Rattle.register_desk.specs.Desk.{KeepsCounts, LeavesWithRequest};
+    ghost use Rattle.register_desk.specs.Desk.{IsNew, KeepsCounts, LeavesWithRequest};
     ghost use Rattle.register_desk.specs.Desk.{RepeatsWithin, TakesSteps};
     ghost use Rattle.register_desk.specs.Desk.{AppliesOver, AppliesTo};
-    ghost use Rattle.register_desk.specs.Within.DeskCalls.{IsNew, LooksUp};
+    ghost use Rattle.register_desk.specs.Within.DeskCalls.{LooksUp};
     ghost use Rattle.register_desk.specs.Register.{IsOver, Sees, StandsFor};
     ghost use Rattle.sql_steps.specs.Steps.{TransactsBy};
     ghost use Rattle.register_core.specs.Answer.{UnlessAccepted};
