@@ -48,8 +48,8 @@ use Rattle.register_store.specs.Tables.{Tables}
 use Rattle.register_desk.specs.declared.desk.Desk.{Desk}
 use Rattle.register_desk.specs.Desk.{IsAnsweredOver, IsClean, IsNew, IsOpen, LeavesWithRequest}
 use Rattle.register_desk.specs.Register.{IsOver}
-use Rattle.register_desk.specs.TablesView.{change_over, judgement_over, key_needed, period_over, reply_over, tables_after}
-use Rattle.register_desk.specs.TablesView.{with_accepted}
+use Rattle.register_desk.specs.TablesView.{change_over, judgement_over, key_needed, period_over, reply_over}
+use Rattle.register_desk.specs.TablesView.{tables_after, with_accepted}
 use Rattle.register_desk.specs.Within.TablesView.{IsViewOver}
 use Rattle.register_desk.proofs.Grows.{change_counts}
 use Rattle.register_desk.proofs.Readings.{Settles, keeps_committed}

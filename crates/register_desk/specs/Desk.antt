@@ -1,6 +1,6 @@
 -- What the calls of a desk leave.
-use Rattle.std.specs.Prelude.{◌≡◌, ◌⊎◌, ◌<◌, ◌≤◌, ℕ, true, false, List, [], ◌∷◌, None, Option, Some, Result, MatchResult}
-use Rattle.std.specs.Prelude.{IfErr, IfOk, IsTrue, OnErr, OnOk}
+use Rattle.std.specs.Prelude.{◌≡◌, ◌⊎◌, ◌<◌, ◌≤◌, ℕ, true, false, List, [], ◌∷◌, Option, None, Some, Result}
+use Rattle.std.specs.Prelude.{IfErr, IfOk, IsTrue, MatchResult, OnErr, OnOk}
 use Rattle.sqlite_trees.specs.declared.store.Store.{Ghosts}
 use Rattle.sqlite.specs.State.{HasCleanDisk, Survives}
 use Rattle.sqlite.specs.Held.{Held as Connection}
@@ -127,8 +127,9 @@ pub record ChangesNothing {S : Type 0} (g : Ghosts S) (old new : Desk S g) : Typ
   pub rows : (t : Tables) → Sees g t old → Sees g t new
   pub survives : Survives (seen g old.connection) (seen g new.connection) (λ _. ⊥)
 
--- What applying a request does over tables, whatever history these are of if any: they answer it, and an accepted request
--- makes one change of them; nothing else does, and after the end 31 a stop leaves them, or them with the request.
+-- What applying a request does over tables, whatever history these are of if any: they answer it, and an accepted
+-- request makes one change of them; nothing else does, and after the end 31 a stop leaves them, or them with the
+-- request.
 pub record AppliesOver {S : Type 0} (g : Ghosts S) (q : Request) (old new : Desk S g) (result : Result Answer End)
     : Type 0 where
   pub over : (t : Tables) → IsOver g old t → IsRequest q → IsClean g new

@@ -44,8 +44,8 @@ impl<S: Alter> Desk<S> {
         ensures clean { IsClean S.Store self.new → IsClean S.Store self.old }
         // Over a history: the answer is the verdict, and the desk stands for what comes of it.
         ensures to { AppliesTo S.Store request.now 51 self.old self.new result }
-        // Over tables of no history too: what they keep under the caller and number decides, else
-        // the judgement by them; an accepted request makes one change of them, and nothing else does.
+        // Over tables of no history too what they keep under the caller and number decides, or
+        // else a judgement by them. An accepted request makes one change of them; nothing else does.
         ensures over { AppliesOver S.Store request.now self.old self.new result }
         ensures no_request { is_in_range request.now.command ≡ false → IsWhole self.old
             → result ≡ Ok (Answer.Refused Refusal.BadLine) }

@@ -10,8 +10,9 @@ returns-in-Ok-clause-looks g c =
 
 pub returns-in-Ok-clause-kept : goal.returns-in-Ok-clause-kept
 returns-in-Ok-clause-kept g c t sees clean =
+    let reads = c.in-Ok.ensures.reads in
     let found : HasRequest c.args.caller.now c.args.number t c.in-Ok.found =
-    found_in g.S.Store _ c.args.self.now c.find_request.new.connection _ c.requires c.in-Ok.ensures.reads t sees clean in
+    found_in g.S.Store _ c.args.self.now c.find_request.new.connection _ c.requires reads t sees clean in
     search rules fits 100
 
 pub returns-in-Ok-clause-within : goal.returns-in-Ok-clause-within
