@@ -44,7 +44,7 @@ module _ {S : Type 0} (g : Ghosts S) (h : List Request) (items : List (Option Re
   left_after : (end : Finish) (one_more : Bool) → IsLife end replies (life_of items replies one_more) → IsWhole now
       → StandsFor g now (after h (life_of items replies one_more)) → LeavesLife g h items end replies now
   left_after end one_more is whole stands trees may =
-      let left = (stands.sees whole clean).leaves trees may in (one_more, is, left.0, left.1, left.2)
+      let left = (stands.over.sees whole clean).leaves trees may in (one_more, is, left.0, left.1, left.2)
 
   none_more : (end : Finish) (old new : Option (List ℕ)) → MayApplyOneMore end false → IsWhole now
       → Answered g h items replies old new now → LeavesLife g h items end replies now

@@ -1,61 +1,63 @@
--- A desk that is over some tables is after an accepted request over what its change makes of them, whatever history
--- they are of, if any.
-use Rattle.std.proofs.Common.{◌≡◌, ℕ, ◌+◌, Bool, true, false, if◌then◌else◌, cond, List, [], ◌∷◌, length, map}
-use Rattle.std.proofs.Common.{Option, None, Some, Result, Ok, Err, IsTrue, refl, sym, ap, subst, ◌∙◌, arith}
-use Rattle.std.specs.Prelude.{◌==◌, OnOk}
+-- What applying a request does to a desk that is over some tables, whatever history they are of if any.
+use Rattle.std.proofs.Common.{◌≡◌, ◌≤◌, inl, inr, ℕ, ◌+◌, Bool, false, if◌then◌else◌, List, [], ◌∷◌}
+use Rattle.std.proofs.Common.{length, map, Option, None, Some, Result, Ok, refl, sym, ap, subst, ◌∙◌, arith}
 use Rattle.std.specs.List.{AllByRecursion, enumerate_from}
+use Rattle.std.proofs.lemmas.Bool.Decides.{nat_tests}
 use Rattle.std.proofs.lemmas.List.{length-append, length-map}
 use Rattle.std.proofs.lemmas.List.FromFn.{length-enumerate_from}
 use Rattle.sqlite_trees.specs.declared.store.Store as store
-use Rattle.sqlite.specs.Tree.{Trees}
-use Rattle.sqlite.specs.State.{HasCleanDisk}
+use Rattle.sqlite.specs.Effect.{Database}
 use Rattle.sql_steps.specs.Steps.{TransactsBy}
-use Rattle.sql_steps.proofs.Stepping.{leaves_alone}
 use Rattle.lifecycle_core.specs.declared.row.Row.{Row}
 use Rattle.lifecycle_core.specs.Row.{IsRightAt}
+use Rattle.period_core.specs.declared.key_type.KeyType.{KeyType}
+use Rattle.period_core.specs.Period.{Period}
+use Rattle.register_requests.specs.declared.request.Command.{Command}
+use Rattle.register_requests.specs.declared.request.Request.{Request}
+use Rattle.register_requests.specs.Request.{IsRequest}
+use Rattle.register_requests.specs.Subject.{Subject, subject}
+use Rattle.register_requests.specs.Version.{current}
+use Rattle.register_requests.specs.Within.Subject.{made_by}
+use Rattle.register_core.specs.declared.answer.Answer.{Answer}
+use Rattle.register_core.specs.declared.answer.Answer.TheVariants.{Accepted, Refused}
 use Rattle.register_core.specs.declared.change.Change.{Change}
 use Rattle.register_core.specs.declared.change.Change.TheVariants.{Made, Nothing}
 use Rattle.register_core.specs.declared.change.Change.TheVariants as change
 use Rattle.register_core.specs.declared.key.Key.{Key}
 use Rattle.register_core.specs.declared.kept_reply.KeptReply.{KeptReply}
-use Rattle.register_core.specs.declared.reply.Reply.{Reply}
+use Rattle.register_core.specs.declared.reply.Refusal.{Refusal}
 use Rattle.register_core.specs.declared.reply.Refusal.TheVariants.{RequestReused}
-use Rattle.register_requests.specs.declared.request.Request.{Request}
-use Rattle.period_core.specs.declared.key_type.KeyType.{KeyType}
-use Rattle.period_core.specs.Period.{Period}
+use Rattle.register_core.specs.declared.reply.Reply.{Reply}
 use Rattle.register_core.specs.declared.view.Held.{Held}
 use Rattle.register_core.specs.declared.view.View.{View}
-use Rattle.register_core.specs.Decision.{change_by_request, change_of, change_without_key, reply_of_view, reply_to}
-use Rattle.register_requests.specs.declared.request.Command.{Command}
-use Rattle.register_requests.specs.declared.request.Command.TheVariants.{SetPeriod}
+use Rattle.register_core.specs.Decision.{change_of, change_by_request, change_without_key, reply_of_view, reply_to}
 use Rattle.register_core.specs.KeptReply.{kept_with, IsKeptReply}
-use Rattle.register_requests.specs.Subject.{Subject, Makes, Names, NoKey, subject}
-use Rattle.register_core.specs.Verdict.{always, answer_by, judge, judge_view, Repeats, Refuses}
-use Rattle.register_core.proofs.Needed.{judge_by, changed_by}
+use Rattle.register_core.specs.Verdict.{always, answer_by, is_same_command, judge, judge_view, limit_refusal, max_keys}
+use Rattle.register_core.specs.Verdict.{repeated, Repeats, Refuses, verdict_by}
+use Rattle.register_core.proofs.Kept.{decided_at, decided_in_range}
 use Rattle.register_core.proofs.Lawful.{all_more}
+use Rattle.register_core.proofs.Needed.{judge_by, changed_by}
+use Rattle.register_core.proofs.Refusals.{passes}
+use Rattle.register_store.specs.AcceptedRequest.{CanTake, with_request}
 use Rattle.register_store.specs.Change.{made_count, with_change}
+use Rattle.register_store.specs.Schema.{Holds}
 use Rattle.register_store.specs.TableChanges as tabled
 use Rattle.register_store.specs.TableChanges.{AreRightAt, advanced, held_by, where_number, with_keys_advanced}
-use Rattle.register_store.specs.TableReads.{seen}
-use Rattle.register_store.specs.Schema.{Holds}
+use Rattle.register_store.specs.TableReads.{HasRequest, seen}
 use Rattle.register_store.specs.Tables.{Tables}
-use Rattle.register_desk.specs.TablesView.{period_over}
-use Rattle.register_desk.specs.Within.TablesView.{IsViewOver}
 use Rattle.register_desk.specs.declared.desk.Desk.{Desk}
-use Rattle.register_desk.specs.Desk.{AcceptsOver, IsOverAfter, IsOverWithRequest}
+use Rattle.register_desk.specs.Desk.{IsAnsweredOver, IsClean, IsNew, IsOpen, LeavesWithRequest}
 use Rattle.register_desk.specs.Register.{IsOver}
-use Rattle.register_store.specs.AcceptedRequest.{CanTake, with_request}
+use Rattle.register_desk.specs.TablesView.{change_over, judgement_over, key_needed, period_over, reply_over}
+use Rattle.register_desk.specs.TablesView.{tables_after, with_accepted}
+use Rattle.register_desk.specs.Within.TablesView.{IsViewOver}
+use Rattle.register_desk.proofs.Grows.{change_counts}
+use Rattle.register_desk.proofs.Readings.{Settles, keeps_committed}
 
 -- ---- how many keys there are
 
 keys_with : (made : Change) (t : Tables) → length (with_change made t).keys ≡ length t.keys + made_count made
-keys_with (Made key) t = length-append t.keys (key ∷ [])
-keys_with (change.Held number owner row custody) t =
-    let same = length-map (enumerate_from 1 t.keys) (where_number number (held_by owner row)) in
-    let counted = length-enumerate_from 1 t.keys in
-    omega (arith, same, counted)
-keys_with (change.PeriodSet kind period) t = omega arith
-keys_with Nothing t = omega arith
+keys_with made t = grind (arith, length-append, length-map, length-enumerate_from)
 
 -- ---- the state of each key
 
@@ -70,15 +72,11 @@ IsRightChange at (change.PeriodSet kind period) = Unit {0}
 IsRightChange at Nothing = Unit {0}
 
 right_without : (t : ℕ) (c : Command) → IsRightChange t (change_without_key c)
-right_without t (SetPeriod kind period) = tt
-right_without t c = tt
+right_without t c = grind arith
 
 right_change : (periods : KeyType → Period) (s : Subject) (key : Option Held) (q : Request)
     → IsRightChange q.moment (change_of periods s key q)
-right_change periods (Makes made) key q = refl
-right_change periods (Names k) None q = tt
-right_change periods (Names k) (Some held) q = refl
-right_change periods NoKey key q = right_without q.moment q.command
+right_change periods s key q = grind (arith, right_without)
 
 advanced_right : (at : ℕ) (keys : List Key) → AllRight at (map (advanced at) keys)
 advanced_right at [] = tt
@@ -90,11 +88,7 @@ held_right : (at number : ℕ) (owner : List ℕ) (row : Row) → IsRightAt row 
     → AllRight at (map (where_number number (held_by owner row)) (enumerate_from n keys))
 held_right at number owner row right n [] each = tt
 held_right at number owner row right n (k ∷ keys) each =
-    (one (n == number), held_right at number owner row right (n + 1) keys each.1)
-  where
-    one : (b : Bool) → IsRightAt (cond b (held_by owner row k) k).row at
-    one true = right
-    one false = each.0
+    grind (arith, held_right at number owner row right (n + 1) keys each.1)
 
 right_with : (made : Change) (t : Tables) (at : ℕ) → IsRightChange at made
     → AreRightAt at (with_change made (with_keys_advanced at t))
@@ -102,90 +96,153 @@ right_with (Made key) t at right =
     all_more (λ (k : Key). IsRightAt k.row at) (map (advanced at) t.keys) key (advanced_right at t.keys) right
 right_with (change.Held number owner row custody) t at right =
     held_right at number owner row right 1 (map (advanced at) t.keys) (advanced_right at t.keys)
-right_with (change.PeriodSet kind period) t at right = advanced_right at t.keys
-right_with Nothing t at right = advanced_right at t.keys
+right_with made t at right = advanced_right at t.keys
+
+-- ---- a decision by a view
+
+-- what the view gives is what these tables give, where it has what a decision on the request sees over them
+module _ (t : Tables) (q : Request) (view : View) (is : IsViewOver t q view) where
+  pub judged_over : judge_view view q ≡ judgement_over t q
+  judged_over =
+      judge_by view.latest view.keys (always view.period) (period_over t) view.key q is.period_is
+      ∙ (λ i. judge (is.latest_is i) (is.keys_are i) (period_over t) (is.key_is i) q)
+
+  changed_over : change_by_request (always view.period) view.key q ≡ change_over t q
+  changed_over =
+      changed_by (always view.period) (period_over t) view.key q is.period_is
+      ∙ ap (λ (k : Option Held). change_by_request (period_over t) k q) is.key_is
+
+  replied_over : reply_of_view view q ≡ reply_over t q
+  replied_over i = reply_to (is.keys_are i) q.moment (changed_over i)
+
+room_for : (keys : ℕ) (c : Command) → keys ≤ max_keys → limit_refusal keys c ≡ None → keys + made_by c ≤ max_keys
+room_for keys c within none = grind (arith, nat_tests)
+
+-- where a request is accepted, there is room for what it makes
+pub room_left : (view : View) (q : Request) (change : Change) → view.keys ≤ max_keys → judge_view view q ≡ None
+    → change ≡ change_by_request (always view.period) view.key q → view.keys + made_count change ≤ max_keys
+room_left view q change within accepted is =
+    let counted : made_count change ≡ made_by q.command =
+    ap made_count is ∙ change_counts (always view.period) view.key q in
+    let room = room_for view.keys q.command within
+    (passes current view.latest view.keys (always view.period) view.key q accepted).numbered in
+    omega (arith, counted, room)
 
 -- ---- after an acceptance
 
 module _ {S : Type 0} (g : store.Ghosts S) (old new : Desk S g) (t : Tables) (q : Request) (view : View)
-    (made : Change) (given : Reply)
-    (whole : old.is_broken ≡ false) (over : IsOver g old t) (in_range : IsKeptReply (kept_with q given))
-    (at : given.moment ≡ q.moment)
-    (is : made ≡ change_by_request (always view.period) view.key q)
-    (told : given ≡ reply_of_view view q)
-    (accepted : judge_view view q ≡ None) (seen_so : IsViewOver t q view) where
-  abbrev after : Tables
-  after = with_request (length t.keys) made (kept_with q given) t
+    (made : Change) (given : Reply) (whole : old.is_broken ≡ false) (over : IsOver g old t) (request : IsRequest q)
+    (few : view.keys ≤ max_keys) (is : made ≡ change_by_request (always view.period) view.key q)
+    (told : given ≡ reply_of_view view q) (accepted : judge_view view q ≡ None) (seen_so : IsViewOver t q view)
+    (none : IsNew t q) where
+  abbrev Commits : Database → Database → Type 0
+  Commits =
+      tabled.Makes (CanTake old.keys old.latest (kept_with q given)) (with_request old.keys made (kept_with q given))
 
-  keys_after : length after.keys ≡ old.keys + made_count made
+  made_is : made ≡ change_over t q
+  made_is = is ∙ changed_over t q view seen_so
+
+  given_is : given ≡ reply_over t q
+  given_is = told ∙ replied_over t q view seen_so
+
+  pub none_refuses : judgement_over t q ≡ None
+  none_refuses = sym (judged_over t q view seen_so) ∙ accepted
+
+  moment_is : (reply_over t q).moment ≡ q.moment
+  moment_is = ap (λ (x : Reply). x.moment) (sym (replied_over t q view seen_so)) ∙ decided_at view q
+
+  keys_after : length (with_accepted t q).keys ≡ old.keys + made_count made
   keys_after =
-      let grown = keys_with made (with_keys_advanced given.moment t) in
-      let same = length-map t.keys (advanced given.moment) in
+      let grown = keys_with (change_over t q) (with_keys_advanced (reply_over t q).moment t) in
+      let same = length-map t.keys (advanced (reply_over t q).moment) in
+      let count = ap made_count made_is in
       let counted = over.counted in
-      omega (arith, grown, same, counted)
+      omega (arith, grown, same, count, counted)
 
-  right_after : AreRightAt given.moment after
+  right_after : AreRightAt (reply_over t q).moment (with_accepted t q)
   right_after =
-      let right = subst (λ (c : Change). IsRightChange q.moment c) (sym is)
-      (right_change (always view.period) (subject q.command) view.key q) in
-      right_with made t given.moment (subst (λ (m : ℕ). IsRightChange m made) (sym at) right)
+      right_with (change_over t q) t (reply_over t q).moment
+      (subst (λ (m : ℕ). IsRightChange m (change_over t q)) (sym moment_is)
+      (right_change (period_over t) (subject q.command) (key_needed t q) q))
 
-  -- the decision rests on these tables
-  pub decided_over : AcceptsOver t q made given
-  decided_over = record {
-    accepted =
-        sym (judge_by view.latest view.keys (always view.period) (period_over t) view.key q seen_so.period_is
-        ∙ ap (λ (n : ℕ). judge n view.keys (period_over t) view.key q) seen_so.latest_is
-        ∙ ap (λ (n : ℕ). judge t.counts.latest n (period_over t) view.key q) seen_so.keys_are
-        ∙ ap (λ (k : Option Held). judge t.counts.latest (length t.keys) (period_over t) k q) seen_so.key_is)
-        ∙ accepted;
-    change_is =
-        is ∙ changed_by (always view.period) (period_over t) view.key q seen_so.period_is
-        ∙ ap (λ (k : Option Held). change_by_request (period_over t) k q) seen_so.key_is;
-    reply_is =
-        told ∙ ap (λ (n : ℕ). reply_to n q.moment (change_by_request (always view.period) view.key q)) seen_so.keys_are
-        ∙ ap (reply_to (length t.keys) q.moment) (sym is);
-  }
+  made_holds : (before after : Database) → Holds t before → Commits before after → Holds (with_accepted t q) after
+  made_holds before after holds makes =
+      let in_range = subst (λ (x : Reply). IsKeptReply (kept_with q x)) (sym told)
+      (decided_in_range view q request few accepted) in
+      let can : CanTake old.keys old.latest (kept_with q given) t =
+      record { counted = over.counted; right = over.right; in_range = in_range } in
+      subst (λ (u : Tables). Holds u after)
+      (λ i. with_request (sym over.counted i) (made_is i) (kept_with q (given_is i)) t) (makes t holds can)
 
-  pub over_request : {A E : Type 0} (r : Result A E)
-      → TransactsBy (tabled.Makes (CanTake old.keys old.latest (kept_with q given))
-      (with_request old.keys made (kept_with q given)))
-      (seen g old.connection) (seen g new.connection) r
-      → ((s : S) (db : Trees) → IsTrue (g.view s).is_open → g.recovers s db → db ≡ (g.view s).committed)
-      → OnOk r (new.latest ≡ given.moment) → OnOk r (new.keys ≡ old.keys + made_count made)
-      → OnOk r (IsOverWithRequest g t q given new)
-  over_request (Err e) written settled moment counted = tt
-  over_request (Ok x) written settled moment counted = record {
-    change = made;
-    decision = decided_over;
+  -- a stop leaves the tables, or those with the request
+  pub leaves_request : {A E : Type 0} (r : Result A E)
+      → TransactsBy Commits (seen g old.connection) (seen g new.connection) r → IsOpen g old → IsClean g new
+      → LeavesWithRequest g t q new
+  leaves_request r written live clean = inr (
+    record { new = none; judged = none_refuses },
+    λ trees may.
+        let early : IsClean g old = omega (arith, written.stop.clean) in
+        let kept = over.sees whole early in
+        elim (written.stop.crash clean trees may) [
+          | inl before ↦ let it = kept.leaves trees before in (it.0, inl it.1, it.2)
+          | inr after ↦ (
+            after.0,
+            inr (made_holds (seen g old.connection).now after.0 (kept.shows (live early)).holds after.1),
+            after.2,
+          )
+        ],
+  )
+
+  pub answers_request : {A E : Type 0} (x : A)
+      → TransactsBy {E = E} Commits (seen g old.connection) (seen g new.connection) (Ok x)
+      → Settles g → new.latest ≡ given.moment → new.keys ≡ old.keys + made_count made
+      → IsAnsweredOver g t q (Accepted given) new
+  answers_request x written settled moment counted = record {
+    found = None;
+    kept = none;
+    answer_is = λ i. answer_by (verdict_by (sym none_refuses i)) (given_is i);
     over = record {
-      latest_is = moment;
-      keys_are = counted ∙ ap (λ (n : ℕ). n + made_count made) (sym over.counted);
+      latest_is = moment ∙ ap (λ (x : Reply). x.moment) given_is;
+      keys_are = counted ∙ ap (λ (n : ℕ). n + made_count made) (sym over.counted)
+          ∙ ap (λ (c : Change). length t.keys + made_count c) made_is;
       counted = keys_after ∙ sym counted;
-      right = subst (λ (m : ℕ). AreRightAt m after) (sym moment) right_after;
+      right = subst (λ (m : ℕ). AreRightAt m (with_accepted t q))
+          (sym (moment ∙ ap (λ (x : Reply). x.moment) given_is)) right_after;
       sees = λ still clean.
-          let early : HasCleanDisk (seen g old.connection) = omega (arith, written.stop.clean) in
+          let early : IsClean g old = omega (arith, written.stop.clean) in
           let did = written.accepted clean in
-          let held = ((over.sees whole early).shows did.2).holds in
-          let taken = did.0 t held (record { counted = over.counted; right = over.right; in_range = in_range }) in
-          let holds : Holds after (seen g new.connection).now =
-          subst (λ (n : ℕ). Holds (with_request n made (kept_with q given) t) (seen g new.connection).now)
-          (sym over.counted) taken in
-          record {
-            shows = λ is_open. record { is_open = is_open; holds = holds; committed = did.1 };
-            leaves = λ trees may. (
-              (seen g new.connection).now,
-              holds,
-              leaves_alone g settled _ (seen g old.connection) new.connection.connection (Ok x) written clean trees may,
-            );
-          };
+          let holds = made_holds (seen g old.connection).now (seen g new.connection).now
+          ((over.sees whole early).shows did.2).holds did.0 in
+          keeps_committed g settled new.connection.connection (with_accepted t q)
+          (record { is_open = did.3; holds = holds; committed = did.1 });
     };
   }
 
--- ---- after a reply that is given again, or is refused
+-- ---- after a refusal, or a reply that is given again
 
-pub over_again : {S : Type 0} (g : store.Ghosts S) (desk : Desk S g) (t : Tables) (q : Request) (before : KeptReply)
+pub answers_refusal : {S : Type 0} (g : store.Ghosts S) (desk : Desk S g) (t : Tables) (q : Request) (view : View)
+    (refusal : Refusal) → IsOver g desk t → IsNew t q → IsViewOver t q view
+    → judge_view view q ≡ Some refusal → IsAnsweredOver g t q (Refused refusal) desk
+answers_refusal g desk t q view refusal over none seen_so refused = record {
+  found = None;
+  kept = none;
+  answer_is = ap (λ (j : Option Refusal). answer_by (verdict_by j) (reply_over t q))
+      (sym refused ∙ judged_over t q view seen_so);
+  over = over;
+}
+
+over_again : {S : Type 0} (g : store.Ghosts S) (desk : Desk S g) (t : Tables) (q : Request) (before : KeptReply)
     (new : Reply) (b : Bool) → IsOver g desk t
-    → IsOverAfter g t q (answer_by (if b then Repeats before.reply else Refuses RequestReused) new) desk
-over_again g desk t q before new true over = over
-over_again g desk t q before new false over = over
+    → IsOver g desk (tables_after t q (answer_by (if b then Repeats before.reply else Refuses RequestReused) new))
+over_again g desk t q before new b over = grind arith
+
+pub answers_again : {S : Type 0} (g : store.Ghosts S) (desk : Desk S g) (t : Tables) (q : Request)
+    (before : KeptReply) (given : Answer) → IsOver g desk t → HasRequest q.caller q.number t (Some before)
+    → given ≡ answer_by (repeated before q.command) (reply_over t q) → IsAnsweredOver g t q given desk
+answers_again g desk t q before given over there is = record {
+  found = Some before;
+  kept = there;
+  answer_is = is;
+  over = subst (λ (a : Answer). IsOver g desk (tables_after t q a)) (sym is)
+      (over_again g desk t q before (reply_over t q) (is_same_command before.command q.command) over);
+}

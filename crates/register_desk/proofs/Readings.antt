@@ -1,16 +1,18 @@
 -- Calls of a desk that only read, and calls that do nothing.
-use Rattle.std.proofs.Common.{◌≡◌, ℕ, ◌≢◌, ◌≤◌, false, cond, List, [], ◌∷◌, ◌++◌, Some, Result, Ok, Err}
-use Rattle.std.proofs.Common.{inl, inr, refl, sym, ap, subst, ◌∙◌}
+use Rattle.std.proofs.Common.{◌≡◌, ℕ, ◌≢◌, ◌≤◌, List, Result, Ok, Err}
+use Rattle.std.proofs.Common.{IsTrue, inl, inr, refl, sym, ap, subst, ◌∙◌}
 use Rattle.std.specs.Prelude.{IfErr, IfOk}
 use Rattle.sqlite_trees.specs.declared.store.Store as store
+use Rattle.sqlite.specs.Effect.{Database}
+use Rattle.sqlite.specs.Held.{Held, state}
+use Rattle.sqlite.specs.Tree.{Trees}
 use Rattle.sqlite.specs.State.{State, HasCleanDisk, IsUnchanged, Survives}
 use Rattle.sqlite.proofs.StateLemmas.{survives_then}
 use Rattle.register_store.specs.declared.counted.Counted.{Counted}
 use Rattle.register_requests.specs.declared.request.Request.{Request}
-use Rattle.register_core.specs.Fold.{history_after}
-use Rattle.register_core.specs.Verdict.{is_accepted, max_keys, verdict}
+use Rattle.register_core.specs.Verdict.{max_keys}
 use Rattle.register_store.specs.declared.error.StoreError.{StoreError}
-use Rattle.register_store.specs.declared.error.StoreError.TheVariants.{Database, Memory, NoRegister}
+use Rattle.register_store.specs.declared.error.StoreError.TheVariants.{Database as Refused, Memory, NoRegister}
 use Rattle.register_store.specs.TableReads.{seen, Calls, HoldsWhereOpen, KeepsSight, ReadsBy}
 use Rattle.register_store.proofs.Readings.{survives_none}
 use Rattle.register_store.specs.Tables.{Tables}
@@ -21,7 +23,7 @@ use Rattle.register_desk.specs.declared.end.End.TheVariants as ends
 use Rattle.register_desk.specs.Desk.{IsWhole, IsBroken, IsClean, EndsBy, ChangesNothing, KeepsCounts}
 use Rattle.register_desk.specs.Within.DeskCalls.{KeepsAll, LooksUp}
 use Rattle.register_store.specs.TableChanges.{AreRightAt}
-use Rattle.register_desk.specs.Register.{tables, IsOver, StandsFor, Sees, Keeps, Leaves}
+use Rattle.register_desk.specs.Register.{tables, HasCommitted, IsOver, StandsFor, Sees, Keeps, Leaves}
 
 -- after two calls of which neither leaves anything new, a stop leaves what it left
 survives_both : (a b c : State) → Survives a b (λ _. ⊥) → Survives b c (λ _. ⊥) → Survives a c (λ _. ⊥)
@@ -34,6 +36,22 @@ still_leaves t before after leaves survives clean trees may = elim (survives.cra
   | inl left ↦ leaves trees left
   | inr none ↦ absurd none
 ]
+
+module _ {S : Type 0} (g : store.Ghosts S) where
+  -- while a store is open, a stop leaves what it committed
+  abbrev pub Settles : Type 0
+  Settles = (s : S) (db : Trees) → IsTrue (g.view s).is_open → g.recovers s db → db ≡ (g.view s).committed
+
+  pub keeps_committed : Settles → (connection : Held S) (t : Tables) → HasCommitted t (state g connection)
+      → Keeps t (state g connection)
+  keeps_committed settled connection t shown = record {
+    shows = λ is_open. shown;
+    leaves = λ trees may. (
+      (state g connection).now,
+      shown.holds,
+      settled connection.store trees shown.is_open may ∙ ap (λ (db : Database). db.trees) shown.committed,
+    );
+  }
 
 -- where the connection is open, the tables that it keeps are held
 pub seen_where_open : (t : Tables) (s : State) → Keeps t s → HoldsWhereOpen t s
@@ -60,17 +78,7 @@ abbrev pub called : {S : Type 0} {g : store.Ghosts S} (desk : Desk S g) → Coun
 called desk after within = record desk { connection = after; within = within }
 
 module _ {S : Type 0} (g : store.Ghosts S) where
-  -- what a desk stands for is a matter of its counts and of the tables that it sees
-  pub stands_still : (old new : Desk S g) → ChangesNothing g old new → (h : List Request) → StandsFor g old h
-      → StandsFor g new h
-  stands_still old new nothing h stands = record {
-    lawful = stands.lawful;
-    latest_is = nothing.counts.latest ∙ stands.latest_is;
-    keys_are = nothing.counts.keys ∙ stands.keys_are;
-    sees = nothing.rows (tables h) stands.sees;
-  }
-
-  -- and so is being over tables
+  -- which tables a desk is over is a matter of its counts and of the tables that it sees
   pub over_still : (old new : Desk S g) → ChangesNothing g old new → (t : Tables) → IsOver g old t → IsOver g new t
   over_still old new nothing t over = record {
     latest_is = nothing.counts.latest ∙ over.latest_is;
@@ -80,11 +88,13 @@ module _ {S : Type 0} (g : store.Ghosts S) where
     sees = nothing.rows t over.sees;
   }
 
-  -- after a request that is not accepted the history is the same
-  pub stands_unaccepted : (desk : Desk S g) (h : List Request) (q : Request) → is_accepted (verdict h q) ≡ false
-      → StandsFor g desk h → StandsFor g desk (history_after h (Some q))
-  stands_unaccepted desk h q refused stands =
-      subst (StandsFor g desk) (sym (ap (λ b. cond b (h ++ q ∷ []) h) refused)) stands
+  -- and so is what it stands for
+  pub stands_still : (old new : Desk S g) → ChangesNothing g old new → (h : List Request) → StandsFor g old h
+      → StandsFor g new h
+  stands_still old new nothing h stands = record {
+    lawful = stands.lawful;
+    over = over_still old new nothing (tables h) stands.over;
+  }
 
   pub nothing_done : (desk : Desk S g) → ChangesNothing g desk desk
   nothing_done desk = record {
@@ -202,7 +212,7 @@ module _ {S : Type 0} (g : store.Ghosts S) where
 -- only want of memory leaves a desk whole
 whole_is_memory : {S : Type 0} {g : store.Ghosts S} (new : Desk S g) (error : StoreError)
     → (error ≢ Memory → IsBroken new) → IsWhole new → error ≡ Memory
-whole_is_memory new (Database e) broken whole = absurd (let is = broken (λ same. cc) in let both = sym is ∙ whole in cc)
+whole_is_memory new (Refused e) broken whole = absurd (let is = broken (λ same. cc) in let both = sym is ∙ whole in cc)
 whole_is_memory new Memory broken whole = refl
 whole_is_memory new NoRegister broken whole = absurd (let is = broken (λ same. cc) in let both = sym is ∙ whole in cc)
 
@@ -211,7 +221,7 @@ ends_by_error : {S : Type 0} {g : store.Ghosts S} (old new : Desk S g) (error : 
     → IsWhole old
     → (error ≡ Memory → (end ≡ ends.Memory) × IsWhole new) → (error ≢ Memory → (end ≡ ends.Store) × IsBroken new)
     → EndsBy old new end
-ends_by_error old new (Database e) end whole memory refused =
+ends_by_error old new (Refused e) end whole memory refused =
     let it = refused (λ same. cc) in subst (EndsBy old new) (sym it.0) (whole, it.1)
 ends_by_error old new Memory end whole memory refused =
     let it = memory refl in subst (EndsBy old new) (sym it.0) (whole, it.1)

@@ -1,27 +1,23 @@
 -- What the calls of a desk leave.
-use Rattle.std.specs.Prelude.{◌≡◌, ◌⊎◌, ◌<◌, ◌≤◌, ℕ, true, false, List, [], ◌∷◌, length, None, Some, Result, MatchResult}
-use Rattle.std.specs.Prelude.{IfErr, IfOk, IsTrue, OnErr, OnOk}
+use Rattle.std.specs.Prelude.{◌≡◌, ◌⊎◌, ◌<◌, ◌≤◌, ℕ, true, false, List, [], ◌∷◌, Option, None, Some, Result}
+use Rattle.std.specs.Prelude.{IfErr, IfOk, IsTrue, MatchResult, OnErr, OnOk}
 use Rattle.sqlite_trees.specs.declared.store.Store.{Ghosts}
 use Rattle.sqlite.specs.State.{HasCleanDisk, Survives}
 use Rattle.sqlite.specs.Held.{Held as Connection}
 use Rattle.register_core.specs.declared.answer.Answer.{Answer}
 use Rattle.register_core.specs.declared.answer.Answer.TheVariants.{Accepted, Repeated, Refused}
-use Rattle.register_core.specs.declared.change.Change.{Change}
-use Rattle.register_core.specs.declared.reply.Reply.{Reply}
+use Rattle.register_core.specs.declared.kept_reply.KeptReply.{KeptReply}
 use Rattle.register_requests.specs.declared.request.Request.{Request}
-use Rattle.register_core.specs.Decision.{change_by_request, reply_to}
-use Rattle.register_core.specs.KeptReply.{kept_with}
 use Rattle.register_core.specs.Fold.{history}
-use Rattle.register_core.specs.Verdict.{answer, judge}
+use Rattle.register_core.specs.Verdict.{answer, answer_by}
 use Rattle.register_requests.specs.Request.{IsRequest}
 use Rattle.register_store.specs.Tables.{Tables}
-use Rattle.register_store.specs.TableReads.{Calls, seen}
-use Rattle.register_desk.specs.TablesView.{key_needed, period_over}
+use Rattle.register_store.specs.TableReads.{Calls, HasRequest, seen}
+use Rattle.register_desk.specs.TablesView.{judgement_over, reply_over, tables_after, verdict_over, with_accepted}
 use Rattle.register_desk.specs.declared.desk.Desk.{Desk}
 use Rattle.register_desk.specs.declared.end.End.{End}
 use Rattle.register_desk.specs.declared.end.End.TheVariants.{Memory, Store, Broken, ReadFault, WriteFault, BadHeader}
 use Rattle.register_desk.specs.Register.{IsOver, Sees, Leaves, LeavesOneOf, LeavesEitherOf, StandsFor}
-use Rattle.register_store.specs.AcceptedRequest.{with_request}
 
 module _ {S : Type 0} {g : Ghosts S} where
   -- no call of the database was refused
@@ -98,36 +94,29 @@ RepeatsWithin latest keys (Refused refusal) = Unit {0}
 abbrev pub LeavesEither : {S : Type 0} → (g : Ghosts S) → List Request → List Request → Desk S g → Type 0
 LeavesEither g h other desk = LeavesOneOf h other (seen g desk.connection)
 
--- a decision that rests on what these tables count, and hold of the key that the request names, accepts it with this
--- change and this reply
-pub record AcceptsOver (t : Tables) (q : Request) (change : Change) (reply : Reply) : Type 0 where
-  pub accepted : judge t.counts.latest (length t.keys) (period_over t) (key_needed t q) q ≡ None
-  pub change_is : change ≡ change_by_request (period_over t) (key_needed t q) q
-  pub reply_is : reply ≡ reply_to (length t.keys) q.moment change
+-- The answer to the request over these tables: what they keep under its caller and number decides, and where they keep
+-- nothing there the judgement. Then the desk is over the tables after it.
+pub record IsAnsweredOver {S : Type 0} (g : Ghosts S) (t : Tables) (q : Request) (given : Answer) (desk : Desk S g)
+    : Type 0 where
+  pub found : Option KeptReply
+  pub kept : HasRequest q.caller q.number t found
+  pub answer_is : given ≡ answer_by (verdict_over t q found) (reply_over t q)
+  pub over : IsOver g desk (tables_after t q given)
 
--- The request was accepted with this reply: the desk is over what the change makes of the tables, and its row is kept.
-pub record IsOverWithRequest {S : Type 0} (g : Ghosts S) (t : Tables) (q : Request) (reply : Reply)
-    (desk : Desk S g) : Type 0 where
-  pub change : Change
-  pub decision : AcceptsOver t q change reply
-  pub over : IsOver g desk (with_request (length t.keys) change (kept_with q reply) t)
+-- these tables keep nothing under the request's caller and number
+abbrev pub IsNew : Tables → Request → Type 0
+IsNew t q = HasRequest q.caller q.number t None
 
--- after an answer to the request, the desk is over the tables that it was over, but for an acceptance
-abbrev pub IsOverAfter : {S : Type 0} → (g : Ghosts S) → Tables → Request → Answer → Desk S g → Type 0
-IsOverAfter g t q (Accepted reply) desk = IsOverWithRequest g t q reply desk
-IsOverAfter g t q (Repeated first) desk = IsOver g desk t
-IsOverAfter g t q (Refused refusal) desk = IsOver g desk t
-
--- the request is to be accepted, and a stop leaves these tables or what its change makes of them
-pub record LeavesAccepted {S : Type 0} (g : Ghosts S) (t : Tables) (q : Request) (desk : Desk S g) : Type 0 where
-  pub change : Change
-  pub reply : Reply
-  pub decision : AcceptsOver t q change reply
-  pub leaves : LeavesEitherOf t (with_request (length t.keys) change (kept_with q reply) t) (seen g desk.connection)
+-- the request is to be accepted over these tables: it is new to them, and no refusal holds
+pub record IsAcceptedOver (t : Tables) (q : Request) : Type 0 where
+  pub new : IsNew t q
+  pub judged : judgement_over t q ≡ None
 
 -- a stop leaves these tables, or them with the request where that is to be accepted
 abbrev pub LeavesWithRequest : {S : Type 0} → (g : Ghosts S) → Tables → Request → Desk S g → Type 0
-LeavesWithRequest g t q desk = Leaves t (seen g desk.connection) ⊎ LeavesAccepted g t q desk
+LeavesWithRequest g t q desk =
+    Leaves t (seen g desk.connection)
+    ⊎ (IsAcceptedOver t q × LeavesEitherOf t (with_accepted t q) (seen g desk.connection))
 
 -- the latest moment and the number of keys are as they were
 pub record KeepsCounts {S : Type 0} {g : Ghosts S} (old new : Desk S g) : Type 0 where
@@ -142,12 +131,13 @@ pub record ChangesNothing {S : Type 0} (g : Ghosts S) (old new : Desk S g) : Typ
   pub rows : (t : Tables) → Sees g t old → Sees g t new
   pub survives : Survives (seen g old.connection) (seen g new.connection) (λ _. ⊥)
 
--- What applying a request does over tables, whatever history these are of if any: an accepted request makes one change
--- of them, nothing else does, and after the end 31 a stop leaves them, or them with the request.
+-- What applying a request does over tables, whatever history these are of if any: they answer it, and an accepted
+-- request makes one change of them; nothing else does, and after the end 31 a stop leaves them, or them with the
+-- request.
 pub record AppliesOver {S : Type 0} (g : Ghosts S) (q : Request) (old new : Desk S g) (result : Result Answer End)
     : Type 0 where
   pub over : (t : Tables) → IsOver g old t → IsRequest q → IsClean g new
-      → IfOk result (λ given. IsOverAfter g t q given new)
+      → IfOk result (λ given. IsAnsweredOver g t q given new)
   pub over_still : (t : Tables) → IsOver g old t → OnErr result (IsOver g new t)
   pub tables : (t : Tables) → IsOver g old t → IsRequest q → IsClean g new
       → IfErr result (λ end. end ≡ Store → LeavesWithRequest g t q new)

@@ -1,17 +1,28 @@
 -- A key by itself, and what a decision sees over tables, of a key and of the usage periods, whatever history these
--- are of if any.
-use Rattle.std.specs.Prelude.{ℕ, nat_lt, [], Option, None, unwrap_or, if◌then◌else◌}
+-- are of if any; and what it comes to.
+use Rattle.std.specs.Prelude.{ℕ, nat_lt, [], length, Option, None, unwrap_or, if◌then◌else◌}
+use Rattle.std.specs.List.{cons_option}
 use Rattle.std.specs.Option.{option_and_then, option_map}
 use Rattle.period_core.specs.declared.key_type.KeyType.{KeyType}
 use Rattle.period_core.specs.Period.{Period, periods}
+use Rattle.register_core.specs.declared.answer.Answer.{Answer}
+use Rattle.register_core.specs.declared.answer.Answer.TheVariants.{Accepted, Repeated, Refused}
+use Rattle.register_core.specs.declared.change.Change.{Change}
 use Rattle.register_core.specs.declared.key.Key.{Key}
+use Rattle.register_core.specs.declared.kept_reply.KeptReply.{KeptReply}
+use Rattle.register_core.specs.declared.reply.Refusal.{Refusal}
+use Rattle.register_core.specs.declared.reply.Reply.{Reply}
 use Rattle.register_requests.specs.declared.request.Command.{Command}
 use Rattle.register_requests.specs.declared.request.Request.{Request}
 use Rattle.register_core.specs.declared.view.Held.{Held}
 use Rattle.register_requests.specs.CommandRule.{looks_at_custody, looks_at_need}
 use Rattle.register_requests.specs.Quorum.{min_approvals}
+use Rattle.register_core.specs.Decision.{change_by_request, reply_to}
+use Rattle.register_core.specs.KeptReply.{kept_with}
 use Rattle.register_core.specs.Settings.{need_at, period_at}
+use Rattle.register_core.specs.Verdict.{Verdict, judge, unless_kept, verdict_by}
 use Rattle.register_requests.specs.Subject.{named}
+use Rattle.register_store.specs.AcceptedRequest.{with_request}
 use Rattle.register_store.specs.TableChanges.{key_at}
 use Rattle.register_store.specs.TableReads.{loaded}
 use Rattle.register_store.specs.Tables.{Tables}
@@ -59,3 +70,31 @@ key_needed t q =
 -- the usage period of a type: the one that is set, or the table's of this register
 abbrev pub period_over : Tables → KeyType → Period
 period_over t kind = unwrap_or (period_at kind t.periods) (periods kind)
+
+-- ---- what comes of a request
+
+-- the judgement that rests on what these tables count, and hold of the key that the request names
+abbrev pub judgement_over : Tables → Request → Option Refusal
+judgement_over t q = judge t.counts.latest (length t.keys) (period_over t) (key_needed t q) q
+
+-- the verdict, where this is kept under the request's caller and number, if anything is
+abbrev pub verdict_over : Tables → Request → Option KeptReply → Verdict
+verdict_over t q found = unless_kept (cons_option found []) q.command (verdict_by (judgement_over t q))
+
+-- what the request changes where it is accepted
+abbrev pub change_over : Tables → Request → Change
+change_over t q = change_by_request (period_over t) (key_needed t q) q
+
+-- what it is answered then
+abbrev pub reply_over : Tables → Request → Reply
+reply_over t q = reply_to (length t.keys) q.moment (change_over t q)
+
+-- the tables with its change, and with its row, which has that reply
+abbrev pub with_accepted : Tables → Request → Tables
+with_accepted t q = with_request (length t.keys) (change_over t q) (kept_with q (reply_over t q)) t
+
+-- the tables after an answer to the request: only an acceptance changes them
+abbrev pub tables_after : Tables → Request → Answer → Tables
+tables_after t q (Accepted reply) = with_accepted t q
+tables_after t q (Repeated first) = t
+tables_after t q (Refused refusal) = t

@@ -16,8 +16,9 @@ use Rattle.register_desk.specs.declared.desk.Desk.{Desk}
 use Rattle.register_desk.specs.declared.end.End.{End}
 use Rattle.register_desk.specs.declared.end.End.TheVariants.{Memory, Store, Broken, ReadFault, WriteFault, BadHeader}
 use Rattle.register_desk.specs.Desk.{ChangesNothing, EndsBy, GoesOn, IsBroken, IsClean, IsWhole, LeavesEither}
-use Rattle.register_desk.specs.Register.{StandsFor, tables}
+use Rattle.register_desk.specs.Register.{StandsFor}
 use Rattle.register_desk.proofs.Found.{leaves_alone, leaves_still}
+use Rattle.register_desk.proofs.Readings.{stands_still}
 use Rattle.http_messages.specs.declared.asked.Asked.{Asked}
 use Rattle.http_messages.specs.declared.asked.Asked.TheVariants.{Reject}
 use Rattle.http_messages.specs.declared.asked.Rejection.{Rejection}
@@ -36,15 +37,6 @@ module _ {S : Type 0} (g : Ghosts S) where
 
   pub leaves_second : (h other : List Request) (desk : Desk S g) → LeavesEither g other other desk → LeavesEither g h other desk
   leaves_second h other desk leaves = λ trees left. let (db, holds, is) = leaves trees left in (db, inr (elim holds [ inl one ↦ one | inr two ↦ two ]), is)
-
-  -- a call that changed nothing leaves the desk standing for what it stood for
-  pub stands_still : (h : List Request) (old new : Desk S g) → ChangesNothing g old new → StandsFor g old h → StandsFor g new h
-  stands_still h old new reads s = record {
-    lawful = s.lawful;
-    latest_is = reads.counts.latest ∙ s.latest_is;
-    keys_are = reads.counts.keys ∙ s.keys_are;
-    sees = reads.rows (tables h) s.sees;
-  }
 
   -- a call of the database that a broken desk refuses ends by that
   broken_ends : (old new : Desk S g) (end : End) → EndsBy old new end → IsBroken old → end ≡ Broken
@@ -86,7 +78,7 @@ module _ {S : Type 0} (g : Ghosts S) where
       clean = reads.clean;
       goes_on = both_whole old new both.0 both.1;
       whole = λ uses. both.0;
-      stands = λ h s clean. subst (StandsFor g new) (sym (question.same h)) (stands_still h old new reads s);
+      stands = λ h s clean. subst (StandsFor g new) (sym (question.same h)) (stands_still g old new reads h s);
       leaves = λ h s whole clean. subst (λ k. LeavesEither g h k new) (sym (question.same h)) (leaves_still g h old new reads s whole clean);
     }
 
@@ -144,7 +136,7 @@ module _ {S : Type 0} (g : Ghosts S) where
     pub question_ends : (end : End) (result : Result (String Global) End) → IsQuestion → EndsBy old new end → ChangesNothing g old new
         → result ≡ Err end → Acts g moment asked old new result
     question_ends end result question ends reads is =
-        acts_end end result question.uses question.asks reads.clean ends (λ h s. stands_still h old new reads s)
+        acts_end end result question.uses question.asks reads.clean ends (λ h s. stands_still g old new reads h s)
         (λ h s whole clean. subst (λ k. LeavesEither g h k new) (sym (question.same h))
         (leaves_still g h old new reads s whole clean)) (inl reads) is
 

@@ -1,10 +1,7 @@
 -- What the private calls of a desk say of one another.
-use Rattle.std.specs.Prelude.{◌≡◌, ℕ, List, [], OnOk, Option, Result}
-use Rattle.std.specs.List.{cons_option}
+use Rattle.std.specs.Prelude.{◌≡◌, ℕ, List, OnOk, Result}
 use Rattle.sqlite_trees.specs.declared.store.Store.{Ghosts}
-use Rattle.register_core.specs.declared.kept_reply.KeptReply.{KeptReply}
 use Rattle.register_requests.specs.declared.request.Request.{Request}
-use Rattle.register_core.specs.KeptReply.{kept, kept_under}
 use Rattle.register_desk.specs.declared.desk.Desk.{Desk}
 use Rattle.register_desk.specs.declared.end.End.{End}
 use Rattle.register_desk.specs.Desk.{ChangesNothing, Ends, IsClean, IsOpen, KeepsCounts, TakesSteps}
@@ -24,11 +21,3 @@ pub record LooksUp {S T : Type 0} (g : Ghosts S) (most : ℕ) (old new : Desk S 
   pub reads : ChangesNothing g old new
   pub steps : (h : List Request) → StandsFor g old h → IsClean g new → TakesSteps most old new
   pub opened : OnOk result (IsOpen g new)
-
--- nothing is kept under the request's caller and number
-abbrev pub IsNew : List Request → Request → Type 0
-IsNew h q = kept_under q.caller q.number (kept h) ≡ []
-
--- what is kept under a caller and a number, if anything is
-abbrev pub IsKeptUnder : List Request → List ℕ → ℕ → Option KeptReply → Type 0
-IsKeptUnder h caller number found = kept_under caller number (kept h) ≡ cons_option found []

@@ -7,26 +7,25 @@ use register_store::{commit_request, find_request};
 use sqlite::Alter;
 
 impl<S: Alter> Desk<S> {
-    ghost use Rattle.std.specs.Prelude.{false, ◌≡◌, ◌≢◌, List, [], Ok, IfOk, IfErr, true, ◌≤◌, ◌+◌};
-    ghost use Rattle.std.specs.Prelude.{◌∷◌, Some, Err, OnOk, OnErr, IfSome};
-    ghost use Rattle.register_core.specs.Fold.{history};
+    ghost use Rattle.std.specs.Prelude.{false, ◌≡◌, ◌≢◌, List, Ok, IfOk, IfErr, true, ◌≤◌, ◌+◌};
+    ghost use Rattle.std.specs.Prelude.{Err, OnOk, OnErr, IfSome};
     ghost use Rattle.register_requests.specs.declared.request.Request.{Request};
     ghost use Rattle.register_store.specs.TableChanges.{Makes};
-    ghost use Rattle.register_store.specs.TableReads.{seen};
+    ghost use Rattle.register_store.specs.TableReads.{HasRequest, seen};
     ghost use Rattle.register_store.specs.Tables.{Tables};
     ghost use Rattle.register_requests.specs.CommandRule.{looks_at_custody};
     ghost use Rattle.register_desk.specs.Desk.{IsBroken, IsClean, IsWhole, keys_of, latest_of};
-    ghost use Rattle.register_desk.specs.Desk.{ChangesNothing, Ends, IsOpen, IsOverAfter};
-    ghost use Rattle.register_desk.specs.Desk.{KeepsCounts, LeavesEither, LeavesWithRequest};
+    ghost use Rattle.register_desk.specs.Desk.{ChangesNothing, Ends, IsAnsweredOver, IsOpen};
+    ghost use Rattle.register_desk.specs.Desk.{IsNew, KeepsCounts, LeavesWithRequest};
     ghost use Rattle.register_desk.specs.Desk.{RepeatsWithin, TakesSteps};
     ghost use Rattle.register_desk.specs.Desk.{AppliesOver, AppliesTo};
-    ghost use Rattle.register_desk.specs.Within.DeskCalls.{IsKeptUnder, IsNew, LooksUp};
-    ghost use Rattle.register_desk.specs.Register.{IsOver, StandsFor, tables};
+    ghost use Rattle.register_desk.specs.Within.DeskCalls.{LooksUp};
+    ghost use Rattle.register_desk.specs.Register.{IsOver, Sees, StandsFor};
     ghost use Rattle.sql_steps.specs.Steps.{TransactsBy};
     ghost use Rattle.register_core.specs.Answer.{UnlessAccepted};
     ghost use Rattle.register_core.specs.KeptReply.{kept_with};
     ghost use Rattle.register_requests.specs.Request.{IsRequest, is_in_range};
-    ghost use Rattle.register_core.specs.Verdict.{answer, max_keys};
+    ghost use Rattle.register_core.specs.Verdict.{max_keys};
     ghost use Rattle.register_core.specs.declared.reply.Reply.{Reply};
     ghost use Rattle.register_store.specs.Change.{made_count};
     ghost use Rattle.register_store.specs.AcceptedRequest.{CanTake, with_request};
@@ -45,8 +44,8 @@ impl<S: Alter> Desk<S> {
         ensures clean { IsClean S.Store self.new → IsClean S.Store self.old }
         // Over a history: the answer is the verdict, and the desk stands for what comes of it.
         ensures to { AppliesTo S.Store request.now 51 self.old self.new result }
-        // Over tables of no history too, an accepted request makes one change of them, and nothing
-        // else does.
+        // Over tables of no history too what they keep under the caller and number decides, or
+        // else a judgement by them. An accepted request makes one change of them; nothing else does.
         ensures over { AppliesOver S.Store request.now self.old self.new result }
         ensures no_request { is_in_range request.now.command ≡ false → IsWhole self.old
             → result ≡ Ok (Answer.Refused Refusal.BadLine) }
@@ -85,22 +84,19 @@ impl<S: Alter> Desk<S> {
         ensures memory { result ≡ Err End.Memory → looks_at_custody request.now.command ≡ true }
         ensures ends { Ends self.old self.new result }
         ensures clean { IsClean S.Store self.new → IsClean S.Store self.old }
-        ensures answer { (h : List Request) → StandsFor S.Store self.old h → IsNew h request.now
-            → IsClean S.Store self.new → IfOk result (λ given. given ≡ answer h request.now) }
-        ensures stands { (h : List Request) → StandsFor S.Store self.old h → IsNew h request.now
+        ensures over { (t : Tables) → IsNew t request.now → IsOver S.Store self.old t
             → IsRequest request.now → IsClean S.Store self.new
-            → OnOk result (StandsFor S.Store self.new (history h (Some request.now ∷ []))) }
-        ensures err { (h : List Request) → StandsFor S.Store self.old h
-            → OnErr result (StandsFor S.Store self.new h) }
+            → IfOk result (λ given. IsAnsweredOver S.Store t request.now given self.new) }
+        ensures still { (t : Tables) → IsOver S.Store self.old t
+            → OnErr result (IsOver S.Store self.new t) }
+        ensures leaves { (t : Tables) → IsNew t request.now → IsOver S.Store self.old t
+            → IsRequest request.now → IsClean S.Store self.new
+            → IfErr result (λ end. end ≡ End.Store
+            → LeavesWithRequest S.Store t request.now self.new) }
         ensures nothing { IfOk result (λ given.
             UnlessAccepted given (ChangesNothing S.Store self.old self.new)) }
         ensures unchanged { IfErr result (λ end. end ≢ End.Store
             → ChangesNothing S.Store self.old self.new) }
-        ensures store { (h : List Request) → StandsFor S.Store self.old h → IsNew h request.now
-            → IsRequest request.now → IsClean S.Store self.new
-            → IfErr result (λ end. end ≡ End.Store
-            → LeavesEither S.Store h (history h (Some request.now ∷ [])) self.new) }
-        ensures applies { AppliesOver S.Store request.now self.old self.new result }
         ensures steps { (h : List Request) → StandsFor S.Store self.old h
             → IsClean S.Store self.new → TakesSteps 49 self.old self.new }
     {
@@ -152,8 +148,8 @@ impl<S: Alter> Desk<S> {
         requires { IsWhole self.old }
         ensures looks { LooksUp S.Store 2 self.old self.new result }
         ensures no_memory { result ≢ Err End.Memory }
-        ensures kept { (h : List Request) → StandsFor S.Store self.old h → IsClean S.Store self.new
-            → IfOk result (IsKeptUnder h caller.now number) }
+        ensures kept { (t : Tables) → Sees S.Store t self.old → IsClean S.Store self.new
+            → IfOk result (HasRequest caller.now number t) }
         ensures within { IfOk result (λ found. IfSome found (λ kept.
             (kept.reply.moment ≤ latest_of self.old) × (kept.reply.key ≤ keys_of self.old))) }
     {

@@ -1,7 +1,5 @@
 use Rattle.std.proofs.Common.{rules}
-use Rattle.register_desk.specs.Within.DeskCalls.{IsKeptUnder}
-use Rattle.register_desk.specs.Register.{tables}
-use Rattle.register_desk.proofs.Keeping.{kept_is}
+use Rattle.register_store.specs.TableReads.{HasRequest}
 use Rattle.register_desk.proofs.Readings.{found_in, looks_well}
 use Rattle.register_desk.proofs.desk.Desk.look_up_kept_reply.Goals as goal
 
@@ -11,11 +9,10 @@ returns-in-Ok-clause-looks g c =
     (λ h stands clean. c.find_request.ensures.counted)
 
 pub returns-in-Ok-clause-kept : goal.returns-in-Ok-clause-kept
-returns-in-Ok-clause-kept g c h stands clean =
-    let found = found_in g.S.Store _ c.args.self.now c.find_request.new.connection _ c.requires
-    c.in-Ok.ensures.reads (tables h) stands.sees clean in
-    let kept : IsKeptUnder h c.args.caller.now c.args.number c.in-Ok.found =
-    kept_is h stands.lawful c.args.caller.now c.args.number c.in-Ok.found found in
+returns-in-Ok-clause-kept g c t sees clean =
+    let reads = c.in-Ok.ensures.reads in
+    let found : HasRequest c.args.caller.now c.args.number t c.in-Ok.found =
+    found_in g.S.Store _ c.args.self.now c.find_request.new.connection _ c.requires reads t sees clean in
     search rules fits 100
 
 pub returns-in-Ok-clause-within : goal.returns-in-Ok-clause-within

@@ -1,6 +1,5 @@
-use Rattle.std.proofs.Common.{sym, ◌∙◌, arith}
+use Rattle.std.proofs.Common.{arith}
 use Rattle.register_desk.specs.Register.{tables}
-use Rattle.register_desk.proofs.Grows.{keys_counted}
 use Rattle.register_desk.proofs.Readings.{sees_nothing}
 use Rattle.register_desk.proofs.RowScan.{none_after}
 use Rattle.register_desk.proofs.desk.Desk.next_row_by_number.Goals as goal
@@ -11,7 +10,7 @@ returns-in_err-key-clause-reads g c =
 
 pub returns-then-last-self-clause-next : goal.returns-then-last-self-clause-next
 returns-then-last-self-clause-next g c h stands whole clean =
-    none_after (tables h) c.args.last c.args.self.now.keys (keys_counted h ∙ sym stands.keys_are) (omega arith)
+    none_after (tables h) c.args.last c.args.self.now.keys stands.over.counted (omega arith)
 
 pub returns-in-Some-clause-reads : goal.returns-in-Some-clause-reads
 returns-in-Some-clause-reads g c = sees_nothing g.S.Store _ _ _ _ _ c.each_key.ensures.reads c.each_key.ensures.sight

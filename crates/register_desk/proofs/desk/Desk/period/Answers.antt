@@ -14,4 +14,4 @@ found_so p other (Err end) same is = tt
 pub returns-clause-found : goal.returns-clause-found
 returns-clause-found g c h stands clean =
     found_so _ _ c.look_up_period.result (period_is h c.args.kind)
-    (c.look_up_period.ensures.found (tables h) stands.sees clean)
+    (c.look_up_period.ensures.found (tables h) stands.over.sees clean)
