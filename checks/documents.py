@@ -340,9 +340,9 @@ def call_faults():
 def counts_of_code():
     tables = re.search(r"TABLES: \[TableName; (\d+)\]", read("crates/register_store/src/table.rt"))
     kind = read("crates/register_requests/src/command_fields.rt")
-    kinds = re.search(r"ALL: \[CommandKind; (\d+)\]", kind)
+    kinds = re.search(r"ALL: &'static \[CommandKind\] = &\[(.*?)\];", kind, re.S)
     steps = re.search(r"AppliesTo S\.Store request\.now (\d+)", read("crates/register_desk/src/desk/applying.rt"))
-    return int(tables.group(1)), int(kinds.group(1)), int(steps.group(1))
+    return int(tables.group(1)), kinds.group(1).count("CommandKind::"), int(steps.group(1))
 
 
 def names_of_code():
