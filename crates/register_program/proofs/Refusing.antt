@@ -93,19 +93,20 @@ module _ {S : Type 0} (g : Ghosts S) (may_leave : S → Image → Type 0) (found
   }
 
   pub opens_none : (P : Refused S → Type 0) (result : Result (Desk S g) (Refused S)) → IsErrAnd result P
-      → IfErr result (Refuses g may_leave found) → OpensFile g may_leave found result
+      → ((refused : Refused S) → P refused → Refuses g may_leave found refused) → OpensFile g may_leave found result
   opens_none P (Ok desk) is refuses = absurd is
-  opens_none P (Err refused) is refuses = opens_refused refused refuses
+  opens_none P (Err refused) is refuses = opens_refused refused (refuses refused is)
 
   -- no register was made
   pub made_none : (P : Refused S → Type 0) (result : Result (Closed S) (Refused S)) → IsErrAnd result P
-      → IfErr result (RefusesMaking g may_leave found) → MakesRegister g may_leave found result
+      → ((refused : Refused S) → P refused → RefusesMaking g may_leave found refused)
+      → MakesRegister g may_leave found result
   made_none P (Ok files) is refuses = absurd is
   made_none P (Err refused) is refuses = record {
     leaves = λ none. tt;
     made = tt;
     spares = λ h holds. tt;
-    refuses = refuses;
+    refuses = refuses refused is;
   }
 
   -- files that were not opened at all
@@ -118,16 +119,17 @@ module _ {S : Type 0} (g : Ghosts S) (may_leave : S → Image → Type 0) (found
   pub opens_closed : (refusal : OpenRefusal) (result : Result (Desk S g) (Refused S))
       → IsErrAnd result (λ refused. refused ≡ record { refusal = refusal; store = None }) → RefusesNoTable refusal
       → OpensFile g may_leave found result
-  opens_closed refusal (Ok x) is none = absurd is
-  opens_closed refusal (Err refused) is none = opens_refused refused (refuses_closed refusal refused is none)
+  opens_closed refusal result is none =
+      opens_none (λ refused. refused ≡ record { refusal = refusal; store = None }) result is
+      (λ refused same. refuses_closed refusal refused same none)
 
   pub made_closed : (refusal : OpenRefusal) (result : Result (Closed S) (Refused S))
       → IsErrAnd result (λ refused. refused ≡ record { refusal = refusal; store = None }) → RefusesNoTable refusal
       → MakesRegister g may_leave found result
-  made_closed refusal (Ok x) is none = absurd is
-  made_closed refusal (Err refused) is none = subst (λ r. MakesRegister g may_leave found (Err r)) (sym is)
-      (made_none (λ r. Unit {0}) (Err (record { refusal = refusal; store = None })) tt
-      (record { cause = tt; spares = λ h holds. tt; nothing = λ nothing. tt; unopened = λ same. none }))
+  made_closed refusal result is none =
+      made_none (λ refused. refused ≡ record { refusal = refusal; store = None }) result is
+      (λ refused same. subst (RefusesMaking g may_leave found) (sym same)
+      (record { cause = tt; spares = λ h holds. tt; nothing = λ nothing. tt; unopened = λ closed. none }))
 
   module _ (opens_again : (it : S) → IsTrue (g.view it).is_numbered → AreDatabases (g.recovers it) → (left : Image)
       → may_leave it left → ∥ ((db : Trees) × (g.recovers it db) × HoldsDatabase left db) ∥₁)
@@ -211,11 +213,9 @@ module _ {S : Type 0} (g : Ghosts S) (may_leave : S → Image → Type 0) (found
         left_as_registered it closes clean h lawful holds,
       )
 
-      pub refuses_opened : {X : Type 0} (unopened : Unopened S) (result : Result X (Refused S))
-          → IsErrAnd result (GivesBack g unopened) → unopened.refusal ≡ refusal → unopened.connection ≡ new
-          → IfErr result (Refuses g may_leave found)
-      refuses_opened unopened (Ok x) gives was is = absurd gives
-      refuses_opened unopened (Err refused) gives was is =
+      pub refuses_opened : (unopened : Unopened S) (refused : Refused S) → GivesBack g unopened refused
+          → unopened.refusal ≡ refusal → unopened.connection ≡ new → Refuses g may_leave found refused
+      refuses_opened unopened refused gives was is =
           let closes = subst (λ (k : Held S). ClosesAs g k gives.store) is gives.closes in
           let same = gives.same ∙ was in
           record {
@@ -264,11 +264,9 @@ module _ {S : Type 0} (g : Ghosts S) (may_leave : S → Image → Type 0) (found
         leaves = left_as_made it closes clean made;
       }
 
-      pub refuses_making : {X : Type 0} (unopened : Unopened S) (result : Result X (Refused S))
-          → IsErrAnd result (GivesBack g unopened) → unopened.refusal ≡ refusal → unopened.connection ≡ new
-          → IfErr result (RefusesMaking g may_leave found)
-      refuses_making unopened (Ok x) gives was is = absurd gives
-      refuses_making unopened (Err refused) gives was is =
+      pub refuses_making : (unopened : Unopened S) (refused : Refused S) → GivesBack g unopened refused
+          → unopened.refusal ≡ refusal → unopened.connection ≡ new → RefusesMaking g may_leave found refused
+      refuses_making unopened refused gives was is =
           let closes = subst (λ (k : Held S). ClosesAs g k gives.store) is gives.closes in
           record {
             cause = of_some (λ it. IsCleanStore (g.view it) → RefusesToMake g found refused.refusal (may_leave it))

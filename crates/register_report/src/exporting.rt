@@ -1,17 +1,17 @@
 //! The export of all keys, and the report on those that are due for rotation.
 ghost use Rattle.std.specs.Prelude.{◌≡◌, false, List, IfErr};
-ghost use Rattle.register_requests.specs.declared.request.Request.{Request};
-ghost use Rattle.register_core.specs.History.{latest, period};
-ghost use Rattle.key_rows.specs.declared.key_row.KeyRow.{KeyRow};
-ghost use Rattle.key_rows.specs.DueRows.{AreListed};
-ghost use Rattle.key_rows.specs.Export.{export_text};
-ghost use Rattle.key_rows.specs.Report.{horizon, report_text};
+ghost use Rattle.register_report.specs.Within.TextWriter.{IsExport, IsReport, PutsAll, finish_of};
+ghost use Rattle.register_report.specs.TextWriter.{EndsAs, LeavesAlone, WritesText};
+ghost use Rattle.register_desk.specs.Run.{LeavesWriter};
+ghost use Rattle.register_desk.specs.Register.{StandsFor};
 ghost use Rattle.register_desk.specs.Desk.{IsClean};
 ghost use Rattle.register_desk.specs.KeyRows.{all_rows};
-ghost use Rattle.register_desk.specs.Register.{StandsFor};
-ghost use Rattle.register_desk.specs.Run.{LeavesWriter};
-ghost use Rattle.register_report.specs.TextWriter.{EndsAs, LeavesAlone, WritesText};
-ghost use Rattle.register_report.specs.Within.TextWriter.{IsExport, IsReport, PutsAll, finish_of};
+ghost use Rattle.key_rows.specs.DueRows.{AreListed};
+ghost use Rattle.key_rows.specs.Report.{horizon, report_text};
+ghost use Rattle.key_rows.specs.Export.{export_text};
+ghost use Rattle.key_rows.specs.declared.key_row.KeyRow.{KeyRow};
+ghost use Rattle.register_core.specs.History.{latest, period};
+ghost use Rattle.register_requests.specs.declared.request.Request.{Request};
 
 use crate::key_table::KeyTable;
 use crate::table_writing::put_table;

@@ -13,7 +13,6 @@ use Rattle.std.proofs.lemmas.Str.{IsUtf8-from_is_utf8, is_utf8-from_IsUtf8}
 use Rattle.moment_core.specs.Moment.{IsMoment}
 use Rattle.lifecycle_core.specs.declared.reason.Reason.{Reason}
 use Rattle.lifecycle_core.specs.Reason.{reason_code, is_compromise}
-use Rattle.period_core.specs.declared.key_type.KeyType.{KeyType}
 use Rattle.register_requests.specs.declared.command_fields.CommandKind.{CommandKind}
 use Rattle.register_requests.specs.declared.request.Edit.{Edit}
 use Rattle.register_requests.specs.Name.{IsName}
@@ -165,31 +164,28 @@ find_passes : {A : Type 0} (p : A → Bool) (ks : List A) (k : A) → find p ks 
 find_passes p [] k e = absurd cc
 find_passes p (x ∷ ks) k e = grind (arith, find_passes p ks k)
 
-key_type_again : (k : KeyType) → key_type_at (key_type_text k) ≡ Some k
-unfolding key_type_at
-key_type_again k = grind arith
-
-key_type_takes : (field : List ℕ) (k : KeyType) → key_type_at field ≡ Some k → field ≡ key_type_text k
-unfolding key_type_at
-key_type_takes field k e =
-    sym ((bytes_eq-Decides (key_type_text k) field).0
-    (find_passes (λ kind. bytes_eq (key_type_text kind) field) key_types k e))
+-- of these values the one whose text the field is
+named_reader : {A : Type 0} (text : A → List ℕ) (values : List A)
+    → ((x : A) → find (λ y. bytes_eq (text y) (text x)) values ≡ Some x)
+    → IsReader (λ field. find (λ y. bytes_eq (text y) field) values) text (λ _. Unit {0})
+named_reader {A} text values again = record {
+  takes = λ field x e.
+      let passes = find_passes (λ (y : A). bytes_eq (text y) field) values x e in
+      (tt, sym ((bytes_eq-Decides (text x) field).0 passes));
+  again = λ x _. again x;
+}
 
 pub key_type_reader : IsReader key_type_at key_type_text (λ _. Unit {0})
-key_type_reader = record { takes = λ field k e. (tt, key_type_takes field k e); again = λ k _. key_type_again k }
+unfolding key_type_at
+key_type_reader = named_reader key_type_text key_types (λ k. grind arith)
 
 kind_again : (k : CommandKind) → kind_at (command_kind_text k) ≡ Some k
 unfolding kind_at
 kind_again k = grind arith
 
-kind_takes : (word : List ℕ) (k : CommandKind) → kind_at word ≡ Some k → word ≡ command_kind_text k
-unfolding kind_at
-kind_takes word k e =
-    let passes = find_passes (λ kind. bytes_eq (command_kind_text kind) word) command_kinds k e in
-    sym ((bytes_eq-Decides (command_kind_text k) word).0 passes)
-
 pub kind_reader : IsReader kind_at command_kind_text (λ _. Unit {0})
-kind_reader = record { takes = λ word k e. (tt, kind_takes word k e); again = λ k _. kind_again k }
+unfolding kind_at
+kind_reader = named_reader command_kind_text command_kinds kind_again
 
 -- No two kinds have one word.
 pub same_kind : (j k : CommandKind) → command_kind_text j ≡ command_kind_text k → j ≡ k

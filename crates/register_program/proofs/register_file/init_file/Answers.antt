@@ -43,9 +43,9 @@ returns-in_err-desk g c =
     let unopened = c.in_err-desk.field-0.0 in
     made_none g.F.Opened.Store g.F.Files.may_leave g.F.Files.start _ c.from_residual-in_err-desk.result
     c.from_residual-in_err-desk.ensures.1
-    (refuses_making g.F.Opened.Store g.F.Files.may_leave g.F.Files.start g.met.F.Files.opens_again
+    (λ refused gives. refuses_making g.F.Opened.Store g.F.Files.may_leave g.F.Files.start g.met.F.Files.opens_again
     c.in_ok-connection.connection unopened.connection c.in_ok-connection.ensures.shows
     (λ clean. omega (arith, it.leaves.stop.clean, clean)) unopened.refusal it.refused (λ is. (it.there is).there)
     it.leaves_there it.leaves_made (λ there. (it.spares there).leaves)
     (λ version h had. (it.spares_register version (tables h) had.holds).leaves) unopened
-    c.from_residual-in_err-desk.result c.from_residual-in_err-desk.ensures.1 refl refl)
+    refused gives refl refl)

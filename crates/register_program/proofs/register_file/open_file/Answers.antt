@@ -34,12 +34,12 @@ returns-in_err-desk g c =
     let unopened = c.in_err-desk.field-0.0 in
     opens_none g.F.Opened.Store g.F.Files.may_leave g.F.Files.start _ c.from_residual-in_err-desk.result
     c.from_residual-in_err-desk.ensures.1
-    (refuses_opened g.F.Opened.Store g.F.Files.may_leave g.F.Files.start g.met.F.Files.opens_again
+    (λ refused gives. refuses_opened g.F.Opened.Store g.F.Files.may_leave g.F.Files.start g.met.F.Files.opens_again
     c.in_ok-connection.connection unopened.connection c.in_ok-connection.ensures.shows
     (λ clean. omega (arith, it.stop.clean, clean)) unopened.refusal it.refused it.blames_none
     it.leaves_refused
     (λ version h lawful had. it.leaves_stored (stored_in version h) had (meet_checks version h lawful)) unopened
-    c.from_residual-in_err-desk.result c.from_residual-in_err-desk.ensures.1 refl refl)
+    refused gives refl refl)
 
 pub returns-then-not-may_be_there : goal.returns-then-not-may_be_there
 returns-then-not-may_be_there g c =
