@@ -4,8 +4,7 @@ ghost use Rattle.register_requests.specs.declared.request.Request.{Request};
 ghost use Rattle.register_desk.specs.Desk.{IsClean, IsWhole};
 ghost use Rattle.register_desk.specs.Register.{StandsFor};
 ghost use Rattle.register_http.specs.OneItem.{LeavesOne};
-ghost use Rattle.register_program.specs.ServedExchanges.{EndsServing, ExplainsEnd, LeavesSome};
-ghost use Rattle.register_program.specs.ServedExchanges.{nobody};
+ghost use Rattle.register_program.specs.ServedExchanges.{ServesClients, nobody};
 ghost use Rattle.register_program.specs.Within.ServedExchanges.{may_serve_on};
 
 use crate::attendance::Attendance;
@@ -160,11 +159,7 @@ pub fn serve_on<S: Alter, L: Listener, C: Clock, N: Now>(
     attendance: &mut Attendance,
 ) -> Finish
     requires { attendance.old ≡ nobody }
-    ensures leaves { (h : List Request) → StandsFor S.Store desk.old h → IsWhole desk.old
-        → IsClean S.Store desk.new → LeavesSome S.Store h exchanges desk.new }
-    ensures clean { IsClean S.Store desk.new → IsClean S.Store desk.old }
-    ensures ends { EndsServing result }
-    ensures cause { ExplainsEnd exchanges attendance.new result }
+    ensures { ServesClients S.Store exchanges attendance.new desk.old desk.new result }
 {
     let mut routes = Routes::new();
     let mut served = 0;
@@ -199,11 +194,7 @@ pub fn serve_at<S: Alter, N: Network + Clock>(
     attendance: &mut Attendance,
 ) -> Finish
     requires { attendance.old ≡ nobody }
-    ensures leaves { (h : List Request) → StandsFor S.Store desk.old h → IsWhole desk.old
-        → IsClean S.Store desk.new → LeavesSome S.Store h exchanges desk.new }
-    ensures clean { IsClean S.Store desk.new → IsClean S.Store desk.old }
-    ensures ends { EndsServing result }
-    ensures cause { ExplainsEnd exchanges attendance.new result }
+    ensures { ServesClients S.Store exchanges attendance.new desk.old desk.new result }
 {
     let Some(listener) = attendance.listen(network, port) else {
         return Finish::Ended(End::ReadFault);

@@ -1,4 +1,4 @@
-use Rattle.std.proofs.Common.{ℕ, ◌+◌, ◌≤◌, ◌∙◌, ap, arith, sym}
+use Rattle.std.proofs.Common.{ℕ, ◌+◌, ◌≤◌, ◌∙◌, ap, arith, refl, rules, sym}
 use Rattle.register_program.specs.declared.attendance.Attendance.{Attendance}
 use Rattle.register_program.proofs.Served.{ends_serving, explains_end, not_store, served_none, served_next, served_all, served_last}
 use Rattle.register_program.proofs.serving.serve_on.Goals as goal
@@ -27,35 +27,44 @@ exchanges-preserved g c = record {
       ∙ c.exchanges.invariant.sound;
 }
 
-pub returns-in_default-clause-leaves : goal.returns-in_default-clause-leaves
-returns-in_default-clause-leaves g c = λ h stands whole clean.
-    served_all g.S.Store h c.exchanges.served c.args.exchanges c.exchanges.desk
-    (c.exchanges.invariant.so_far h stands whole clean) c.exchanges.invariant.within clean
+pub returns-in_default : goal.returns-in_default
+returns-in_default g c = record {
+  leaves = λ h stands whole clean. served_all g.S.Store h c.exchanges.served c.args.exchanges c.exchanges.desk
+      (c.exchanges.invariant.so_far h stands whole clean) c.exchanges.invariant.within clean;
+  clean = c.exchanges.invariant.clean;
+  ends = tt;
+  cause = search rules;
+}
 
-pub returns-in_default-tell_moment-clause-leaves : goal.returns-in_default-tell_moment-clause-leaves
-returns-in_default-tell_moment-clause-leaves g c = λ h stands whole clean.
-    served_all g.S.Store h c.exchanges.served c.args.exchanges c.exchanges.desk
-    (c.exchanges.invariant.so_far h stands whole clean) c.exchanges.invariant.within clean
+pub returns-in_default-tell_moment : goal.returns-in_default-tell_moment
+returns-in_default-tell_moment g c = record {
+  leaves = λ h stands whole clean. served_all g.S.Store h c.exchanges.served c.args.exchanges c.exchanges.desk
+      (c.exchanges.invariant.so_far h stands whole clean) c.exchanges.invariant.within clean;
+  clean = c.exchanges.invariant.clean;
+  ends = tt;
+  cause = search rules;
+}
 
-pub returns-then-not-may_serve_on-clause-leaves : goal.returns-then-not-may_serve_on-clause-leaves
-returns-then-not-may_serve_on-clause-leaves g c = λ h stands whole clean.
-    let within : c.exchanges.served + 1 ≤ c.args.exchanges = omega (arith, c.exchanges-test.true) in
-    served_last g.S.Store h c.exchanges.served c.args.exchanges c.exchanges.desk c.serve_connection-finish.new.desk
-    c.serve_connection-finish.result
-    (c.exchanges.invariant.so_far h stands whole (c.serve_connection-finish.ensures.clean clean))
-    c.serve_connection-finish.ensures.leaves within clean
-
-pub returns-clause-leaves : goal.returns-clause-leaves
-returns-clause-leaves g c = λ h stands whole clean.
-    served_all g.S.Store h c.exchanges.served c.args.exchanges c.exchanges.desk
-    (c.exchanges.invariant.so_far h stands whole clean) c.exchanges.invariant.within clean
-
-pub returns-then-not-may_serve_on-clause-ends : goal.returns-then-not-may_serve_on-clause-ends
-returns-then-not-may_serve_on-clause-ends g c =
-    ends_serving c.serve_connection-finish.result (sym c.may_serve_on.ensures ∙ c.if-not-may_serve_on.true)
-
-pub returns-then-not-may_serve_on-clause-cause : goal.returns-then-not-may_serve_on-clause-cause
-returns-then-not-may_serve_on-clause-cause g c =
+pub returns-then-not-may_serve_on : goal.returns-then-not-may_serve_on
+returns-then-not-may_serve_on g c =
+    let finish = c.serve_connection-finish in
+    let on = sym c.may_serve_on.ensures ∙ c.if-not-may_serve_on.true in
     let counted = ap (λ (a : Attendance). a.accepted) (c.in-Some-tell_moment.ensures.tells ∙ c.in-Some.ensures.counts) in
-    explains_end c.serve_connection-finish.result c.args.exchanges c.tell_moment.new.self
-    (sym c.may_serve_on.ensures ∙ c.if-not-may_serve_on.true) (omega (arith, counted))
+    let within : c.exchanges.served + 1 ≤ c.args.exchanges = omega (arith, c.exchanges-test.true) in
+    record {
+      leaves = λ h stands whole clean. served_last g.S.Store h c.exchanges.served c.args.exchanges c.exchanges.desk
+          finish.new.desk finish.result (c.exchanges.invariant.so_far h stands whole (finish.ensures.clean clean))
+          finish.ensures.leaves within clean;
+      clean = λ clean. c.exchanges.invariant.clean (finish.ensures.clean clean);
+      ends = ends_serving finish.result on;
+      cause = explains_end finish.result c.args.exchanges c.tell_moment.new.self on (omega (arith, counted));
+    }
+
+pub returns : goal.returns
+returns g c = record {
+  leaves = λ h stands whole clean. served_all g.S.Store h c.exchanges.served c.args.exchanges c.exchanges.desk
+      (c.exchanges.invariant.so_far h stands whole clean) c.exchanges.invariant.within clean;
+  clean = c.exchanges.invariant.clean;
+  ends = refl;
+  cause = (omega (arith, c.exchanges.invariant.within, c.exchanges.invariant.accepted, c.exchanges-test.false), c.exchanges.invariant.sound);
+}
