@@ -28,8 +28,7 @@ use Rattle.row_checks.proofs.Selects.{IsSelect, select_plain}
 use Rattle.register_core.specs.declared.key.Key.{Key}
 use Rattle.register_store.specs.declared.table.TableName.TheVariants.{Keys}
 use Rattle.register_store.specs.declared.key_scan.DueSearch.{DueSearch}
-use Rattle.register_store.specs.declared.key_scan.DueSearch.TheVariants.{Past, SameStop}
-use Rattle.register_store.specs.Columns.{key_columns, select}
+use Rattle.register_store.specs.declared.key_scan.DueSearch.TheVariants.{LaterStop, Past, SameStop}
 use Rattle.register_store.specs.KeyScan.{IsAfter}
 use Rattle.register_store.specs.Within.TableReads.{ShowsAt}
 use Rattle.register_store.specs.Schema.{Holds, schema_with}
@@ -46,16 +45,6 @@ use Rattle.register_store.proofs.RowFound.{answer_read}
 use Rattle.register_store.proofs.Texts.{find_names}
 
 -- ---- the texts
-
-abbrev pub same_text : List ℕ
-same_text = search_text SameStop
-
-abbrev pub later_text : List ℕ
-later_text = select key_columns
-    (codes ", number FROM keys WHERE state = 2 AND protect_stop > ?1 AND protect_stop <= ?2 ORDER BY protect_stop, number")
-
-abbrev pub past_text : List ℕ
-past_text = search_text Past
 
 abbrev pub passes_same : List Term
 passes_same =
@@ -94,50 +83,25 @@ due_meant : (sql : List ℕ) (passes : List Term) → IsDueSearch sql passes →
     names)
 due_meant sql passes search l at = asks (schema_with l) (keys l) (classes l at Keys) _ _ _ (search l)
 
-same_select : IsSelect same_text
-unfolding everything first
-same_select = (_, _, refl, refl, refl)
-
-pub same_query : IsQuery same_text
-same_query = select_plain same_text same_select
-
-later_select : IsSelect later_text
-unfolding everything first
-later_select = (_, _, refl, refl, refl)
-
-pub later_query : IsQuery later_text
-later_query = select_plain later_text later_select
-
-past_select : IsSelect past_text
-unfolding everything first
-past_select = (_, _, refl, refl, refl)
-
-pub past_query : IsQuery past_text
-past_query = select_plain past_text past_select
-
-pub same_is : IsDueSearch same_text passes_same
-unfolding everything first
-same_is l = record { p = _; select = _; d = _; by = _; parsed = refl; untimed = refl; is = refl; drafted = refl; same = refl; from = refl; accepted = refl }
-
-pub later_is : IsDueSearch later_text passes_later
-unfolding everything first
-later_is l = record { p = _; select = _; d = _; by = _; parsed = refl; untimed = refl; is = refl; drafted = refl; same = refl; from = refl; accepted = refl }
-
-pub past_is : IsDueSearch past_text passes_past
-unfolding everything first
-past_is l = record { p = _; select = _; d = _; by = _; parsed = refl; untimed = refl; is = refl; drafted = refl; same = refl; from = refl; accepted = refl }
-
--- each search after a place
+-- ---- each search after a place
 
 abbrev pub passes_of : DueSearch → List Term
 passes_of SameStop = passes_same
+passes_of LaterStop = passes_later
 passes_of Past = passes_past
 
+due_select : (search : DueSearch) → IsSelect (search_text search)
+unfolding everything first
+due_select SameStop = (_, _, refl, refl, refl)
+due_select search = (_, _, refl, refl, refl)
+
 pub query_of : (search : DueSearch) → IsQuery (search_text search)
-query_of search = grind (arith, same_query, past_query)
+query_of search = select_plain (search_text search) (due_select search)
 
 pub search_is : (search : DueSearch) → IsDueSearch (search_text search) (passes_of search)
-search_is search = grind (arith, same_is, past_is)
+unfolding everything first
+search_is SameStop l = record { p = _; select = _; d = _; by = _; parsed = refl; untimed = refl; is = refl; drafted = refl; same = refl; from = refl; accepted = refl }
+search_is search l = record { p = _; select = _; d = _; by = _; parsed = refl; untimed = refl; is = refl; drafted = refl; same = refl; from = refl; accepted = refl }
 
 -- ---- places
 

@@ -6,7 +6,7 @@ ghost use Rattle.register_core.specs.Verdict.{max_keys};
 ghost use Rattle.register_store.specs.KeyScan.{HasNextDue, date_run_of_next_key};
 ghost use Rattle.register_store.specs.TableReads.{seen, Calls, HasRow, KeepsSight, Reads};
 ghost use Rattle.register_store.specs.Within.TableReads.{ShowsAt};
-ghost use Rattle.register_store.specs.Within.DueSearch.{HasFirst, IsNumbered, is_found, is_later};
+ghost use Rattle.register_store.specs.Within.DueSearch.{HasFirst, IsNumbered, is_found};
 ghost use Rattle.register_store.specs.Within.DueSearch.{search_text};
 ghost use Rattle.register_store.specs.declared.key_scan.DateRun.{DateRun};
 
@@ -17,13 +17,6 @@ use crate::stored_key::{MomentCell, find_key_row, key_in, unsigned_integer_in};
 use moment_core::Moment;
 use register_core::Key;
 use sqlite::{Alter, Row, params};
-
-/// The search for the first of the keys that are due and have a later Protect Stop Date.
-const FIND_LATER_STOP: &str = columns!(
-    keys listed "SELECT ",
-    ", number FROM keys WHERE state = 2 AND protect_stop > ?1 AND protect_stop <= ?2 \
-    ORDER BY protect_stop, number"
-);
 
 /// Where a scan of the keys that are due stands: after the key with this number, of those with this
 /// Protect Stop Date.
@@ -61,6 +54,8 @@ impl DueCursor {
 pub(crate) enum DueSearch {
     /// Among those with the Protect Stop Date of the cursor.
     SameStop,
+    /// Among those with a later one.
+    LaterStop,
     /// Among all, whatever their date. It begins at the first key with the date of the cursor, and
     /// goes past each of those up to its number.
     Past,
@@ -75,6 +70,11 @@ impl DueSearch {
                 keys listed "SELECT ",
                 ", number FROM keys WHERE state = 2 AND protect_stop = ?1 AND protect_stop <= ?2 \
                 AND number > ?3 ORDER BY protect_stop, number"
+            ),
+            DueSearch::LaterStop => columns!(
+                keys listed "SELECT ",
+                ", number FROM keys WHERE state = 2 AND protect_stop > ?1 AND protect_stop <= ?2 \
+                ORDER BY protect_stop, number"
             ),
             DueSearch::Past => columns!(
                 keys listed "SELECT ",
@@ -101,38 +101,26 @@ fn find_next_due_by_search<S: Alter>(
     connection: &mut Counted<S>,
     by: DueSearch,
     until: Moment,
-    last: DueCursor,
+    last: &DueCursor,
 ) -> Result<Option<(u64, Key)>, StoreError>
     ensures counted { Calls 2 connection.old connection.new }
     ensures sight { KeepsSight (seen S.Store connection.old) (seen S.Store connection.new) }
-    ensures reads { Reads S.Store (HasFirst (is_found by until last))
+    ensures reads { Reads S.Store (HasFirst (is_found by until last.now))
         connection.old connection.new result }
     ensures moment { IsMoment until }
 {
-    connection.find_one_row(
-        by.sql(),
-        params![MomentCell(last.stop), MomentCell(until), last.number],
-        numbered_key_in,
-    )
-}
-
-/// The first of the keys that are due with a later Protect Stop Date than this.
-fn find_due_with_later_stop<S: Alter>(
-    connection: &mut Counted<S>,
-    until: Moment,
-    stop: Moment,
-) -> Result<Option<(u64, Key)>, StoreError>
-    ensures counted { Calls 2 connection.old connection.new }
-    ensures sight { KeepsSight (seen S.Store connection.old) (seen S.Store connection.new) }
-    ensures reads { Reads S.Store (HasFirst (is_later until stop))
-        connection.old connection.new result }
-    ensures moment { IsMoment until }
-{
-    connection.find_one_row(
-        FIND_LATER_STOP,
-        params![MomentCell(stop), MomentCell(until)],
-        numbered_key_in,
-    )
+    match by {
+        DueSearch::LaterStop => connection.find_one_row(
+            by.sql(),
+            params![MomentCell(last.stop), MomentCell(until)],
+            numbered_key_in,
+        ),
+        DueSearch::SameStop | DueSearch::Past => connection.find_one_row(
+            by.sql(),
+            params![MomentCell(last.stop), MomentCell(until), last.number],
+            numbered_key_in,
+        ),
+    }
 }
 
 /// The first of the keys that are due after this cursor, by the two searches that go past no key:
@@ -141,18 +129,17 @@ fn find_due_with_later_stop<S: Alter>(
 fn find_due_in_two_searches<S: Alter>(
     connection: &mut Counted<S>,
     until: Moment,
-    last: DueCursor,
+    last: &DueCursor,
 ) -> Result<Option<(u64, Key)>, StoreError>
     ensures counted { Calls 4 connection.old connection.new }
     ensures sight { KeepsSight (seen S.Store connection.old) (seen S.Store connection.new) }
-    ensures reads { Reads S.Store (HasNextDue until last) connection.old connection.new result }
+    ensures reads { Reads S.Store (HasNextDue until last.now) connection.old connection.new result }
 {
-    let stop = last.stop;
     let found = find_next_due_by_search(connection, DueSearch::SameStop, until, last)?;
     if found.is_some() {
         return Ok(found);
     }
-    find_due_with_later_stop(connection, until, stop)
+    find_next_due_by_search(connection, DueSearch::LaterStop, until, last)
 }
 
 /// The key after the one with this number, in the order of numbers, or `None` after the last. It
@@ -188,7 +175,7 @@ pub fn each_due<S: Alter>(
     ensures reads { Reads S.Store (HasNextDue until last) connection.old connection.new result }
 {
     match run {
-        DateRun::First => find_next_due_by_search(connection, DueSearch::Past, until, last),
-        DateRun::Later => find_due_in_two_searches(connection, until, last),
+        DateRun::First => find_next_due_by_search(connection, DueSearch::Past, until, &last),
+        DateRun::Later => find_due_in_two_searches(connection, until, &last),
     }
 }

@@ -143,6 +143,21 @@ macro_rules! update_where_other {
     };
 }
 
+/// These values, and after them the dates that may be unset, in the order of their columns.
+macro_rules! params_with_dates {
+    ($($value:expr),+; $dates:ident) => {
+        params![
+            $($value,)+
+            DateCell($dates.activation),
+            DateCell($dates.protect_stop),
+            DateCell($dates.deactivation),
+            DateCell($dates.destroy),
+            DateCell($dates.compromise),
+            DateCell($dates.compromise_occurrence)
+        ]
+    };
+}
+
 /// What stands for a date that is not set: the second past the last moment, so that it comes after
 /// every moment.
 const UNSET: u64 = LAST_SECOND + 1;
@@ -246,19 +261,14 @@ pub(crate) fn add_key<T: Inside>(
     tx.execute(
         steps,
         columns!(keys given "INSERT INTO keys (number", ") VALUES (:number", ")"),
-        params![
+        params_with_dates![
             number,
             u32::from(key.kind.code()),
             key.owner.text(),
             key.purpose.text(),
             u32::from(key.row.state.code()),
-            MomentCell(dates.initial),
-            DateCell(dates.activation),
-            DateCell(dates.protect_stop),
-            DateCell(dates.deactivation),
-            DateCell(dates.destroy),
-            DateCell(dates.compromise),
-            DateCell(dates.compromise_occurrence)
+            MomentCell(dates.initial);
+            dates
         ],
     )?;
     Ok(())
@@ -290,16 +300,11 @@ pub(crate) fn set_owner_state_and_dates<T: Inside>(
             "compromised = ?8",
             "occurrence = ?9"
         ),
-        params![
+        params_with_dates![
             number,
             owner.text(),
-            u32::from(row.state.code()),
-            DateCell(dates.activation),
-            DateCell(dates.protect_stop),
-            DateCell(dates.deactivation),
-            DateCell(dates.destroy),
-            DateCell(dates.compromise),
-            DateCell(dates.compromise_occurrence)
+            u32::from(row.state.code());
+            dates
         ],
     )?;
     Ok(())

@@ -6,7 +6,7 @@ use Rattle.lifecycle_core.specs.State.{state_code}
 use Rattle.register_core.specs.declared.key.Key.{Key}
 use Rattle.register_store.specs.declared.key_scan.DueCursor.{DueCursor}
 use Rattle.register_store.specs.declared.key_scan.DueSearch.{DueSearch}
-use Rattle.register_store.specs.declared.key_scan.DueSearch.TheVariants.{Past, SameStop}
+use Rattle.register_store.specs.declared.key_scan.DueSearch.TheVariants.{LaterStop, Past, SameStop}
 use Rattle.register_store.specs.Columns.{key_columns, select}
 use Rattle.register_store.specs.KeyScan.{IsAfter}
 use Rattle.register_store.specs.Tables.{IsKey, Tables, date_cell, numbered}
@@ -40,13 +40,16 @@ is_past until last x =
 abbrev pub search_text : DueSearch → List ℕ
 search_text SameStop = select key_columns
     (codes ", number FROM keys WHERE state = 2 AND protect_stop = ?1 AND protect_stop <= ?2 AND number > ?3 ORDER BY protect_stop, number")
+search_text LaterStop = select key_columns
+    (codes ", number FROM keys WHERE state = 2 AND protect_stop > ?1 AND protect_stop <= ?2 ORDER BY protect_stop, number")
 search_text Past = select key_columns
     (codes ", number FROM keys WHERE state = 2 AND protect_stop >= ?1 AND protect_stop <= ?2 AND (protect_stop > ?1 OR number > ?3) ORDER BY protect_stop, number")
 
 -- what it finds the first of
 abbrev pub is_found : DueSearch → ℕ → DueCursor → ℕ × Key → Bool
-is_found SameStop = is_same
-is_found Past = is_past
+is_found SameStop until last = is_same until last
+is_found LaterStop until last = is_later until last.stop
+is_found Past until last = is_past until last
 
 -- the cursor of a key by its cells
 abbrev pub cell_cursor : ℕ × Key → DueCursor
