@@ -59,13 +59,13 @@ steps_of desk = desk.connection.steps
 abbrev pub TakesSteps : {S : Type 0} {g : Ghosts S} → ℕ → Desk S g → Desk S g → Type 0
 TakesSteps most old new = Calls most old.connection new.connection
 
--- so, whatever history the desk stands for
-abbrev pub KeepsToSteps : {S : Type 0} → (g : Ghosts S) → ℕ → Desk S g → Desk S g → Type 0
-KeepsToSteps g most old new = (h : List Request) → StandsFor g old h → IsClean g new → TakesSteps most old new
-
 -- the disk has given back what was written
 abbrev pub IsClean : {S : Type 0} → (g : Ghosts S) → Desk S g → Type 0
 IsClean g desk = HasCleanDisk (seen g desk.connection)
+
+-- the call takes at most so many steps, whatever history the desk stands for
+abbrev pub KeepsToSteps : {S : Type 0} → (g : Ghosts S) → ℕ → Desk S g → Desk S g → Type 0
+KeepsToSteps g most old new = (h : List Request) → StandsFor g old h → IsClean g new → TakesSteps most old new
 
 -- and the connection is open: no fault has shut it
 abbrev pub IsOpen : {S : Type 0} → (g : Ghosts S) → Desk S g → Type 0
@@ -155,4 +155,4 @@ pub record AppliesTo {S : Type 0} (g : Ghosts S) (q : Request) (most : ℕ) (old
   pub still : (h : List Request) → StandsFor g old h → OnErr result (StandsFor g new h)
   pub leaves : (h : List Request) → StandsFor g old h → IsRequest q → IsClean g new
       → IfErr result (λ end. end ≡ Store → LeavesEither g h (history h (Some q ∷ [])) new)
-  pub steps : (h : List Request) → StandsFor g old h → IsClean g new → TakesSteps most old new
+  pub steps : KeepsToSteps g most old new

@@ -4,7 +4,7 @@ use Rattle.sqlite_trees.specs.declared.store.Store.{Ghosts}
 use Rattle.register_requests.specs.declared.request.Request.{Request}
 use Rattle.register_desk.specs.declared.desk.Desk.{Desk}
 use Rattle.register_desk.specs.declared.end.End.{End}
-use Rattle.register_desk.specs.Desk.{ChangesNothing, Ends, IsClean, IsOpen, KeepsCounts, TakesSteps}
+use Rattle.register_desk.specs.Desk.{ChangesNothing, Ends, IsClean, IsOpen, KeepsCounts, KeepsToSteps}
 use Rattle.register_desk.specs.Register.{StandsFor}
 
 module _ {S : Type 0} {g : Ghosts S} where
@@ -19,5 +19,5 @@ pub record LooksUp {S T : Type 0} (g : Ghosts S) (most : ℕ) (old new : Desk S 
     : Type 0 where
   pub ends : Ends old new result
   pub reads : ChangesNothing g old new
-  pub steps : (h : List Request) → StandsFor g old h → IsClean g new → TakesSteps most old new
+  pub steps : KeepsToSteps g most old new
   pub opened : OnOk result (IsOpen g new)

@@ -17,7 +17,7 @@ impl<S: Alter> Desk<S> {
     ghost use Rattle.register_desk.specs.Desk.{IsBroken, IsClean, IsWhole, keys_of, latest_of};
     ghost use Rattle.register_desk.specs.Desk.{ChangesNothing, Ends, IsAnsweredOver, IsOpen};
     ghost use Rattle.register_desk.specs.Desk.{IsNew, KeepsCounts, LeavesWithRequest};
-    ghost use Rattle.register_desk.specs.Desk.{RepeatsWithin, TakesSteps};
+    ghost use Rattle.register_desk.specs.Desk.{KeepsToSteps, RepeatsWithin, TakesSteps};
     ghost use Rattle.register_desk.specs.Desk.{AppliesOver, AppliesTo};
     ghost use Rattle.register_desk.specs.Within.DeskCalls.{LooksUp};
     ghost use Rattle.register_desk.specs.Register.{IsOver, Sees, StandsFor};
@@ -97,8 +97,7 @@ impl<S: Alter> Desk<S> {
             UnlessAccepted given (ChangesNothing S.Store self.old self.new)) }
         ensures unchanged { IfErr result (λ end. end ≢ End.Store
             → ChangesNothing S.Store self.old self.new) }
-        ensures steps { (h : List Request) → StandsFor S.Store self.old h
-            → IsClean S.Store self.new → TakesSteps 49 self.old self.new }
+        ensures steps { KeepsToSteps S.Store 49 self.old self.new }
     {
         let view = self.look_up_needed_view(request)?;
         match decide(&view, request) {
