@@ -1,11 +1,9 @@
 -- What the private calls of a desk say of one another.
-use Rattle.std.specs.Prelude.{◌≡◌, ℕ, List, OnOk, Result}
+use Rattle.std.specs.Prelude.{◌≡◌, ℕ, OnOk, Result}
 use Rattle.sqlite_trees.specs.declared.store.Store.{Ghosts}
-use Rattle.register_requests.specs.declared.request.Request.{Request}
 use Rattle.register_desk.specs.declared.desk.Desk.{Desk}
 use Rattle.register_desk.specs.declared.end.End.{End}
-use Rattle.register_desk.specs.Desk.{ChangesNothing, Ends, IsClean, IsOpen, KeepsCounts, KeepsToSteps}
-use Rattle.register_desk.specs.Register.{StandsFor}
+use Rattle.register_desk.specs.Desk.{ChangesNothing, Ends, IsOpen, KeepsCounts, KeepsToSteps}
 
 module _ {S : Type 0} {g : Ghosts S} where
   -- the connection, the latest moment and the number of keys are as they were
