@@ -38,14 +38,24 @@ returns-in-LaterStop-clause-reads g c =
     rw c.in-LaterStop.is (
     found g.S.Store LaterStop c.args.until c.args.last.now c.args.connection.now c.find_one_row.new.self
     c.find_one_row.result
-    (rw (c.sql.ensures, c.in-LaterStop.is, c.params-to_sql.ensures.value, c.params-to_sql-in-LaterStop.ensures.value) at c.find_one_row.ensures.finds)
+    (rw (
+      c.sql.ensures,
+      c.in-LaterStop.is,
+      c.params-to_sql.ensures.value,
+      c.params-to_sql-in-LaterStop.ensures.value,
+    ) at c.find_one_row.ensures.finds)
     (search rules))
 
 pub returns-in-LaterStop-clause-sight : goal.returns-in-LaterStop-clause-sight
 returns-in-LaterStop-clause-sight g c =
     seen_still g.S.Store LaterStop c.args.until c.args.last.now c.args.connection.now c.find_one_row.new.self
     c.find_one_row.result
-    (rw (c.sql.ensures, c.in-LaterStop.is, c.params-to_sql.ensures.value, c.params-to_sql-in-LaterStop.ensures.value) at c.find_one_row.ensures.finds)
+    (rw (
+      c.sql.ensures,
+      c.in-LaterStop.is,
+      c.params-to_sql.ensures.value,
+      c.params-to_sql-in-LaterStop.ensures.value,
+    ) at c.find_one_row.ensures.finds)
 
 -- another than that among later dates goes by the number too
 all_params : (by : DueSearch) (until : ℕ) (last : DueCursor) → (by ≡ SameStop) ⊎ (by ≡ Past)

@@ -16,7 +16,8 @@ returns-in_ok-execute-in-Period g c =
     (ran (clear_text periods) (number_params number) c.in_ok-execute-in-Period.field-0 (search rules)
     (search rules) (takes_out periods_are number _ _)
     (λ clean inside.
-    rw (c.params-to_sql.ensures, c.from-code.ensures, c.code.ensures) at (c.in_ok-execute-in-Period.ensures.runs clean inside))
+    rw (c.params-to_sql.ensures, c.from-code.ensures, c.code.ensures)
+    at (c.in_ok-execute-in-Period.ensures.runs clean inside))
     c.in_ok-execute-in-Period.ensures.survives)
 
 pub returns-in_ok-execute-in-Need : goal.returns-in_ok-execute-in-Need
