@@ -48,18 +48,21 @@ module _ {A X : Type 0} {s : Setting A X} (set : IsSetting s) where
       → Makes Always (without n) old.now new.now
   takes_out n old new count h t holds always =
       let l = holds.schema.layout in
-      let m = takes (schema_with l) (table_of l s.name) (classes l (placed t old.now holds) s.name) _ _ _ (set.clears l) in
+      let m = takes (schema_with l) (table_of l s.name) (classes l (placed t old.now holds) s.name) _ _ _
+      (set.clears l) in
       let shown = tree_shown set t old.now holds in
       let rows = old.now.trees (table_of l s.name).tree in
-      let wrote = removes (table_of l s.name) (number_params n) has_number (clear_text s) (schema_with l) (place_of s.name) (there l s.name) m.is
-      m.plain (λ olds. set.idle l holds.schema.apart olds []) (λ db. shows_all db (table_of l s.name).tree) old new count h
+      let wrote = removes (table_of l s.name) (number_params n) has_number (clear_text s) (schema_with l)
+      (place_of s.name) (there l s.name) m.is m.plain (λ olds. set.idle l holds.schema.apart olds [])
+      (λ db. shows_all db (table_of l s.name).tree) old new count h
       holds.schema.is shown.ordered (keyed_counted (row s) s.number_of (λ a. refl) (s.entries t) rows shown) in
       table_holds set (filter (is_other n) (s.entries t)) t old.now new.now _ holds wrote
       (all-filter (IsEntry s) (is_other n) (s.entries t) (table_in_range set t old.now holds))
       (keyed_left (row s) s.number_of (λ a. refl) (λ r. not (is_picked (number_params n) 0 has_number ids_shown r))
       (is_other n) (λ a. ap not (check_is s ids_shown n a)) (s.entries t) rows shown)
 
-  pub puts_in : (a : A) → IsEntry s a → (old new : State) (count : ℕ) → Executes (put_text s) (params s a) old new (Ok count)
+  pub puts_in : (a : A) → IsEntry s a → (old new : State) (count : ℕ)
+      → Executes (put_text s) (params s a) old new (Ok count)
       → Makes (HasNone (s.number_of a)) (more a) old.now new.now
   puts_in a is old new count h t holds none =
       let l = holds.schema.layout in
@@ -86,5 +89,6 @@ module _ {A X : Type 0} {s : Setting A X} (set : IsSetting s) where
       let Clears = Makes Always (without (s.number_of a)) in
       let Adds = Makes (HasNone (s.number_of a)) (more a) in
       steps_weaker (λ _. Then Clears Adds) (λ _. Makes Always (λ t. more a (without (s.number_of a) t))) old new r
-      (λ _ start end done t holds always. done.2 (without (s.number_of a) t) (done.1 t holds tt) (none_left (s.number_of a) t))
+      (λ _ start end done t holds always.
+      done.2 (without (s.number_of a) t) (done.1 t holds tt) (none_left (s.number_of a) t))
       (steps_then (λ _. Clears) (λ _. Adds) old mid new x r one two)

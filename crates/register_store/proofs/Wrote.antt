@@ -19,15 +19,17 @@ module _ {A E : Type 0} {sees : A → State} {name : A → ℕ} {most : ℕ} {ol
       → StepsBy (λ _. Made) (sees old) (sees new) r → Writes sees name most Made old new before after r
   wrote same counted made = record { same_reference = same; counted = counted; made = made }
 
-  -- one statement was run
-  pub ran : {Made : Change} (sql : List ℕ) (params : Cells) (count : ℕ) → name new ≡ name old
-      → Takes most before after
+  -- one statement was run, of this text and with these parameters
+  pub ran : {Made : Change} {asked : List ℕ} {bound : Cells} (sql : List ℕ) (params : Cells) (count : ℕ)
+      → name new ≡ name old → Takes most before after
       → ((count : ℕ) → Executes sql params (sees old) (sees new) (Ok count) → Made (sees old).now (sees new).now)
+      → asked ≡ sql → bound ≡ params
       → (HasCleanDisk (sees new) → IsTrue (sees old).in_transaction
-      → ExecutesInside 0 sql params (sees old) (sees new) (Ok count))
+      → ExecutesInside 0 asked bound (sees old) (sees new) (Ok count))
       → Survives (sees old) (sees new) (λ _. ⊥) → Writes {E = E} sees name most Made old new before after (Ok tt)
-  ran {Made} sql params count same counted does run survives =
-      wrote same counted (runs Made sql params (sees old) (sees new) count does run survives)
+  ran {Made} sql params count same counted does sql_is params_are run survives =
+      wrote same counted (runs Made sql params (sees old) (sees new) count does
+      (λ clean inside. rw (sql_is, params_are) at (run clean inside)) survives)
 
   -- what was written is what was asked for
   pub wrote_so : {V : Type 0} {r : Result (Unit {0}) E} (Made : V → Change) {asked made : V} → asked ≡ made
@@ -37,16 +39,17 @@ module _ {A E : Type 0} {sees : A → State} {name : A → ℕ} {most : ℕ} {ol
 
 -- the same of a statement that changes the schema or meta, with what it does beside
 pub altered : {S : Type 0} {g : Ghosts S} {Made Beside : Change} {old new : MutBor (Held S)} {r : Result ℕ Error}
-    (sql : List ℕ) (params : Cells) → new.ghost_name ≡ old.ghost_name
+    {bound : Cells} (sql : List ℕ) (params : Cells) → new.ghost_name ≡ old.ghost_name
     → ((count : ℕ) → Executes sql params (state g old.now) (state g new.now) (Ok count)
     → Made (state g old.now).now (state g new.now).now)
     → ((count : ℕ) → Executes sql params (state g old.now) (state g new.now) (Ok count)
     → Beside (state g old.now).now (state g new.now).now)
+    → bound ≡ params
     → (HasCleanDisk (state g new.now) → IsTrue (state g old.now).in_transaction
-    → ExecutesInside 0 sql params (state g old.now) (state g new.now) r)
+    → ExecutesInside 0 sql bound (state g old.now) (state g new.now) r)
     → Survives (state g old.now) (state g new.now) (λ _. ⊥) → Alters g Made Beside old new r
-altered sql params same made beside run survives = record {
+altered sql params same made beside params_are run survives = record {
   same_reference = same;
-  made = writes _ sql params _ _ _ made run survives;
-  beside = writes _ sql params _ _ _ beside run survives;
+  made = writes _ sql params _ _ _ made (λ clean inside. rw params_are at (run clean inside)) survives;
+  beside = writes _ sql params _ _ _ beside (λ clean inside. rw params_are at (run clean inside)) survives;
 }

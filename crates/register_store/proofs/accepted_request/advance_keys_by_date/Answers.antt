@@ -10,4 +10,5 @@ returns g c =
     let date = c.args.date in
     let moment = c.params-to_sql.ensures.in_range in
     ran (update_text date) (params at moment) c.in_ok-execute.field-0 (search rules) (search rules)
-    (moves at moment date _ _) (search arith) c.in_ok-execute.ensures.survives
+    (moves at moment date _ _) c.update_sql.ensures (search arith) c.in_ok-execute.ensures.runs
+    c.in_ok-execute.ensures.survives

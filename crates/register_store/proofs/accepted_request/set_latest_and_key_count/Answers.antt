@@ -1,4 +1,4 @@
-use Rattle.std.proofs.Common.{rules}
+use Rattle.std.proofs.Common.{rules, arith, refl}
 use Rattle.register_store.proofs.CountsRow.{counts_text, params, records}
 use Rattle.register_store.proofs.Wrote.{ran}
 use Rattle.register_store.proofs.accepted_request.set_latest_and_key_count.Goals as goal
@@ -8,8 +8,5 @@ returns g c =
     let latest = c.args.latest in
     let count = c.args.key_count in
     ran counts_text (params latest count) c.in_ok-execute.field-0 (search rules) (search rules)
-    (records latest count c.params-to_sql.ensures.in_range _ _)
-    (λ clean inside. rw (
-      c.params-to_sql.ensures.value,
-      c.params-to_sql-2.ensures,
-    ) at (c.in_ok-execute.ensures.runs clean inside)) c.in_ok-execute.ensures.survives
+    (records latest count c.params-to_sql.ensures.in_range _ _) refl (search arith) c.in_ok-execute.ensures.runs
+    c.in_ok-execute.ensures.survives

@@ -12,39 +12,41 @@ use Rattle.register_store.proofs.Readings.{survives_none}
 use Rattle.register_store.proofs.accepted_request.write_custody.Goals as goal
 
 -- what is written is what was asked for
-written : {A E : Type 0} (sees : A → State) (name : A → ℕ) (most number : ℕ) (asked made : CustodyChange) (old new : A) (before after : StepCount)
-    (r : Result (Unit {0}) E) → asked ≡ made → most ≤ 2
-    → Writes sees name most (Makes Always (with_custody number made)) old new before after r
-    → Writes sees name 2 (Makes Always (with_custody number asked)) old new before after r
-written sees name most number asked made old new before after r is few did = search arith
+module _ {A E : Type 0} {sees : A → State} {name : A → ℕ} {most : ℕ} {asked made : CustodyChange} {old new : A}
+    {before after : StepCount} {r : Result (Unit {0}) E} where
+  written : (number : ℕ) → asked ≡ made → most ≤ 2
+      → Writes sees name most (Makes Always (with_custody number made)) old new before after r
+      → Writes sees name 2 (Makes Always (with_custody number asked)) old new before after r
+  written number is few did = search arith
 
 pub returns-in-CustodianAdded : goal.returns-in-CustodianAdded
 returns-in-CustodianAdded g c =
-    written g.T.Inside.sees g.T.Inside.name _ c.args.number _ _ _ _ _ _ _ c.in-CustodianAdded.is (omega arith) c.give_or_take_role.ensures
+    written c.args.number c.in-CustodianAdded.is (omega arith) c.give_or_take_role.ensures
 
 pub returns-in-CustodianRemoved : goal.returns-in-CustodianRemoved
 returns-in-CustodianRemoved g c =
-    written g.T.Inside.sees g.T.Inside.name _ c.args.number _ _ _ _ _ _ _ c.in-CustodianRemoved.is (omega arith) c.give_or_take_role-in-CustodianRemoved.ensures
+    written c.args.number c.in-CustodianRemoved.is (omega arith) c.give_or_take_role-in-CustodianRemoved.ensures
 
 pub returns-in-Approved : goal.returns-in-Approved
 returns-in-Approved g c =
-    written g.T.Inside.sees g.T.Inside.name _ c.args.number _ _ _ _ _ _ _ c.in-Approved.is (omega arith) c.give_or_take_role-in-Approved.ensures
+    written c.args.number c.in-Approved.is (omega arith) c.give_or_take_role-in-Approved.ensures
 
 pub returns-in-Withdrawn : goal.returns-in-Withdrawn
 returns-in-Withdrawn g c =
-    written g.T.Inside.sees g.T.Inside.name _ c.args.number _ _ _ _ _ _ _ c.in-Withdrawn.is (omega arith) c.give_or_take_role-in-Withdrawn.ensures
+    written c.args.number c.in-Withdrawn.is (omega arith) c.give_or_take_role-in-Withdrawn.ensures
 
 pub returns-in-ApprovalsEnded : goal.returns-in-ApprovalsEnded
 returns-in-ApprovalsEnded g c =
-    written g.T.Inside.sees g.T.Inside.name _ c.args.number _ _ _ _ _ _ _ c.in-ApprovalsEnded.is (omega arith) c.end_approvals.ensures
+    written c.args.number c.in-ApprovalsEnded.is (omega arith) c.end_approvals.ensures
 
 pub returns-in-NeedSet : goal.returns-in-NeedSet
 returns-in-NeedSet g c =
-    written g.T.Inside.sees g.T.Inside.name _ c.args.number _ _ _ _ _ _ _ c.in-NeedSet.is (omega arith) c.write_setting.ensures
+    written c.args.number c.in-NeedSet.is (omega arith) c.write_setting.ensures
 
 pub returns-in-Kept : goal.returns-in-Kept
 returns-in-Kept g c =
     let a = g.T.Inside.sees c.args.tx.now in
-    let stood = stays (λ (_ : Unit {0}). Makes Always (with_custody c.args.number Kept)) a (tt {0}) (λ t holds always. holds) (survives_none a) in
-    written g.T.Inside.sees g.T.Inside.name 0 c.args.number _ Kept _ _ _ _ (Ok (tt {0})) c.in-Kept.is (omega arith)
+    let stood = stays (λ (_ : Unit {0}). Makes Always (with_custody c.args.number Kept)) a (tt {0})
+    (λ t holds always. holds) (survives_none a) in
+    written {most = 0} {made = Kept} {r = Ok (tt {0})} c.args.number c.in-Kept.is (omega arith)
     (record { same_reference = refl; counted = record { risen = omega arith; within = omega arith }; made = stood })

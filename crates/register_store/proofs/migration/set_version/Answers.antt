@@ -1,4 +1,4 @@
-use Rattle.std.proofs.Common.{rules}
+use Rattle.std.proofs.Common.{arith, rules}
 use Rattle.register_store.proofs.Beside.{updates_meta}
 use Rattle.register_store.proofs.VersionSet.{sets_second, version_params, version_text}
 use Rattle.register_store.proofs.Wrote.{altered}
@@ -6,5 +6,5 @@ use Rattle.register_store.proofs.migration.set_version.Goals as goal
 
 pub returns : goal.returns
 returns g c =
-    altered version_text version_params (search rules) (sets_second _ _) (updates_meta _ _) (λ clean inside.
-    rw (c.params-to_sql.ensures, c.number.ensures) at (c.execute.ensures.runs clean inside)) c.execute.ensures.survives
+    altered version_text version_params (search rules) (sets_second _ _) (updates_meta _ _) (search arith)
+    c.execute.ensures.runs c.execute.ensures.survives

@@ -1,4 +1,4 @@
-use Rattle.std.proofs.Common.{rules}
+use Rattle.std.proofs.Common.{rules, arith, refl}
 use Rattle.register_core.specs.Settings.{KeyNeed, TypePeriod}
 use Rattle.register_store.specs.declared.setting.Setting.{Setting}
 use Rattle.register_store.specs.TableChanges.{Makes}
@@ -14,27 +14,13 @@ returns-in_ok-execute-in-Period g c =
     let entry : TypePeriod = record { kind = c.in-Period.kind; period = c.in-Period.period } in
     wrote_so (λ (set : Setting). Makes (HasNoneSet set) (more_set set)) c.in-Period.is
     (ran (put_text periods) (params periods entry) c.in_ok-execute-in-Period.field-0 (search rules)
-    (search rules)
-    (puts_in periods_are entry (search rules) _ _) (λ clean inside. rw (
-      c.params-to_sql.ensures,
-      c.from.ensures,
-      c.code.ensures,
-      c.params-to_sql-in-Period.ensures,
-      c.from-in-Period.ensures,
-      c.params-to_sql-in-Period-2.ensures,
-      c.from-in-Period-2.ensures,
-      c.originator.ensures,
-      c.recipient.ensures,
-    ) at (c.in_ok-execute-in-Period.ensures.runs clean inside)) c.in_ok-execute-in-Period.ensures.survives)
+    (search rules) (puts_in periods_are entry (search rules) _ _) refl (search arith)
+    c.in_ok-execute-in-Period.ensures.runs c.in_ok-execute-in-Period.ensures.survives)
 
 pub returns-in_ok-execute-in-Need : goal.returns-in_ok-execute-in-Need
 returns-in_ok-execute-in-Need g c =
     let entry : KeyNeed = record { key = c.in-Need.key; need = c.in-Need.need } in
     wrote_so (λ (set : Setting). Makes (HasNoneSet set) (more_set set)) c.in-Need.is
     (ran (put_text needs) (params needs entry) c.in_ok-execute-in-Need.field-0 (search rules) (search rules)
-    (puts_in needs_are entry (search rules) _ _) (λ clean inside. rw (
-      c.params-to_sql-in-Need.ensures,
-      c.params-to_sql-in-Need-2.ensures,
-      c.from-in-Need.ensures,
-      c.get.ensures.value,
-    ) at (c.in_ok-execute-in-Need.ensures.runs clean inside)) c.in_ok-execute-in-Need.ensures.survives)
+    (puts_in needs_are entry (search rules) _ _) refl (search arith)
+    c.in_ok-execute-in-Need.ensures.runs c.in_ok-execute-in-Need.ensures.survives)

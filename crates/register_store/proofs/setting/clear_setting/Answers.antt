@@ -1,4 +1,4 @@
-use Rattle.std.proofs.Common.{rules}
+use Rattle.std.proofs.Common.{rules, arith, refl}
 use Rattle.period_core.specs.KeyType.{key_type_code}
 use Rattle.register_store.specs.declared.setting.Setting.{Setting}
 use Rattle.register_store.specs.TableChanges.{Makes}
@@ -15,15 +15,13 @@ returns-in_ok-execute-in-Period g c =
     wrote_so (λ (set : Setting). Makes Always (without_set set)) c.in-Period.is
     (ran (clear_text periods) (number_params number) c.in_ok-execute-in-Period.field-0 (search rules)
     (search rules) (takes_out periods_are number _ _)
-    (λ clean inside.
-    rw (c.params-to_sql.ensures, c.from-code.ensures, c.code.ensures) at (c.in_ok-execute-in-Period.ensures.runs clean inside))
-    c.in_ok-execute-in-Period.ensures.survives)
+    refl (search arith)
+    c.in_ok-execute-in-Period.ensures.runs c.in_ok-execute-in-Period.ensures.survives)
 
 pub returns-in_ok-execute-in-Need : goal.returns-in_ok-execute-in-Need
 returns-in_ok-execute-in-Need g c =
     wrote_so (λ (set : Setting). Makes Always (without_set set)) c.in-Need.is
     (ran (clear_text needs) (number_params c.in-Need.key) c.in_ok-execute-in-Need.field-0 (search rules)
     (search rules)
-    (takes_out needs_are c.in-Need.key _ _) (λ clean inside.
-    rw c.params-to_sql-in-Need.ensures at (c.in_ok-execute-in-Need.ensures.runs clean inside))
-    c.in_ok-execute-in-Need.ensures.survives)
+    (takes_out needs_are c.in-Need.key _ _) refl (search arith)
+    c.in_ok-execute-in-Need.ensures.runs c.in_ok-execute-in-Need.ensures.survives)

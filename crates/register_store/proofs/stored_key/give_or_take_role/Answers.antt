@@ -12,5 +12,5 @@ returns g c =
     let key = c.args.key in
     let name = c.args.name.now in
     ran (change_text change) (name_cells (key_name key name)) c.in_ok-execute.field-0 (search rules) (search rules)
-    (changes_role change key name (rw c.text.ensures.value at c.text.ensures.in_range) _ _) (search arith)
-    c.in_ok-execute.ensures.survives
+    (changes_role change key name (rw c.text.ensures.value at c.text.ensures.in_range) _ _) c.sql.ensures (search arith)
+    c.in_ok-execute.ensures.runs c.in_ok-execute.ensures.survives
