@@ -42,7 +42,8 @@ use Rattle.register_store.specs.AcceptedRequest.{CanTake, with_request}
 use Rattle.register_store.specs.Change.{made_count, with_change}
 use Rattle.register_store.specs.Schema.{Holds}
 use Rattle.register_store.specs.TableChanges as tabled
-use Rattle.register_store.specs.TableChanges.{AreRightAt, advanced, held_by, where_number, with_keys_advanced}
+use Rattle.register_store.specs.TableChanges.{AreRightAt, advanced, where_number, with_keys_advanced}
+use Rattle.register_store.specs.TableChanges.{with_owner_and_row}
 use Rattle.register_store.specs.TableReads.{HasRequest, seen}
 use Rattle.register_store.specs.Tables.{Tables}
 use Rattle.register_desk.specs.declared.desk.Desk.{Desk}
@@ -85,7 +86,7 @@ advanced_right at (k ∷ keys) = (refl, advanced_right at keys)
 -- the owner and the row of a change, at its key alone
 held_right : (at number : ℕ) (owner : List ℕ) (row : Row) → IsRightAt row at → (n : ℕ) (keys : List Key)
     → AllRight at keys
-    → AllRight at (map (where_number number (held_by owner row)) (enumerate_from n keys))
+    → AllRight at (map (where_number number (with_owner_and_row owner row)) (enumerate_from n keys))
 held_right at number owner row right n [] each = tt
 held_right at number owner row right n (k ∷ keys) each =
     grind (arith, held_right at number owner row right (n + 1) keys each.1)

@@ -29,7 +29,7 @@ use Rattle.register_store.specs.Columns.{joined}
 use Rattle.register_store.specs.Tables.{Layout, fresh, place_of, AreDates, IsKey, date_cell, key_row, numbered}
 use Rattle.register_store.specs.Within.Tables.{keys}
 use Rattle.register_store.specs.Schema.{schema_with, Holds, rows_of}
-use Rattle.register_store.specs.TableChanges.{Makes, held_by, where_number, with_key_at}
+use Rattle.register_store.specs.TableChanges.{Makes, with_owner_and_row, where_number, with_key_at}
 use Rattle.register_store.specs.Within.TableChanges.{Always}
 use Rattle.register_store.proofs.Actions.{idle, shows_all}
 use Rattle.register_store.proofs.ColumnTerms.{key_kept, with_given}
@@ -134,7 +134,7 @@ abbrev pub AreLaterDates : Dates → Type 0
 AreLaterDates d = (initial : ℕ) → IsMoment initial → AreDates (record d { initial = initial })
 
 stays_key : (owner : List ℕ) (row : Row) → IsName owner → AreLaterDates row.dates → (k : Key) → IsKey k
-    → IsKey (held_by owner row k)
+    → IsKey (with_owner_and_row owner row k)
 stays_key owner row name dates k is = search arith
 
 module _ (number : ℕ) (owner : List ℕ) (row : Row) where
@@ -152,8 +152,8 @@ module _ (number : ℕ) (owner : List ℕ) (row : Row) where
       (date e.compromise_occurrence d.compromise_occurrence)
 
   all_alike : AreLaterDates row.dates → (n : ℕ) (ks : List Key) → AllByRecursion IsKey ks
-      → map (changed_where is_to_change (held_by owner row)) (enumerate_from n ks)
-      ≡ map (where_number number (held_by owner row)) (enumerate_from n ks)
+      → map (changed_where is_to_change (with_owner_and_row owner row)) (enumerate_from n ks)
+      ≡ map (where_number number (with_owner_and_row owner row)) (enumerate_from n ks)
   all_alike dates n [] all = refl
   all_alike dates n (k ∷ ks) all =
       let head = where_it_differs number owner row (n, k) all.0 (dates k.row.dates.initial all.0.dates.initial) in
@@ -162,10 +162,10 @@ module _ (number : ℕ) (owner : List ℕ) (row : Row) where
 
   pub updates_key : IsName owner → AreLaterDates row.dates → (old new : View) (count : ℕ)
       → Executes key_text (key_params number owner row) old new (Ok count)
-      → Makes Always (with_key_at number (held_by owner row)) old.now new.now
+      → Makes Always (with_key_at number (with_owner_and_row owner row)) old.now new.now
   updates_key name dates old new count ran t holds always =
       let made = changes_keys key_text differs key_given key_parts (key_params number owner row) is_to_change
-      (held_by owner row) (stays_key owner row name dates)
+      (with_owner_and_row owner row) (stays_key owner row name dates)
       (search (arith, ap₂, equal_numbers, condition_is, and-true, opposite, stands))
       (λ p. simp (cast_int, cast_null)) old new count ran in
       subst (λ ks. Holds (record t { keys = ks }) new.now) (all_alike dates 1 t.keys (holds.in_range Keys))

@@ -20,7 +20,8 @@ ghost use Rattle.register_requests.specs.Purpose.{IsPurpose};
 ghost use Rattle.register_core.specs.declared.key.Key.{Key};
 ghost use Rattle.register_store.specs.Within.StepCount.{Writes};
 ghost use Rattle.register_store.specs.Tables.{AreDates, IsKey, date_cell};
-ghost use Rattle.register_store.specs.TableChanges.{Makes, with_key, with_key_at, held_by};
+ghost use Rattle.register_store.specs.TableChanges.{Makes, with_key, with_key_at};
+ghost use Rattle.register_store.specs.TableChanges.{with_owner_and_row};
 ghost use Rattle.register_store.specs.Within.TableChanges.{Always};
 ghost use Rattle.register_store.specs.Within.TableChanges.{without_approvals};
 ghost use Rattle.register_store.specs.TableReads.{seen, Calls, HasRow, KeepsSight, Reads};
@@ -284,7 +285,7 @@ pub(crate) fn set_owner_state_and_dates<T: Inside>(
     row: &Row,
 ) -> Result<(), StoreError>
     ensures { Writes T.Inside.sees T.Inside.name 1
-        (Makes Always (with_key_at number (held_by owner.now row.now)))
+        (Makes Always (with_key_at number (with_owner_and_row owner.now row.now)))
         tx.old tx.new steps.old steps.new result }
 {
     let dates = &row.dates;

@@ -5,7 +5,7 @@ use Rattle.sql_steps.proofs.Stepping.{steps_then, steps_weaker}
 use Rattle.register_core.specs.declared.change.Change.{Change}
 use Rattle.register_core.specs.declared.change.Change.TheVariants.{Held, Made}
 use Rattle.register_store.specs.Change.{with_change, with_custody}
-use Rattle.register_store.specs.TableChanges.{Makes, HasKeys, held_by, with_key, with_key_at}
+use Rattle.register_store.specs.TableChanges.{Makes, HasKeys, with_owner_and_row, with_key, with_key_at}
 use Rattle.register_store.specs.Within.TableChanges.{Always}
 use Rattle.register_store.proofs.Wrote.{wrote}
 use Rattle.register_store.proofs.accepted_request.write_change.Goals as goal
@@ -17,7 +17,7 @@ returns-in_ok-set_owner_state_and_dates-in-Held g c =
     let b = g.T.Inside.sees c.set_owner_state_and_dates.new.tx in
     let d = g.T.Inside.sees c.write_custody.new.tx in
     let key = arm.key in
-    let Updates = Makes Always (with_key_at key (held_by arm.owner arm.row)) in
+    let Updates = Makes Always (with_key_at key (with_owner_and_row arm.owner arm.row)) in
     let Custody = Makes Always (with_custody key arm.custody) in
     let All = λ (change : Change). Makes (HasKeys c.args.keys) (with_change change) in
     let both = steps_then (λ _. Updates) (λ _. Custody) a b d c.in_ok-set_owner_state_and_dates-in-Held.field-0
