@@ -49,7 +49,8 @@ pub returns-then-not-may_serve_on : goal.returns-then-not-may_serve_on
 returns-then-not-may_serve_on g c =
     let finish = c.serve_connection-finish in
     let on = sym c.may_serve_on.ensures ∙ c.if-not-may_serve_on.true in
-    let counted = ap (λ (a : Attendance). a.accepted) (c.in-Some-tell_moment.ensures.tells ∙ c.in-Some.ensures.counts) in
+    let counted = ap (λ (a : Attendance). a.accepted)
+    (c.in-Some-tell_moment.ensures.tells ∙ c.in-Some.ensures.counts) in
     let within : c.exchanges.served + 1 ≤ c.args.exchanges = omega (arith, c.exchanges-test.true) in
     record {
       leaves = λ h stands whole clean. served_last g.S.Store h c.exchanges.served c.args.exchanges c.exchanges.desk
@@ -66,5 +67,8 @@ returns g c = record {
       (c.exchanges.invariant.so_far h stands whole clean) c.exchanges.invariant.within clean;
   clean = c.exchanges.invariant.clean;
   ends = refl;
-  cause = (omega (arith, c.exchanges.invariant.within, c.exchanges.invariant.accepted, c.exchanges-test.false), c.exchanges.invariant.sound);
+  cause = (
+    omega (arith, c.exchanges.invariant.within, c.exchanges.invariant.accepted, c.exchanges-test.false),
+    c.exchanges.invariant.sound,
+  );
 }

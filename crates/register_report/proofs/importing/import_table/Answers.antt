@@ -89,20 +89,22 @@ returns-clause-table g c bytes known =
     c.from_reader-table.ensures.state c.from_reader-table.ensures.source known in
     rw c.ended_without_bytes.ensures (record {
       runs = λ items has. no_header_runs reads c.read_header.new.table g.S.Store c.args.desk.now
-          (g.W.Write.contents c.args.writer.now.inner) c.read_header.new.self.reader_failed c.in-Err.end c.in-Err.ensures.end has.rows has.has items;
+          (g.W.Write.contents c.args.writer.now.inner) c.read_header.new.self.reader_failed c.in-Err.end
+          c.in-Err.ensures.end has.rows has.has items;
       texts = λ rows has. tt;
       without = λ none. (
         record { desk = refl; writer = refl; written = refl; replies = refl },
         no_header_ends g.R.Read.remaining c.from_reader-table.result
             c.read_header.new.table c.read_header.new.self.reader_failed c.in-Err.end c.in-Err.ensures.end,
       );
-      bad_header = no_header reads c.read_header.new.table c.read_header.new.self.reader_failed c.in-Err.end c.in-Err.ensures.end;
+      bad_header = no_header reads c.read_header.new.table c.read_header.new.self.reader_failed c.in-Err.end
+          c.in-Err.ensures.end;
     })
 
 pub returns-clause-lives : goal.returns-clause-lives
 returns-clause-lives g c h stands clean =
-    rw c.ended_without_bytes.ensures (no_header_lives g.S.Store c.args.desk.now g.R.Read.remaining c.from_reader-table.result
-    c.read_header.new.table c.read_header.new.self.reader_failed h stands clean
+    rw c.ended_without_bytes.ensures (no_header_lives g.S.Store c.args.desk.now g.R.Read.remaining
+    c.from_reader-table.result c.read_header.new.table c.read_header.new.self.reader_failed h stands clean
     (g.W.Write.contents c.args.writer.now.inner) c.in-Err.end c.in-Err.ensures.end)
 
 pub returns-clause-counts : goal.returns-clause-counts
