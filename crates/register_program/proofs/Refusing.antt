@@ -1,7 +1,7 @@
 -- Files that were refused are left as they were found.
 use Rattle.std.proofs.Common.{◌≡◌, ◌⊎◌, List, [], Option, None, Some, Result, Ok, Err, IsTrue, inl, inr, refl}
 use Rattle.std.proofs.Common.{sym, subst, ◌∙◌}
-use Rattle.std.specs.Prelude.{IfErr, IfSome, IsErrAnd}
+use Rattle.std.specs.Prelude.{IfSome, IsErrAnd}
 use Rattle.std.proofs.Math.Logic.{∥∥₁_map}
 use Rattle.sqlite_trees.specs.declared.store.Store.{Ghosts}
 use Rattle.sqlite_trees.specs.View.{IsClean as IsCleanStore}
