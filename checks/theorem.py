@@ -109,24 +109,27 @@ def theorem():
 
 @functools.lru_cache
 def model_rows():
-    """The rows of MODEL: the names in each, where they stand, the plain name, and what it says."""
+    """The rows of MODEL: the names in each, where they stand, the plain name, and what it says of each name: what stands
+    at its place, where as many parts stand there as names, and else all."""
     rows = []
     for line in read("docs/MODEL.md").split("\n"):
         cells = [cell.strip() for cell in line.strip().strip("|").split("|")]
         if line.startswith("|") and len(cells) > 3:
-            rows.append((set(re.findall(r"`([^`]+)`", cells[1])), cells[2], cells[0], cells[3]))
+            names, parts = re.findall(r"`([^`]+)`", cells[1]), cells[3].split("; ")
+            told = parts if len(parts) == len(names) else [cells[3]] * len(names)
+            rows.append((dict(zip(names, told)), cells[2], cells[0]))
     return rows
 
 
 def model_row(key):
     """The plain name that MODEL has for a definition, and what it says, by its name and its file."""
     place = key.place.split("/")[-1].removesuffix(".rt")
-    return next(((name, says) for names, where, name, says in model_rows()
-                 if key.name in names and re.search(rf"\b{place}\b", where)), None)
+    return next(((name, told[key.name]) for told, where, name in model_rows()
+                 if key.name in told and re.search(rf"\b{place}\b", where)), None)
 
 
 def words_of(definition):
-    """A definition's plain words. Those that go on from others begin with its name in MODEL, or with the others."""
+    """A definition's plain words: where its own go on from others, those of MODEL, or with the others before them."""
     key, words = definition.key, definition.words
     row = model_row(key)
     if not words:
@@ -134,7 +137,7 @@ def words_of(definition):
     if not GOES_ON.match(words) or key.place.startswith("src/"):
         return words
     if row:
-        return f"{row[0]}: {words}"
+        return ": ".join(row)
     for above in definitions.words_above(key):
         words = f"{above.rstrip('.')}; {words}" if above else words
         if above and not GOES_ON.match(above):
