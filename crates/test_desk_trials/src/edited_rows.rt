@@ -3,6 +3,7 @@
 use crate::cases::first_wrong;
 use crate::fresh_run::desk_of;
 use period_core::KeyType;
+use register_core::Quorum;
 use register_store::{
     Counted, StoreError, each_key, find_key_need, find_key_row, find_office_period, load_key,
 };
@@ -34,7 +35,7 @@ impl Look {
         match self {
             Look::Row => Ok(find_key_row(tables, 1)?.is_some()),
             Look::Next => Ok(each_key(tables, 0)?.is_some()),
-            Look::Key => Ok(load_key(alloc, tables, 1, 3)?.is_some()),
+            Look::Key => Ok(load_key(alloc, tables, 1, Quorum::LEAST)?.is_some()),
             Look::Need => Ok(find_key_need(tables, 1)?.is_some()),
             Look::Period => Ok(find_office_period(tables, KeyType::Master)?.is_some()),
         }
