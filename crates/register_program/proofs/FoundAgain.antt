@@ -428,29 +428,33 @@ module _ {S : Type 0} (g : Ghosts S) (may_leave : S → Image → Type 0) where
   leads_from found task input old new done performs h left lawful start leaves =
       by_task g may_leave h found left start lawful old new input task done performs leaves
 
+module _ {S : Type 0} (g : Ghosts S) (may_leave : S → Image → Type 0)
+    (Does : Image → Task → Option (List ℕ) → Option (List ℕ) → Option (List ℕ) → Done S → Type 0)
+    (leads : (found : Image) (task : Task) (input old new : Option (List ℕ)) (done : Done S)
+    → Does found task input old new done → LeadsFrom g may_leave found task input old new done) where
   by_runs_of : (h : List Request) (found left : Image) (input old new : Option (List ℕ))
-      (runs : RunsBy g may_leave found input old new) → IsLawful h → HoldsHistory h found
-      → Leaves g may_leave
+      (runs : RunsBy g may_leave Does found input old new) → IsLawful h → HoldsHistory h found
+      → Leaves g may_leave Does
       (record { found = found; input = input; old = old; new = new; runs = runs; left = left })
-      → ∥ ((life : Life) × AreInRange life.items × Was g may_leave h
+      → ∥ ((life : Life) × AreInRange life.items × Was g may_leave Does h
       (record { found = found; input = input; old = old; new = new; runs = runs; left = left }) life
       × HoldsHistory (after h life) left) ∥₁
-  by_runs_of h found left input old new (Did task done leads) lawful start leaves =
-      ∥∥₁_map (leads h left lawful start leaves) (λ one. (one.0, one.1.in_range, one.1, one.2))
+  by_runs_of h found left input old new (Did task done does) lawful start leaves =
+      ∥∥₁_map (leads found task input old new done does h left lawful start leaves) (λ one. (one.0, one.1.in_range, one.1, one.2))
   by_runs_of h found left input old new (DidNothing same) lawful start leaves =
       ∣ (no_life, tt, refl, subst (HoldsHistory h) (sym leaves) start) ∣₁
 
-  by_run : (h : List Request) (run : ProgramRun g may_leave) → IsLawful h → HoldsHistory h run.found
-      → Leaves g may_leave run
-      → ∥ ((life : Life) × AreInRange life.items × Was g may_leave h run life
+  by_run : (h : List Request) (run : ProgramRun g may_leave Does) → IsLawful h → HoldsHistory h run.found
+      → Leaves g may_leave Does run
+      → ∥ ((life : Life) × AreInRange life.items × Was g may_leave Does h run life
       × HoldsHistory (after h life) run.left) ∥₁
   by_run h run lawful start leaves =
       by_runs_of h run.found run.left run.input run.old run.new run.runs lawful start leaves
 
-  by_runs : (runs : List (ProgramRun g may_leave)) (h : List Request) (found : Image) → IsLawful h
-      → HoldsHistory h found → Follow g may_leave found runs
-      → ∥ ((lives : List Life) × Were g may_leave h runs lives × IsLawful (after_lives h lives)
-      × HoldsHistory (after_lives h lives) (left_after g may_leave found runs)) ∥₁
+  by_runs : (runs : List (ProgramRun g may_leave Does)) (h : List Request) (found : Image) → IsLawful h
+      → HoldsHistory h found → Follow g may_leave Does found runs
+      → ∥ ((lives : List Life) × Were g may_leave Does h runs lives × IsLawful (after_lives h lives)
+      × HoldsHistory (after_lives h lives) (left_after g may_leave Does found runs)) ∥₁
   by_runs [] h found lawful start follow = ∣ ([], tt, lawful, start) ∣₁
   by_runs (run ∷ runs) h found lawful start follow =
       let begun = subst (HoldsHistory h) (sym follow.0) start in
@@ -459,8 +463,8 @@ module _ {S : Type 0} (g : Ghosts S) (may_leave : S → Image → Type 0) where
       ∥∥₁_map (by_runs runs (after h one.0) run.left next one.3 follow.2)
       (λ rest. (one.0 ∷ rest.0, (one.2, rest.1), rest.2, rest.3)))
 
-  pub found_again : (first : Image) (runs : List (ProgramRun g may_leave)) → HoldsNothing first
-      → Follow g may_leave first runs → ∥ FoundAgain g may_leave runs (left_after g may_leave first runs) ∥₁
+  pub found_again : (first : Image) (runs : List (ProgramRun g may_leave Does)) → HoldsNothing first
+      → Follow g may_leave Does first runs → ∥ FoundAgain g may_leave Does runs (left_after g may_leave Does first runs) ∥₁
   found_again first runs none follow = ∥∥₁_map (by_runs runs [] first empty_lawful (inl (none, refl)) follow)
       (λ all. record {
         lives = all.0;

@@ -98,9 +98,13 @@ module _ {S : Type 0} (g : Ghosts S) (may_leave : S → Image → Type 0) where
       (h : List Request) (left : Image) → IsLawful h → HoldsHistory h found → LeftBy found done left
       → ∥ ((life : Life) × WasLife h task done input old new life × HoldsHistory (after h life) left) ∥₁
 
+-- Runs of which this is known of what was found, the task, what was read and written, and what it came to: that the task
+-- leads on so, or that it was done as the program does it.
+module _ {S : Type 0} (g : Ghosts S) (may_leave : S → Image → Type 0)
+    (Does : Image → Task → Option (List ℕ) → Option (List ℕ) → Option (List ℕ) → Done S → Type 0) where
   -- a task was done, or the words are none and nothing was written
   pub data RunsBy (found : Image) (input old new : Option (List ℕ)) : Type 0 where
-    Did : (task : Task) → (done : Done S) → LeadsFrom found task input old new done → RunsBy found input old new
+    Did : (task : Task) → (done : Done S) → Does found task input old new done → RunsBy found input old new
     DidNothing : new ≡ old → RunsBy found input old new
 
   -- A run of the program, whatever its words: what the files held, what it read, what had been written before it and
@@ -116,7 +120,7 @@ module _ {S : Type 0} (g : Ghosts S) (may_leave : S → Image → Type 0) where
   -- It left that, on an honest disk that nobody else writes.
   abbrev pub Leaves : ProgramRun → Type 0
   Leaves run = elim run.runs [
-    | Did task done leads ↦ LeftBy run.found done run.left
+    | Did task done does ↦ LeftBy g may_leave run.found done run.left
     | DidNothing same ↦ run.left ≡ run.found
   ]
 
@@ -133,7 +137,7 @@ module _ {S : Type 0} (g : Ghosts S) (may_leave : S → Image → Type 0) where
   -- the run was this life
   abbrev pub Was : List Request → ProgramRun → Life → Type 0
   Was h run life = elim run.runs [
-    | Did task done leads ↦ WasLife h task done run.input run.old run.new life
+    | Did task done does ↦ WasLife g may_leave h task done run.input run.old run.new life
     | DidNothing same ↦ life ≡ no_life
   ]
 
@@ -155,3 +159,10 @@ module _ {S : Type 0} (g : Ghosts S) (may_leave : S → Image → Type 0) where
     pub holds : HoldsHistory (after_lives [] lives) left
     pub opens : (result : Result (Desk S g) (Refused S)) → OpensRegister g left result
         → HoldsRegister (after_lives [] lives) left → OpensAs g (after_lives [] lives) result
+
+  -- The sentence: whatever such runs there are, each over what the one before left, at its end or at a stop, and the
+  -- first over files that hold nothing, what they come to is found again.
+  abbrev pub AreFoundAgain : Type 0
+  AreFoundAgain =
+      (first : Image) (runs : List ProgramRun) → HoldsNothing first → Follow first runs
+      → ∥ FoundAgain runs (left_after first runs) ∥₁

@@ -3,12 +3,11 @@
 ghost use Rattle.std.specs.Prelude.{◌≡◌, ℕ, List, Option};
 ghost use Rattle.sqlite.specs.Recovery.{Image};
 ghost use Rattle.register_requests.specs.declared.request.Request.{Request};
-ghost use Rattle.register_desk.specs.DatabaseFiles.{HoldsNothing, HoldsOneOf};
+ghost use Rattle.register_desk.specs.DatabaseFiles.{HoldsOneOf};
 ghost use Rattle.register_program.specs.declared.acting.Done.{Done};
 ghost use Rattle.register_program.specs.Closing.{LeftIn, alone};
 ghost use Rattle.register_program.specs.Life.{LeavesInFiles};
-ghost use Rattle.register_program.specs.Sentence.{Follow, FoundAgain, LeadsFrom, ProgramRun};
-ghost use Rattle.register_program.specs.Sentence.{left_after};
+ghost use Rattle.register_program.specs.Sentence.{AreFoundAgain, LeadsFrom};
 ghost use Rattle.register_program.specs.Task.{Performs};
 ghost use Rattle.register_words.specs.declared.words.Task.{Task};
 
@@ -24,21 +23,23 @@ pub fn database_file_holds_alone<F: Files>(closed: &Closed<F::Opened>)
         HoldsOneOf h other whole × HoldsOneOf h other (alone whole) }
 {}
 
-/// A task that was done as [`perform_task`](crate::perform_task) does it leads from what the files
-/// held to what they hold after the life that it was.
+/// A task that was done as [`perform_task`](crate::perform_task) does it, over whatever the files
+/// held, leads from that to what they hold after the life that it was.
 pub fn tasks_are_lives<F: Files>()
-    ensures { (task : Task) (input : Option (List ℕ)) (old : Option (List ℕ))
+    ensures { (found : Image) (task : Task) (input : Option (List ℕ)) (old : Option (List ℕ))
         (new : Option (List ℕ)) (done : Done F.Opened) →
-        Performs F.Opened.Store F.may_leave F.start task input old new done →
-        LeadsFrom F.Opened.Store F.may_leave F.start task input old new done }
+        Performs F.Opened.Store F.may_leave found task input old new done →
+        LeadsFrom F.Opened.Store F.may_leave found task input old new done }
 {}
 
 /// Whatever the program is run for, as often as one likes, each run over what the one before left,
 /// at its end or at a stop, and the first over files that hold nothing: the files hold nothing
 /// still, or exactly the register of lives that the runs were, and an opening finds it.
 pub fn register_is_found_again<F: Files>()
-    ensures { (first : Image) (runs : List (ProgramRun F.Opened.Store F.may_leave)) →
-        HoldsNothing first → Follow F.Opened.Store F.may_leave first runs →
-        ∥ FoundAgain F.Opened.Store F.may_leave runs
-        (left_after F.Opened.Store F.may_leave first runs) ∥₁ }
+    ensures { AreFoundAgain F.Opened.Store F.may_leave (LeadsFrom F.Opened.Store F.may_leave) }
+{}
+
+/// So it is of runs whose tasks are done as [`perform_task`](crate::perform_task) does them.
+pub fn performed_runs_are_found_again<F: Files>()
+    ensures { AreFoundAgain F.Opened.Store F.may_leave (Performs F.Opened.Store F.may_leave) }
 {}
