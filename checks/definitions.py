@@ -326,6 +326,20 @@ def impl_definition(key):
     return Definition(key, paragraph(file.words_of(at) or file.words_of(of_type), "///"), tuple(text), "", names)
 
 
+def on_one_line(lines):
+    """The lines, with each variant of an enum on one where that has the room and no comment stands within."""
+    text = "\n".join(lines)
+    for variant in re.findall(r"^    \w+ \{\n(?:        \w+: [^\n]*,\n)+    \},$", text, re.M):
+        joined = re.sub(r"\n\s*", " ", variant).replace(", },", " },")
+        text = text.replace(variant, joined) if len(joined) <= 110 else text
+    return text.split("\n")
+
+
+def without_inverse(lines):
+    """What `impl Model` has, but for the way back from the value, of which no contract speaks."""
+    return [line for line in lines if not line.startswith("    ghost inverse ")]
+
+
 def rust_definition(key):
     """An item of code; of a type that contracts see as a value, also what that value is."""
     file = rust_file(key.crate, key.place)
@@ -336,12 +350,12 @@ def rust_definition(key):
     named = names_of_terms(file, at, end)
     models = [place for place, trait, name in file.impls if trait == "Model" and name == key.name]
     for place in models:
-        text += file.item_lines(place)
+        text += without_inverse(file.item_lines(place))
         named += names_of_terms(file, place, declared.item_end(file.lines, place))
     if not models:
         named += [rust_key(file, word) for word in declared.type_words("\n".join(text))]
     names = tuple(name for name in dict.fromkeys(named) if name and name != key)
-    return Definition(key, paragraph(file.words_of(at), "///"), tuple(text), "", names)
+    return Definition(key, paragraph(file.words_of(at), "///"), tuple(on_one_line(text)), "", names)
 
 
 def law(path, name):

@@ -36,11 +36,13 @@ HEAD = """\
 {says}
 
 The theorem below says so, of any runs of the program over one register's files: request lines, imports, exports,
-reports, served exchanges, creations, refusals, and words that are none. That a task leads as the theorem takes it to
-(`LeadsFrom`) is proved of the code in two steps: the contract of `perform_task`, which `act` calls once with the files
-handed over, says what the task came to (`Performs`), and the law `tasks_are_lives` that it leads so. What an opening
-does (`OpensRegister`) is in the contract of `open_file`, which each command calls that needs the register. To be read
-is `act`, of a few lines, and `main`, which hand on the files and the words.
+reports, served exchanges, creations, refusals, and words that are none. It takes of each run that its task leads so
+(`LeadsFrom`). The law `performed_runs_are_found_again` is the same theorem of runs whose tasks were done as the
+contract of `perform_task` has it (`Performs`), whatever the files held; it stands on half as many definitions again,
+of exports, reports, refusals and what an opening checks, which this page leaves out. `act` calls `perform_task` once
+with the files handed over. Those of each run are a `Files` of its own, whose `start` is what the run found. What an
+opening does (`OpensRegister`) is a part of the contract of `open_file` (`OpensFile`), which each command calls that
+needs the register. To be read is `act`, of a few lines, and `main`, which hand on the files and the words.
 
 | Of the sentence | In the theorem |
 |---|---|
@@ -48,16 +50,22 @@ is `act`, of a few lines, and `main`, which hand on the files and the words.
 | that nobody else writes | `Follow`: each run finds what the one before left |
 | after any request lines | any words and an input of any bytes (`ProgramRun`), and its items (`AreItemsOf`) |
 | a stop before or within any write | a disk that fails from then on: `LeftBy` has all that may be found |
-| opening the file again finds exactly the register | `opens`; and `holds`, these tables and nothing else |
+| opening the file again finds exactly the register | `opens`, where it succeeds; `holds`: these tables, no others |
 | of a prefix of the accepted requests | the first items of each run (`applied`), in a history that is `lawful` |
 | every accepted request whose reply line was written | the `replies` of a life: lines written whole (`Answered`) |
-| and at most one more | `one_more` of a life |
+| and at most one more | `one_more` of each life |
 | every key's state is the one its dates and the latest accepted moment give | so `tables` have it, by `key_of` |
 
 Its premises beside the sentence's own: a run that opened no file leaves the files as they are; what an opening leaves
 that failed before a connection was there stands for what it found (`StandsAs`); and a store that a fault shut while its
 log was copied is numbered still (`LeftIn`, part `numbered`), of which the kit says nothing. What README lists as
-trusted is trusted here too. Of exchanges the theorem has no replies: no contract knows the bytes of a connection.
+trusted is trusted here too.
+
+What it does not say: that an opening succeeds, since memory may give out or the disk refuse; of exchanges any reply,
+since no contract knows the bytes of a connection; of an input or an output whose bytes nobody knows what its items or
+its lines are; of an import that its items are those of its rows, which the contract of `import` has; and that the empty
+register of an `init` is found, and no file without one, before a request is accepted. That a stop within a write is a
+disk that fails from that write on is how `may_leave` is read.
 
 First stands the theorem, and then each definition on which it stands, once, below the first that names it. The crates
 come from the top down: the large words first, and what they are made of further on. Above each definition stands its
@@ -84,7 +92,8 @@ their own, and are left out where one of them names another.
 | `x.part`, `x.0`, `x.1` | a part of x; the first and the second of a pair |
 | `record t {{ part = x }}` | t with another part |
 | `[]`, `x ∷ more`, `a ++ b` | the empty list; x and then more; one list after another |
-| `{{x : A}}` | x is left out where it is clear |
+| `{{x : A}}`, `_` | x is left out where it is clear; any value |
+| `let x = y in z`, `elim x [ \| A y ↦ z ]` | z with y for x; by cases of x, z where it is A of y |
 """
 
 
