@@ -1,12 +1,12 @@
 -- The usage periods that an office sets for types, in the place of this register's own.
-use Rattle.std.specs.Prelude.{◌==◌, Option, if◌then◌else◌, unwrap_or}
+use Rattle.std.specs.Prelude.{◌==◌, Option, if◌then◌else◌}
 use Rattle.period_core.specs.declared.key_type.KeyType.{KeyType}
 use Rattle.period_core.specs.declared.key_type.KeyType.TheVariants.{DataEncryption, Authentication, KeyWrapping}
 use Rattle.period_core.specs.declared.key_type.KeyType.TheVariants.{PrivateSignature, PrivateAuthentication}
 use Rattle.period_core.specs.declared.key_type.KeyType.TheVariants.{PrivateTransport, Master}
 use Rattle.period_core.specs.declared.office.OfficePeriods.{OfficePeriods}
 use Rattle.period_core.specs.KeyType.{key_type_code}
-use Rattle.period_core.specs.Period.{Period, periods}
+use Rattle.period_core.specs.Period.{Period, period_or_default}
 
 -- what is set for a type
 abbrev pub set_in : OfficePeriods → KeyType → Option Period
@@ -20,7 +20,7 @@ set_in set Master = set.master
 
 -- the period that is set for a type, or the type's own
 abbrev pub period_in : OfficePeriods → KeyType → Period
-period_in set kind = unwrap_or (set_in set kind) (periods kind)
+period_in set kind = period_or_default (set_in set kind) kind
 
 -- those of which this is set for each type
 abbrev pub of_each : (KeyType → Option Period) → OfficePeriods

@@ -1,6 +1,6 @@
 -- Usage periods, in months. The months and their ranges are this register's own; what they bound is modelled on SP
 -- 800-57 Part 1 Revision 5, sections 5.3.4 and 5.3.5.
-use Rattle.std.specs.Prelude.{ℕ, ◌≤◌}
+use Rattle.std.specs.Prelude.{ℕ, ◌≤◌, Option, unwrap_or}
 use Rattle.period_core.specs.declared.key_type.KeyType.{KeyType}
 use Rattle.period_core.specs.declared.key_type.KeyType.TheVariants.{DataEncryption, Authentication, KeyWrapping}
 use Rattle.period_core.specs.declared.key_type.KeyType.TheVariants.{PrivateSignature, PrivateAuthentication}
@@ -25,7 +25,7 @@ pub record IsPeriod (p : Period) : Type 0 where
   pub originator : p.originator ≤ max_months
   pub recipient : p.recipient ≤ max_months
 
--- the period of a type
+-- the period of a type, where none is set for it
 abbrev pub periods : KeyType → Period
 periods DataEncryption = record { originator = 24; recipient = 36 }
 periods Authentication = record { originator = 24; recipient = 36 }
@@ -34,3 +34,7 @@ periods PrivateSignature = record { originator = 36; recipient = 0 }
 periods PrivateAuthentication = record { originator = 24; recipient = 0 }
 periods PrivateTransport = record { originator = 24; recipient = 0 }
 periods Master = record { originator = 12; recipient = 0 }
+
+-- the period of a type, where this is set for it, if anything is
+abbrev pub period_or_default : Option Period → KeyType → Period
+period_or_default set kind = unwrap_or set (periods kind)

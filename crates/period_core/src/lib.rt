@@ -22,4 +22,4 @@ pub use date_fitting::{
 };
 pub use key_type::KeyType;
 pub use office::OfficePeriods;
-pub use period::{MAX_MONTHS, Period, period_of};
+pub use period::{MAX_MONTHS, Period, period_of, period_or_default};

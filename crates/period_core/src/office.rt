@@ -2,7 +2,7 @@
 ghost use Rattle.std.specs.Prelude.{◌≡◌};
 
 use crate::key_type::KeyType;
-use crate::period::{Period, period_of};
+use crate::period::{Period, period_or_default};
 
 /// What the office set for each type: a usage period, or none, where the type's own holds.
 #[derive(Clone, Copy, Debug)]
@@ -59,7 +59,7 @@ impl OfficePeriods {
     pub fn period(&self, kind: KeyType) -> Period
         ensures { result ≡ period_in self.now kind }
     {
-        self.period_set_for(kind).unwrap_or(period_of(kind))
+        period_or_default(kind, self.period_set_for(kind))
     }
 
     /// Takes this in the place of what was set for the type.

@@ -1,6 +1,6 @@
 //! The usage periods of the types of keys.
 ghost use Rattle.std.specs.Prelude.{◌≡◌};
-ghost use Rattle.period_core.specs.Period.{periods};
+ghost use Rattle.period_core.specs.Period.{period_or_default, periods};
 
 use crate::key_type::KeyType;
 use std::marker::Model;
@@ -87,4 +87,11 @@ pub fn period_of(kind: KeyType) -> Period
             recipient: 0,
         },
     }
+}
+
+/// The usage periods of the type, where these are set for it, if any are: else its own.
+pub fn period_or_default(kind: KeyType, set: Option<Period>) -> Period
+    ensures { result ≡ period_or_default set kind }
+{
+    set.unwrap_or(period_of(kind))
 }

@@ -20,7 +20,7 @@ use Rattle.register_core.specs.declared.view.Held.{Held}
 use Rattle.register_core.specs.Effect.{edited_dates, compromised, deactivated}
 use Rattle.register_core.specs.Effect.{dates_after}
 use Rattle.register_core.specs.Effect.{sets_dates}
-use Rattle.register_requests.specs.CommandRule.{before_compromise, is_one_of, is_for}
+use Rattle.register_requests.specs.CommandRule.{before_compromise, is_one_of, rule}
 use Rattle.register_core.specs.Verdict.{keeps_date, freeze_refusal, dates_refusal}
 use Rattle.register_requests.specs.Subject.{named}
 use Rattle.register_core.specs.Laws.{MovesOnly}
@@ -107,7 +107,7 @@ revoked period d t false occurrence sound fits_state = grind (arith, nat_tests, 
 -- sound by
 pub step : (ps : KeyType → Period) (before : Period) (key : Held) (t k : ℕ) (c : Command) → named c ≡ Some k
     → IsSound before key.row.dates
-    → is_for c (state_at key.row.dates t) ≡ true → freeze_refusal (Some key) t c ≡ None
+    → is_one_of (rule c).states (state_at key.row.dates t) ≡ true → freeze_refusal (Some key) t c ≡ None
     → dates_refusal ps (Some key) t c ≡ None
     → Steps (cond (sets_dates c) (ps key.kind) before) key.row.dates t (dates_after (ps key.kind) key.row.dates t c)
 step ps before key t k (Registers kind owner activation protect_stop deactivation purpose) names sound fits_state free

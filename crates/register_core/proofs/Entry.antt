@@ -5,9 +5,10 @@ use Rattle.period_core.specs.Within.Fitting.{Checks}
 use Rattle.register_core.specs.declared.reply.Refusal.{Refusal}
 use Rattle.register_requests.specs.declared.request.Request.{Request}
 use Rattle.register_core.specs.declared.view.Held.{Held}
-use Rattle.register_core.specs.Verdict.{moment_refusal, key_refusal}
+use Rattle.register_core.specs.Verdict.{giver_refusal, moment_refusal, key_refusal}
 use Rattle.register_core.specs.Verdict.{state_refusal, entry_refusal}
-use Rattle.register_core.specs.Within.Verdict.{giver_refusal}
+use Rattle.register_requests.specs.declared.command_rule.Giver.{Giver}
+use Rattle.register_requests.specs.CommandRule.{rule}
 use Rattle.std.proofs.Common.{arith}
 
 -- neither the moment nor the key is refused
@@ -15,14 +16,15 @@ pub record IsIn (last : ℕ) (key : Option Held) (q : Request) : Type 0 where
   pub moment : moment_refusal last q.moment ≡ None
   pub key_is : key_refusal key q.command ≡ None
 
--- then the giver's refusal is the first, if there is one,
-pub giver_first : {last : ℕ} {key : Option Held} {q : Request} {refusal : Refusal} → IsIn last key q
-    → giver_refusal key q.caller q.command ≡ Some refusal → (told : Result (Unit {0}) Refusal)
-    → IsErrAnd told (λ x. x ≡ refusal) → Checks (entry_refusal last key q) told
-giver_first own is told tells = grind arith
+-- then the refusal of the rule's giver is the first, if there is one,
+pub giver_first : {last : ℕ} {key : Option Held} {q : Request} {giver : Giver} {refusal : Refusal} → IsIn last key q
+    → giver ≡ (rule q.command).giver → giver_refusal giver key q.caller ≡ Some refusal
+    → (told : Result (Unit {0}) Refusal) → IsErrAnd told (λ x. x ≡ refusal) → Checks (entry_refusal last key q) told
+giver_first own is refused told tells = grind arith
 
--- and else that of the state
-pub state_last : {last : ℕ} {key : Option Held} {q : Request} → IsIn last key q
-    → giver_refusal key q.caller q.command ≡ None → (told : Result (Unit {0}) Refusal)
-    → Checks (state_refusal key q.moment q.command) told → Checks (entry_refusal last key q) told
-state_last {last} {key} {q} own none told checked = grind arith
+-- and else that of its states
+pub state_last : {last : ℕ} {key : Option Held} {q : Request} {giver : Giver} → IsIn last key q
+    → giver ≡ (rule q.command).giver → giver_refusal giver key q.caller ≡ None
+    → (told : Result (Unit {0}) Refusal) → Checks (state_refusal (rule q.command).states key q.moment) told
+    → Checks (entry_refusal last key q) told
+state_last own is none told checked = grind arith

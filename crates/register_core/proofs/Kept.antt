@@ -14,7 +14,7 @@ use Rattle.lifecycle_core.specs.declared.state.State.{State}
 use Rattle.register_core.specs.declared.change.Change.{Change}
 use Rattle.register_core.specs.declared.kept_reply.KeptReply.{KeptReply}
 use Rattle.period_core.specs.declared.key_type.KeyType.{KeyType}
-use Rattle.period_core.specs.Period.{Period}
+use Rattle.period_core.specs.Period.{Period, period_or_default}
 use Rattle.register_requests.specs.declared.request.Request.{Request}
 use Rattle.register_requests.specs.declared.request.Command.{Command}
 use Rattle.register_core.specs.declared.reply.Reply.{Reply}
@@ -29,7 +29,7 @@ use Rattle.register_core.specs.Laws.{IsAccepted, IsKeptIn, sent_under}
 use Rattle.register_requests.specs.Request.{IsRequest, max_key_number}
 use Rattle.register_requests.specs.Subject.{Subject, Makes, Names, NoKey, named_by, key_by}
 use Rattle.register_requests.specs.Within.Subject.{count_by}
-use Rattle.register_core.specs.Verdict.{Accepts, Repeats, Refuses, max_keys, always, judge_view, verdict}
+use Rattle.register_core.specs.Verdict.{Accepts, Repeats, Refuses, max_keys, judge_view, verdict}
 use Rattle.register_core.specs.Verdict.{is_accepted, is_same_command, repeated}
 use Rattle.register_core.proofs.FewLaws.{few_keys}
 use Rattle.register_core.proofs.Histories.{count_grows, latest_grows, next_prefix}
@@ -215,4 +215,4 @@ decided_in_range view q request few accepted = grind (arith, key_decided, moment
 
 -- its reply is of the request's moment
 pub decided_at : (view : View) (q : Request) → (reply_of_view view q).moment ≡ q.moment
-decided_at view q = moment_decided view.keys q.moment (change_by_request (always view.period) view.key q)
+decided_at view q = moment_decided view.keys q.moment (change_by_request (period_or_default view.period) view.key q)

@@ -1,16 +1,16 @@
 -- A decision on what a request needs of its key is the decision on that key as it stands.
 use Rattle.std.proofs.Common.{◌≡◌, ℕ, List, Option, None}
-use Rattle.std.proofs.Common.{IfSome, refl, sym, ◌∙◌}
+use Rattle.std.proofs.Common.{IfSome, Some, ap, refl, sym, ◌∙◌}
 use Rattle.period_core.specs.declared.key_type.KeyType.{KeyType}
-use Rattle.period_core.specs.Period.{Period}
+use Rattle.period_core.specs.Period.{Period, period_or_default}
 use Rattle.register_requests.specs.declared.request.Request.{Request}
 use Rattle.register_requests.specs.declared.request.Command.{Command}
 use Rattle.register_core.specs.declared.view.Held.{Held}
 use Rattle.register_core.specs.declared.view.View.{View}
-use Rattle.register_core.specs.History.{latest, count, period}
+use Rattle.register_core.specs.History.{latest, count, period, set_period}
 use Rattle.register_requests.specs.Subject.{Subject, subject}
 use Rattle.register_core.specs.KeptReply.{reply}
-use Rattle.register_core.specs.Verdict.{dates_refusal, always, judge, judge_view}
+use Rattle.register_core.specs.Verdict.{dates_refusal, judge, judge_view}
 use Rattle.register_core.specs.Verdict.{judgement, named_key}
 use Rattle.register_core.specs.Decision.{change_of, change_by_request, reply_of_view, IsViewOf, LeadsTo}
 use Rattle.register_core.specs.Effect.{needed_period_type}
@@ -26,6 +26,13 @@ use Rattle.std.proofs.lemmas.Bool.Decides.{nat_tests}
 -- the periods are one for the type that the command is held to
 abbrev pub AreSoFor : Option KeyType → (KeyType → Period) → (KeyType → Period) → Type 0
 AreSoFor needed periods others = IfSome needed (λ kind. periods kind ≡ others kind)
+
+-- a period that is set for that type, if one is, as the others have it
+pub so_for : (needed : Option KeyType) (set : Option Period) (sets : KeyType → Option Period)
+    → IfSome needed (λ kind. set ≡ sets kind)
+    → AreSoFor needed (period_or_default set) (λ kind. period_or_default (sets kind) kind)
+so_for None set sets is = tt
+so_for (Some kind) set sets is = ap (λ (told : Option Period). period_or_default told kind) is
 
 fit_so : (periods others : KeyType → Period) (key : Option Held) (t : ℕ) (c : Command)
     → AreSoFor (needed_period_type key c) periods others → dates_refusal periods key t c ≡ dates_refusal others key t c
@@ -65,7 +72,7 @@ changed_so h q accepted = grind (arith, nat_tests)
 pub judged_by : (h : List Request) (view : View) (q : Request) → Suffices view h q → judge_view view q ≡ judgement h q
 judged_by h view q is =
     cc (
-      judge_by view.latest view.keys (always view.period) (period h) view.key q is.period_is,
+      judge_by view.latest view.keys (period_or_default view.period) (period h) view.key q (so_for _ view.period (set_period h) is.period_is),
       is.latest_is,
       is.keys_are,
       is.key_is,
@@ -74,23 +81,32 @@ judged_by h view q is =
 
 -- and where it accepts, the reply and what the change leads to are
 pub needed_agrees : (h : List Request) (view : View) (q : Request) → Suffices view h q → judge_view view q ≡ None →
-    (reply_of_view view q ≡ reply h q) × LeadsTo h q (change_by_request (always view.period) view.key q)
+    (reply_of_view view q ≡ reply h q) × LeadsTo h q (change_by_request (period_or_default view.period) view.key q)
 needed_agrees h view q is accepted =
     let judged : judgement h q ≡ None = sym (judged_by h view q is) ∙ accepted in
-    agrees_as h q view.keys (change_by_request (always view.period) view.key q) is.keys_are
-    (cc (changed_by (always view.period) (period h) view.key q is.period_is, is.key_is, changed_so h q judged))
+    agrees_as h q view.keys (change_by_request (period_or_default view.period) view.key q) is.keys_are
+    (cc (changed_by (period_or_default view.period) (period h) view.key q (so_for _ view.period (set_period h) is.period_is),
+      is.key_is, changed_so h q judged))
     judged
 
 -- ---- a view of the whole key
 
 pub whole_judged : (h : List Request) (view : View) (q : Request) → IsViewOf view h q.command
     → judge_view view q ≡ judgement h q
-whole_judged h view q is = grind arith
+whole_judged h view q is =
+    cc (
+      judge_by view.latest view.keys (period_or_default view.period) (period h) view.key q
+      (so_for _ view.period (set_period h) is.period_is),
+      is.latest_is,
+      is.keys_are,
+      is.key_is,
+    )
 
 pub whole_agrees : (h : List Request) (view : View) (q : Request) → IsViewOf view h q.command
     → judge_view view q ≡ None
-    → (reply_of_view view q ≡ reply h q) × LeadsTo h q (change_by_request (always view.period) view.key q)
+    → (reply_of_view view q ≡ reply h q) × LeadsTo h q (change_by_request (period_or_default view.period) view.key q)
 whole_agrees h view q is accepted =
-    agrees_as h q view.keys (change_by_request (always view.period) view.key q) is.keys_are
-    (grind arith)
+    agrees_as h q view.keys (change_by_request (period_or_default view.period) view.key q) is.keys_are
+    (cc (changed_by (period_or_default view.period) (period h) view.key q
+      (so_for _ view.period (set_period h) is.period_is), is.key_is))
     (sym (whole_judged h view q is) ∙ accepted)

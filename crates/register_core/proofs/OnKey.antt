@@ -1,6 +1,6 @@
 -- What is known where a request is accepted, of the key that it makes, names or leaves alone.
 use Rattle.std.proofs.Common.{◌≡◌, ◌⊎◌, inl, inr, ℕ, ◌+◌, ◌≤◌, Bool, true, false, cond, List, [], ◌∷◌, ◌++◌, Option}
-use Rattle.std.proofs.Common.{None, Some, refl, ap, ◌∙◌, arith}
+use Rattle.std.proofs.Common.{None, Some, refl, ap, subst, ◌∙◌, arith}
 use Rattle.std.proofs.lemmas.Bool.{and_parts, leb-true}
 use Rattle.std.proofs.lemmas.Bool.Decides.{eqb_tells}
 use Rattle.lifecycle_core.specs.declared.dates.Dates.{Dates}
@@ -9,12 +9,14 @@ use Rattle.period_core.specs.Fitting.{dates_with_defaults}
 use Rattle.register_requests.specs.declared.request.Request.{Request}
 use Rattle.register_core.specs.declared.reply.Refusal.{Refusal}
 use Rattle.register_core.specs.declared.view.Held.{Held}
+use Rattle.std.specs.Option.{option_and_then}
+use Rattle.register_core.specs.Custody.{held}
 use Rattle.register_core.specs.Effect.{given_dates}
 use Rattle.register_core.specs.History.{latest, count, period, dates}
 use Rattle.register_requests.specs.Subject.{Registration, Subject, Makes, Names, NoKey, subject, key_by}
 use Rattle.register_requests.specs.Subject.{key_of, is_key, named}
-use Rattle.register_requests.specs.CommandRule.{is_for}
-use Rattle.register_core.specs.Verdict.{custodian_refusal, freeze_refusal, dates_refusal, occurrence_refusal, judge}
+use Rattle.register_requests.specs.CommandRule.{is_one_of, rule}
+use Rattle.register_core.specs.Verdict.{giver_refusal, freeze_refusal, dates_refusal, occurrence_refusal, judge}
 use Rattle.register_core.specs.Verdict.{judgement}
 use Rattle.register_requests.specs.Version.{current}
 use Rattle.register_core.specs.CustodyRefusal.{owner_custodian, approvals_missing}
@@ -30,13 +32,13 @@ pub record IsOn (h : List Request) (q : Request) (k : ℕ) : Type 0 where
   pub names : named q.command ≡ Some k
   pub low : 1 ≤ k
   pub high : k ≤ count h
-  pub fits_state : is_for q.command (state_at (dates h k) q.moment) ≡ true
+  pub fits_state : is_one_of (rule q.command).states (state_at (dates h k) q.moment) ≡ true
   pub not_frozen : freeze_refusal (Some (standing h k)) q.moment q.command ≡ None
   pub fit : dates_refusal (period h) (Some (standing h k)) q.moment q.command ≡ None
   pub apart : owner_custodian (Some (standing h k)) q.command ≡ None
   pub enough : approvals_missing (Some (standing h k)) q.command ≡ None
   pub occurred : occurrence_refusal q.moment q.command ≡ None
-  pub custodians_own : custodian_refusal (Some (standing h k)) q.caller q.command ≡ None
+  pub givers_own : giver_refusal (rule q.command).giver (Some (standing h k)) q.caller ≡ None
   pub new : IsNew h q k
 
 right_state : (b : Bool) (refusal : Refusal) → cond b None (Some refusal) ≡ None → b ≡ true
@@ -55,8 +57,24 @@ on_there h q k names there accepted =
     let passed = passes current (latest h) (count h) (period h) key q accepted in
     grind (arith, and_parts, leb-true, right_state, new_names)
 
+-- the key that it names is judged as that stands
+judged_named : (h : List Request) (q : Request) (k : ℕ) (b : Bool) → judgement h q ≡ None → named q.command ≡ Some k
+    → is_there h k ≡ b → judged h q (cond b (Some (standing h k)) None) ≡ None
+judged_named h q k b accepted names there =
+    subst (λ (has : Bool). judged h q (cond has (Some (standing h k)) None) ≡ None) there
+    (subst (λ (key : Option ℕ). judged h q (option_and_then (held h) key) ≡ None) names accepted)
+
+unknown : (h : List Request) (q : Request) (k : ℕ) → named q.command ≡ Some k → judged h q None ≡ None → ⊥
+unknown h q k names accepted =
+    let passed = passes current (latest h) (count h) (period h) None q accepted in
+    grind (arith, unknown_named)
+
 pub on_key : (h : List Request) (q : Request) (k : ℕ) → judgement h q ≡ None → named q.command ≡ Some k → IsOn h q k
-on_key h q k accepted names = grind (arith, nat_tests, is_there, standing, on_there, unknown_named)
+on_key h q k accepted names = by (is_there h k) refl
+  where
+    by : (b : Bool) → is_there h k ≡ b → IsOn h q k
+    by true there = on_there h q k names there (judged_named h q k true accepted names there)
+    by false there = absurd (unknown h q k names (judged_named h q k false accepted names there))
 
 -- ---- each key
 

@@ -16,7 +16,7 @@ use Rattle.register_requests.specs.declared.request.Command.TheVariants.{Registe
 use Rattle.register_requests.specs.declared.request.Command.TheVariants.{Revoke, Destroy}
 use Rattle.register_requests.specs.declared.request.Edit.{Edit}
 use Rattle.register_core.specs.Effect.{edited_dates, compromised, deactivated, dates_after}
-use Rattle.register_requests.specs.CommandRule.{before_compromise, is_one_of, is_for}
+use Rattle.register_requests.specs.CommandRule.{before_compromise, is_one_of, rule}
 use Rattle.register_requests.specs.Subject.{named}
 use Rattle.register_core.specs.Laws.{MovesOnly}
 use Rattle.register_core.proofs.Dating.{filled_keeps, trimmed_keeps}
@@ -135,7 +135,7 @@ revoked_path d t true occurrence fits_state = compromised_by (state_at d t) d t 
 revoked_path d t false occurrence fits_state = deactivated_path d t (is_active (state_at d t) fits_state)
 
 pub path_named : (period : Period) (d : Dates) (t k : ℕ) (c : Command) → named c ≡ Some k
-    → is_for c (state_at d t) ≡ true → MovesOnly d t (dates_after period d t c) → Goes d t (dates_after period d t c)
+    → is_one_of (rule c).states (state_at d t) ≡ true → MovesOnly d t (dates_after period d t c) → Goes d t (dates_after period d t c)
 path_named period d t k (Registers of_kind owner activation protect_stop deactivation purpose) names fits_state moves
     = cc
 path_named period d t k (Activate n) names fits_state moves = grind (arith, activated_path)

@@ -5,9 +5,10 @@ use Rattle.period_core.specs.Period.{Period}
 use Rattle.register_requests.specs.declared.request.Request.{Request}
 use Rattle.register_requests.specs.declared.version.Version.{Version}
 use Rattle.register_core.specs.declared.view.Held.{Held}
+use Rattle.register_requests.specs.CommandRule.{rule}
 use Rattle.register_core.specs.CustodyRefusal.{already_custodian, no_such_custodian, too_many_custodians}
 use Rattle.register_core.specs.CustodyRefusal.{owner_custodian, already_approved, no_approval, approvals_missing}
-use Rattle.register_core.specs.Verdict.{moment_refusal, key_refusal, owner_refusal, custodian_refusal, office_refusal}
+use Rattle.register_core.specs.Verdict.{moment_refusal, key_refusal, giver_refusal}
 use Rattle.register_core.specs.Verdict.{state_refusal, freeze_refusal, dates_refusal, occurrence_refusal}
 use Rattle.register_core.specs.Verdict.{limit_refusal, judge_in}
 use Rattle.register_core.proofs.Filling.{past}
@@ -16,10 +17,8 @@ pub record IsPassed (version : Version) (last keys : ℕ) (periods : KeyType →
     : Type 0 where
   pub in_time : moment_refusal last q.moment ≡ None
   pub known : key_refusal key q.command ≡ None
-  pub owners : owner_refusal key q.caller q.command ≡ None
-  pub custodians : custodian_refusal key q.caller q.command ≡ None
-  pub office : office_refusal q.caller q.command ≡ None
-  pub state : state_refusal key q.moment q.command ≡ None
+  pub giver : giver_refusal (rule q.command).giver key q.caller ≡ None
+  pub state : state_refusal (rule q.command).states key q.moment ≡ None
   pub free : freeze_refusal key q.moment q.command ≡ None
   pub fit : dates_refusal periods key q.moment q.command ≡ None
   pub new_custodian : already_custodian key q.command ≡ None
@@ -37,9 +36,7 @@ pub passes : (version : Version) (last keys : ℕ) (periods : KeyType → Period
 passes version last keys periods key q accepted = record {
   in_time = grind (arith, past);
   known = grind (arith, past);
-  owners = grind (arith, past);
-  custodians = grind (arith, past);
-  office = grind (arith, past);
+  giver = grind (arith, past);
   state = grind (arith, past);
   free = grind (arith, past);
   fit = grind (arith, past);

@@ -3,7 +3,7 @@ use Rattle.std.specs.Prelude.{◌≡◌, ℕ, ◌+◌, not, List, [], ◌∷◌,
 use Rattle.lifecycle_core.specs.declared.row.Row.{Row}
 use Rattle.lifecycle_core.specs.Row.{IsRightAt}
 use Rattle.period_core.specs.declared.key_type.KeyType.{KeyType}
-use Rattle.period_core.specs.Period.{Period}
+use Rattle.period_core.specs.Period.{Period, period_or_default}
 use Rattle.period_core.specs.Fitting.{dates_with_defaults}
 use Rattle.register_requests.specs.declared.request.Request.{Request}
 use Rattle.register_requests.specs.declared.request.Command.{Command}
@@ -17,11 +17,11 @@ use Rattle.register_core.specs.declared.change.CustodyChange.TheVariants.{Approv
 use Rattle.register_core.specs.declared.change.CustodyChange.TheVariants.{NeedSet}
 use Rattle.register_core.specs.declared.change.Change.{Change}
 use Rattle.register_core.specs.declared.change.Change.TheVariants as change
-use Rattle.register_core.specs.History.{latest, count, period, type}
+use Rattle.register_core.specs.History.{set_period, latest, count, period, type}
 use Rattle.register_core.specs.Settings.{KeyNeed, TypePeriod, with_need, with_period, all_needs, all_periods}
 use Rattle.register_core.specs.Custody.{all_custodians, custodians, all_approvals, approvals, need, held}
 use Rattle.register_core.specs.declared.key.Key.{Key}
-use Rattle.register_core.specs.Verdict.{named_key, always}
+use Rattle.register_core.specs.Verdict.{named_key}
 use Rattle.register_requests.specs.Subject.{Registration, Subject, Makes, Names, NoKey, subject}
 use Rattle.register_core.specs.Effect.{given_dates, dates_after, owner_after, row_with_dates_at}
 use Rattle.register_core.specs.Effect.{custody_change, needed_period_type}
@@ -68,7 +68,7 @@ reply_to keys t change.Nothing = record { key = 0; state = None; moment = t }
 
 -- the reply to the request, where the decision rests on this view and accepts it
 abbrev pub reply_of_view : View → Request → Reply
-reply_of_view view q = reply_to view.keys q.moment (change_by_request (always view.period) view.key q)
+reply_of_view view q = reply_to view.keys q.moment (change_by_request (period_or_default view.period) view.key q)
 
 -- the key's row is right at t
 abbrev pub IsRightKey : Option Held → ℕ → Type 0
@@ -79,7 +79,7 @@ IsRightKey (Some held) t = IsRightAt held.row t
 pub record IsViewOf (view : View) (h : List Request) (c : Command) : Type 0 where
   pub latest_is : view.latest ≡ latest h
   pub keys_are : view.keys ≡ count h
-  pub period_is : IfSome (needed_period_type view.key c) (λ kind. view.period ≡ period h kind)
+  pub period_is : IfSome (needed_period_type view.key c) (λ kind. view.period ≡ set_period h kind)
   pub key_is : view.key ≡ named_key h c
 
 -- ---- what a change leads to

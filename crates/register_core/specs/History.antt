@@ -6,7 +6,7 @@ use Rattle.lifecycle_core.specs.declared.dates.Dates.{Dates}
 use Rattle.period_core.specs.declared.key_type.KeyType.{KeyType}
 use Rattle.period_core.specs.declared.key_type.KeyType.TheVariants.{DataEncryption}
 use Rattle.period_core.specs.Period.{Period}
-use Rattle.period_core.specs.Period.{periods}
+use Rattle.period_core.specs.Period.{period_or_default, periods}
 use Rattle.register_requests.specs.declared.request.Request.{Request}
 use Rattle.register_requests.specs.Subject.{Registration, registration_of, key_of, is_key}
 use Rattle.register_core.specs.Effect.{kind_after, owner_after, period_after, sets_dates, unset_dates, dates_after}
@@ -48,7 +48,7 @@ set_period h kind = fold (λ before q. period_after kind before q.command) None 
 
 -- the period of a type after a history: the one that was set last, or the table's
 abbrev pub period : List Request → KeyType → Period
-period h kind = unwrap_or (set_period h kind) (periods kind)
+period h kind = period_or_default (set_period h kind) kind
 
 -- ---- what the requests of a key give it
 

@@ -7,7 +7,7 @@ use Rattle.register_requests.specs.declared.request.Command.{Command}
 use Rattle.register_core.specs.declared.view.Held.{Held}
 use Rattle.register_core.specs.declared.view.View.{View}
 use Rattle.register_core.specs.Effect.{needed_period_type}
-use Rattle.register_core.specs.History.{latest, count, period}
+use Rattle.register_core.specs.History.{latest, count, set_period}
 use Rattle.register_requests.specs.CommandRule.{looks_at_custody, looks_at_need}
 use Rattle.register_requests.specs.Quorum.{min_approvals}
 use Rattle.register_core.specs.Verdict.{named_key}
@@ -30,5 +30,5 @@ needed_key h q = if nat_lt q.moment (latest h) then None else option_map (needed
 pub record Suffices (view : View) (h : List Request) (q : Request) : Type 0 where
   pub latest_is : view.latest ≡ latest h
   pub keys_are : view.keys ≡ count h
-  pub period_is : IfSome (needed_period_type view.key q.command) (λ kind. view.period ≡ period h kind)
+  pub period_is : IfSome (needed_period_type view.key q.command) (λ kind. view.period ≡ set_period h kind)
   pub key_is : view.key ≡ needed_key h q

@@ -3,6 +3,7 @@ use Rattle.std.specs.Prelude.{ℕ, nat_lt, nat_le, Bool, true, false, not, ◌&&
 use Rattle.std.specs.Prelude.{None, Some, is_some, Result, Ok, Err, if◌then◌else◌}
 use Rattle.std.specs.Option.{option_and_then}
 use Rattle.std.specs.Str.{bytes_eq}
+use Rattle.lifecycle_core.specs.declared.state.State.{State}
 use Rattle.lifecycle_core.specs.declared.state.State.TheVariants.{PreActive}
 use Rattle.lifecycle_core.specs.State.{state_at, is_reached_at}
 use Rattle.register_requests.specs.declared.request.Request.{Request}
@@ -26,14 +27,16 @@ use Rattle.period_core.specs.declared.date_fitting.DateRefusal.{DateRefusal}
 use Rattle.period_core.specs.declared.date_fitting.DateRefusal.TheVariants as dates
 use Rattle.period_core.specs.Fitting.{first_that_holds}
 use Rattle.period_core.specs.declared.key_type.KeyType.{KeyType}
-use Rattle.period_core.specs.Period.{Period}
+use Rattle.period_core.specs.Period.{Period, period_or_default}
 use Rattle.register_requests.specs.Name.{is_among}
 use Rattle.register_core.specs.History.{latest, count, period}
 use Rattle.register_core.specs.KeptReply.{reply, kept, kept_under}
 use Rattle.register_requests.specs.Request.{command_text}
 use Rattle.register_core.specs.Effect.{asked_dates, dates_before, fitted_or_refusal, fitting, type_of}
 use Rattle.register_core.specs.Custody.{held}
-use Rattle.register_requests.specs.CommandRule.{is_owners, is_custodians, is_offices, is_one_of, is_for}
+use Rattle.register_requests.specs.CommandRule.{is_one_of, rule}
+use Rattle.register_requests.specs.declared.command_rule.Giver.{Giver}
+use Rattle.register_requests.specs.declared.command_rule.Giver.TheVariants.{Owner, Custodian, Office}
 use Rattle.register_core.specs.CustodyRefusal.{custody_refusal_in}
 use Rattle.register_requests.specs.declared.version.Version.{Version}
 use Rattle.register_requests.specs.Version.{current, knows}
@@ -66,30 +69,22 @@ abbrev pub key_refusal : Option Held → Command → Option Refusal
 key_refusal None c = if is_some (named c) then Some UnknownKey else None
 key_refusal (Some held) c = None
 
--- the command is the owner's, and the caller is another
-abbrev pub owner_refusal : Option Held → List ℕ → Command → Option Refusal
-owner_refusal None caller c = None
-owner_refusal (Some held) caller c = if is_owners c && not (bytes_eq caller held.owner) then Some NotOwner else None
-
--- the command is a custodian's, and the caller is no custodian of the key
-abbrev pub custodian_refusal : Option Held → List ℕ → Command → Option Refusal
-custodian_refusal None caller c = None
-custodian_refusal (Some held) caller c =
-    if is_custodians c && not (is_among caller held.custodians) then Some NotCustodian else None
-
 -- who sets the periods of types (own)
 abbrev pub office : List ℕ
 office = codes "office"
 
--- the command is the office's, and the caller is another
-abbrev pub office_refusal : List ℕ → Command → Option Refusal
-office_refusal caller c = if is_offices c && not (bytes_eq caller office) then Some NotOffice else None
+-- the caller is another than the one who may give the command; of a key that is not there nobody is
+abbrev pub giver_refusal : Giver → Option Held → List ℕ → Option Refusal
+giver_refusal Office key caller = if bytes_eq caller office then None else Some NotOffice
+giver_refusal Owner (Some held) caller = if bytes_eq caller held.owner then None else Some NotOwner
+giver_refusal Custodian (Some held) caller = if is_among caller held.custodians then None else Some NotCustodian
+giver_refusal _ key caller = None
 
--- the command is not for the state that the key has at t
-abbrev pub state_refusal : Option Held → ℕ → Command → Option Refusal
-state_refusal None t c = None
-state_refusal (Some held) t c =
-    let state = state_at held.row.dates t in if is_for c state then None else Some (WrongState state)
+-- the state that the key has at t is none of those that the command is for
+abbrev pub state_refusal : List State → Option Held → ℕ → Option Refusal
+state_refusal states None t = None
+state_refusal states (Some held) t =
+    let state = state_at held.row.dates t in if is_one_of states state then None else Some (WrongState state)
 
 -- an edit keeps a date only where it is =
 abbrev pub keeps_date : Edit → Bool
@@ -126,10 +121,8 @@ abbrev pub entry_refusals : ℕ → Option Held → Request → List (Option Ref
 entry_refusals last key q =
     moment_refusal last q.moment
     ∷ key_refusal key q.command
-    ∷ owner_refusal key q.caller q.command
-    ∷ custodian_refusal key q.caller q.command
-    ∷ office_refusal q.caller q.command
-    ∷ state_refusal key q.moment q.command
+    ∷ giver_refusal (rule q.command).giver key q.caller
+    ∷ state_refusal (rule q.command).states key q.moment
     ∷ []
 
 abbrev pub entry_refusal : ℕ → Option Held → Request → Option Refusal
@@ -166,13 +159,9 @@ judgement_in version h q = judge_in version (latest h) (count h) (period h) (nam
 abbrev pub judgement : List Request → Request → Option Refusal
 judgement = judgement_in current
 
--- this period, whatever the type
-abbrev pub always : Period → KeyType → Period
-always p kind = p
-
 -- the refusal of a request where this is what the decision rests on
 abbrev pub judge_view : View → Request → Option Refusal
-judge_view view q = judge view.latest view.keys (always view.period) view.key q
+judge_view view q = judge view.latest view.keys (period_or_default view.period) view.key q
 
 -- ---- verdicts
 

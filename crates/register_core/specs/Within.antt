@@ -1,5 +1,4 @@
 -- What functions within the crate say of one another: no public contract stands on it.
 pub mod Custody
 pub mod CustodyRefusal
-pub mod Verdict
 pub mod Decision

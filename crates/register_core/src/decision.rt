@@ -12,11 +12,11 @@ ghost use Rattle.register_core.specs.Within.CustodyRefusal.{custody_refusal};
 ghost use Rattle.register_core.specs.Decision.{IsRightKey, IsViewOf, LeadsTo};
 ghost use Rattle.register_core.specs.Within.Decision.{AreDatesAfter};
 ghost use Rattle.register_core.specs.Decision.{change_by_request, reply_to, reply_of_view};
-ghost use Rattle.register_core.specs.Verdict.{moment_refusal, key_refusal};
-ghost use Rattle.register_core.specs.Within.Verdict.{giver_refusal};
+ghost use Rattle.register_core.specs.Verdict.{moment_refusal, key_refusal, giver_refusal};
 ghost use Rattle.register_core.specs.Verdict.{state_refusal, keeps_date, freeze_refusal};
 ghost use Rattle.register_core.specs.Verdict.{entry_refusal, occurrence_refusal, limit_refusal};
-ghost use Rattle.register_core.specs.Verdict.{judge_view, always, max_keys, judgement};
+ghost use Rattle.register_core.specs.Verdict.{judge_view, max_keys, judgement};
+ghost use Rattle.period_core.specs.Period.{period_or_default};
 ghost use Rattle.register_requests.specs.Version.{current};
 ghost use Rattle.register_core.specs.KeptReply.{reply};
 ghost use Rattle.register_core.specs.Need.{Suffices};
@@ -53,8 +53,7 @@ fn check_key_exists(key: &Option<Held>, command: &Command) -> Result<(), Refusal
 
 /// The caller is the one whom the command's rule has as its giver.
 fn check_giver(giver: Giver, key: &Option<Held>, caller: &Name) -> Result<(), Refusal>
-    ensures { (command : Command) → giver ≡ (rule command).giver
-        → Checks (giver_refusal key.now caller.now command) result }
+    ensures { Checks (giver_refusal giver key.now caller.now) result }
 {
     match (giver, key) {
         (Giver::Owner, Some(held)) if *caller != held.owner => Err(Refusal::NotOwner),
@@ -70,7 +69,7 @@ fn check_giver(giver: Giver, key: &Option<Held>, caller: &Name) -> Result<(), Re
 /// The key has at the moment one of these states.
 fn check_state(states: &[State], key: &Option<Held>, at: Moment) -> Result<(), Refusal>
     ensures { (command : Command) → states.now ≡ (rule command).states
-        → Checks (state_refusal key.now at command) result }
+        → Checks (state_refusal (rule command).states key.now at) result }
 {
     let Some(held) = key else {
         return Ok(());
@@ -267,7 +266,8 @@ fn check_moment_key_giver_state(view: &View, request: &Request) -> Result<(), Re
 /// The first refusal of the request that holds.
 pub(crate) fn dates_after_or_first_refusal(view: &View, request: &Request) -> Result<Dates, Refusal>
     ensures accepted { OnOk result (judge_view view.now request.now ≡ None) }
-    ensures dates { IfOk result (AreDatesAfter view.now.period view.now.key request.now) }
+    ensures dates { IfOk result
+        (AreDatesAfter view.now.period view.now.key request.now.moment request.now.command) }
     ensures refused { IfErr result (λ refusal. judge_view view.now request.now ≡ Some refusal) }
 {
     let at = request.moment;
@@ -323,7 +323,7 @@ pub fn decide(view: &View, request: &Request) -> Result<Accept, Refusal>
     ensures refused { IfErr result (λ refusal. judge_view view.now request.now ≡ Some refusal) }
     ensures accepted { IfOk result (λ accept. judge_view view.now request.now ≡ None) }
     ensures change { IfOk result (λ accept. accept.change
-        ≡ change_by_request (always view.now.period) view.now.key request.now) }
+        ≡ change_by_request (period_or_default view.now.period) view.now.key request.now) }
     ensures reply { IfOk result (λ accept. accept.reply ≡ reply_of_view view.now request.now) }
     ensures judgement { (h : List Request) → Suffices view.now h request.now →
         IfErr result (λ refusal. judgement h request.now ≡ Some refusal)

@@ -1,7 +1,8 @@
 //! What a command does to a key, to its dates, its owner and its custody, and what it changes
 //! besides.
-ghost use Rattle.std.specs.Prelude.{◌≡◌, None, Some, IsSome, IfOk, IfErr, OnOk};
-ghost use Rattle.period_core.specs.Period.{Period as UsagePeriod};
+ghost use Rattle.std.specs.Prelude.{◌≡◌, None, Option, Some, IsSome, IfOk, IfErr, OnOk};
+ghost use Rattle.period_core.specs.declared.key_type.KeyType.{KeyType};
+ghost use Rattle.period_core.specs.Period.{Period, period_or_default};
 ghost use Rattle.register_core.specs.Effect.{owner_after, unset_dates, given_dates};
 ghost use Rattle.register_core.specs.Effect.{date_after_edit};
 ghost use Rattle.register_core.specs.Effect.{asked_dates, edited_dates, cut_date_at, dates_after};
@@ -9,16 +10,16 @@ ghost use Rattle.register_core.specs.Effect.{dates_before, row_with_dates_at, cu
 ghost use Rattle.register_core.specs.Decision.{change_by_request, change_without_key};
 ghost use Rattle.register_core.specs.Decision.{change_of_held_key};
 ghost use Rattle.register_core.specs.Within.Decision.{AreDatesAfter};
-ghost use Rattle.register_core.specs.Verdict.{always, dates_refusal, key_refusal};
+ghost use Rattle.register_core.specs.Verdict.{dates_refusal};
 
 use crate::change::{Change, CustodyChange};
-use crate::fitting::Fitting;
+use crate::fitting::{Fitting, needed_period_type};
 use crate::key::Key;
 use crate::reply::Refusal;
 use crate::view::Held;
 use lifecycle_core::{Dates, Row, state_of};
 use moment_core::{FIRST_MOMENT, Moment};
-use period_core::Period;
+use period_core::{Period, period_or_default};
 use register_requests::{Command, Edit, Name, Request};
 
 /// The dates of a key before it is registered: none is set.
@@ -150,23 +151,28 @@ fn asked_dates(dates: &Dates, at: Moment, command: &Command) -> Dates
     }
 }
 
-/// The dates after the command at the moment of the key that it makes or names, by this period, or
-/// their refusal.
+/// The dates after the command at the moment of the key that it makes or names, by the period that
+/// is set for the key's type, if one is.
+///
+/// # Errors
+/// Their refusal.
 pub(crate) fn key_dates_after_command(
-    period: Period,
+    set: Option<Period>,
     key: &Option<Held>,
     at: Moment,
     command: &Command,
 ) -> Result<Dates, Refusal>
-    ensures dates { IfOk result (λ dates.
-        dates ≡ dates_after period (dates_before key.now) at command.now) }
-    ensures ok { key_refusal key.now command.now ≡ None
-        → OnOk result (dates_refusal (always period) key.now at command.now ≡ None) }
-    ensures err { key_refusal key.now command.now ≡ None → IfErr result (λ refusal.
-        dates_refusal (always period) key.now at command.now ≡ Some refusal) }
+    ensures dates { IfOk result (AreDatesAfter set key.now at command.now) }
+    ensures ok { OnOk result
+        (dates_refusal (period_or_default set) key.now at command.now ≡ None) }
+    ensures err { IfErr result (λ refusal.
+        dates_refusal (period_or_default set) key.now at command.now ≡ Some refusal) }
 {
     let asked = asked_dates(&dates_before(key), at, command);
-    Ok(Fitting::of(command).fit(period, asked)?)
+    let Some(kind) = needed_period_type(key, command) else {
+        return Ok(asked);
+    };
+    Ok(Fitting::of(command).fit(period_or_default(kind, set), asked)?)
 }
 
 /// What becomes of the custody of a key with these dates, by the caller's command.
@@ -200,8 +206,10 @@ fn owner_after(before: Name, command: &Command) -> Name
 /// What the accepted request makes of the key that it names by this number, where these are the
 /// key's dates after it.
 fn change_of_held_key(dates: Dates, key: u32, held: &Held, request: &Request) -> Change
-    ensures { (period : UsagePeriod) → AreDatesAfter period (Some held.now) request.now dates
-        → result ≡ change_of_held_key (always period) key held.now request.now }
+    ensures { (periods : KeyType → Period)
+        → dates ≡ dates_after (periods held.now.kind) held.now.row.dates request.now.moment
+        request.now.command
+        → result ≡ change_of_held_key periods key held.now request.now }
 {
     let command = &request.command;
     Change::Held {
@@ -224,8 +232,9 @@ fn change_without_key(command: &Command) -> Change
 
 /// What the accepted request changes, where it names this key, and these are the dates after it.
 pub(crate) fn change_by_request(dates: Dates, named: &Option<Held>, request: &Request) -> Change
-    ensures { (period : UsagePeriod) → AreDatesAfter period named.now request.now dates
-        → result ≡ change_by_request (always period) named.now request.now }
+    ensures { (set : Option Period)
+        → AreDatesAfter set named.now request.now.moment request.now.command dates
+        → result ≡ change_by_request (period_or_default set) named.now request.now }
 {
     let command = &request.command;
     if let Command::Register {

@@ -27,9 +27,10 @@ pub struct View {
     pub latest: Moment,
     /// How many keys were made.
     pub keys: u32,
-    /// The usage period of the type that [`needed_period_type`](crate::needed_period_type) gives; any
-    /// where that is none.
-    pub period: Period,
+    /// The usage period that the office set for the type that
+    /// [`needed_period_type`](crate::needed_period_type) gives; `None` where it set none, or there
+    /// is no such type.
+    pub period: Option<Period>,
     /// The key that the request names, as it stands at the latest moment; `None` where it names
     /// none, or there is no such key. What its decision does not look at may be left out.
     pub key: Option<Held>,

@@ -80,31 +80,8 @@ rule (SetPeriod kind period) =
 abbrev pub kind_of : Command → CommandKind
 kind_of c = (rule c).kind
 
-abbrev pub is_same_giver : Giver → Giver → Bool
-is_same_giver Owner Owner = true
-is_same_giver Custodian Custodian = true
-is_same_giver Anybody Anybody = true
-is_same_giver Office Office = true
-is_same_giver _ _ = false
-
--- the command is one for the key's owner alone
-abbrev pub is_owners : Command → Bool
-is_owners c = is_same_giver Owner (rule c).giver
-
--- the command is one for a custodian of the key alone
-abbrev pub is_custodians : Command → Bool
-is_custodians c = is_same_giver Custodian (rule c).giver
-
--- the command is one for the office alone
-abbrev pub is_offices : Command → Bool
-is_offices c = is_same_giver Office (rule c).giver
-
 abbrev pub is_one_of : List State → State → Bool
 is_one_of states state = list_any (λ s. state_code s == state_code state) states
-
--- the command is for a key in this state
-abbrev pub is_for : Command → State → Bool
-is_for c state = is_one_of (rule c).states state
 
 -- the key's custodians, or the approvals of its destruction, are in this part of it
 abbrev pub has_custody : KeyPart → Bool

@@ -1,11 +1,14 @@
 -- What functions within the crate say of one another, beside `specs/Decision.antt`.
-use Rattle.std.specs.Prelude.{◌≡◌, Option}
+use Rattle.std.specs.Prelude.{◌≡◌, ℕ, Option, IfSome}
 use Rattle.lifecycle_core.specs.declared.dates.Dates.{Dates}
-use Rattle.period_core.specs.Period.{Period}
-use Rattle.register_requests.specs.declared.request.Request.{Request}
+use Rattle.period_core.specs.Period.{Period, period_or_default}
+use Rattle.register_requests.specs.declared.request.Command.{Command}
+use Rattle.register_requests.specs.Subject.{subject}
 use Rattle.register_core.specs.declared.view.Held.{Held}
-use Rattle.register_core.specs.Effect.{dates_after, dates_before}
+use Rattle.register_core.specs.Effect.{dates_after, dates_before, type_of}
 
--- by this period these are the dates after the request of the key that it makes, or that it names and that stands so
-abbrev pub AreDatesAfter : Period → Option Held → Request → Dates → Type 0
-AreDatesAfter p key q d = d ≡ dates_after p (dates_before key) q.moment q.command
+-- The dates are those after the command at t of the key that it makes, or that it names and that stands so, by the
+-- period that is set for the key's type, if one is.
+abbrev pub AreDatesAfter : Option Period → Option Held → ℕ → Command → Dates → Type 0
+AreDatesAfter set key t c d =
+    IfSome (type_of key (subject c)) (λ kind. d ≡ dates_after (period_or_default set kind) (dates_before key) t c)

@@ -7,7 +7,7 @@ returns-in_err-check_giver c =
       moment = c.in_ok-check_moment.ensures;
       key_is = c.in_ok-check_key_exists.ensures;
     } in
-    giver_first own (c.in_err-check_giver.ensures _ c.rule-rule.ensures.giver)
+    giver_first own c.rule-rule.ensures.giver c.in_err-check_giver.ensures
     c.from_residual-in_err-check_giver.result c.from_residual-in_err-check_giver.ensures.1
 
 pub returns : goal.returns
@@ -16,5 +16,5 @@ returns c =
       moment = c.in_ok-check_moment.ensures;
       key_is = c.in_ok-check_key_exists.ensures;
     } in
-    state_last own (c.in_ok-check_giver.ensures _ c.rule-rule.ensures.giver) c.check_state.result
+    state_last own c.rule-rule.ensures.giver c.in_ok-check_giver.ensures c.check_state.result
     (c.check_state.ensures _ c.rule-rule.ensures.states)

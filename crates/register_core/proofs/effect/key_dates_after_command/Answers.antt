@@ -1,17 +1,14 @@
-use Rattle.std.proofs.Common.{ap, ◌∙◌, arith}
-use Rattle.register_core.specs.Verdict.{refused_dates}
-use Rattle.register_core.proofs.Filling.{is_given}
+use Rattle.std.proofs.Common.{refl, sym}
+use Rattle.register_core.proofs.Filling.{is_asked, is_given}
 use Rattle.register_core.proofs.effect.key_dates_after_command.Goals as goal
+
+pub returns-in_default-clause-dates : goal.returns-in_default-clause-dates
+returns-in_default-clause-dates c =
+    let told = is_asked c.args.set c.args.key.now c.args.at c.args.command.now (sym c.in_default.ensures)
+    c.asked_dates-asked.ensures c.dates_before.ensures in told.dates c.asked_dates-asked.result refl
 
 pub returns-clause-dates : goal.returns-clause-dates
 returns-clause-dates c =
-    let own = is_given c.args.period c.args.key.now c.args.at c.args.command.now c.fit.ensures c.of.ensures
-    c.asked_dates-asked.ensures c.dates_before.ensures in own.dates _ c.in_ok-fit.was
-
-pub returns-clause-ok : goal.returns-clause-ok
-returns-clause-ok c there =
-    let own = is_given c.args.period c.args.key.now c.args.at c.args.command.now c.fit.ensures c.of.ensures
-    c.asked_dates-asked.ensures c.dates_before.ensures in own.refusal there ∙ ap refused_dates c.in_ok-fit.was
-
-pub returns-in_err-fit-clause-err : goal.returns-in_err-fit-clause-err
-returns-in_err-fit-clause-err c = grind (arith, is_given)
+    let told = is_given c.args.set c.args.key.now c.args.at c.args.command.now c.in-Some.kind (sym c.in-Some.ensures)
+    c.fit.ensures c.period_or_default.ensures c.of.ensures c.asked_dates-asked.ensures c.dates_before.ensures in
+    told.dates c.in_ok-fit.field-0 c.in_ok-fit.was
