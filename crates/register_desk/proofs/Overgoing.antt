@@ -32,11 +32,11 @@ use Rattle.register_core.specs.declared.view.Held.{Held}
 use Rattle.register_core.specs.declared.view.View.{View}
 use Rattle.register_core.specs.Decision.{change_of, change_by_request, change_without_key, reply_of_view, reply_to}
 use Rattle.register_core.specs.KeptReply.{kept_with, IsKeptReply}
-use Rattle.register_core.specs.Verdict.{always, answer_by, is_same_command, judge, judge_view, limit_refusal, max_keys}
+use Rattle.register_core.specs.Verdict.{answer_by, is_same_command, judge, judge_view, limit_refusal, max_keys}
 use Rattle.register_core.specs.Verdict.{repeated, Repeats, Refuses, verdict_by}
 use Rattle.register_core.proofs.Kept.{decided_at, decided_in_range}
 use Rattle.register_core.proofs.Lawful.{all_more}
-use Rattle.register_core.proofs.Needed.{judge_by, changed_by}
+use Rattle.register_core.proofs.Needed.{AreSoFor, changed_by, judge_by, so_for}
 use Rattle.register_core.proofs.Refusals.{passes}
 use Rattle.register_store.specs.AcceptedRequest.{CanTake, with_request}
 use Rattle.register_store.specs.Change.{made_count, with_change}
@@ -103,14 +103,17 @@ right_with made t at right = advanced_right at t.keys
 
 -- what the view gives is what these tables give, where it has what a decision on the request sees over them
 module _ (t : Tables) (q : Request) (view : View) (is : IsViewOver t q view) where
+  set_so : AreSoFor (needed_period_type view.key q.command) (period_or_default view.period) (period_over t)
+  set_so = so_for _ view.period (λ kind. period_at kind t.periods) is.period_is
+
   pub judged_over : judge_view view q ≡ judgement_over t q
   judged_over =
-      judge_by view.latest view.keys (always view.period) (period_over t) view.key q is.period_is
+      judge_by view.latest view.keys (period_or_default view.period) (period_over t) view.key q set_so
       ∙ (λ i. judge (is.latest_is i) (is.keys_are i) (period_over t) (is.key_is i) q)
 
-  changed_over : change_by_request (always view.period) view.key q ≡ change_over t q
+  changed_over : change_by_request (period_or_default view.period) view.key q ≡ change_over t q
   changed_over =
-      changed_by (always view.period) (period_over t) view.key q is.period_is
+      changed_by (period_or_default view.period) (period_over t) view.key q set_so
       ∙ ap (λ (k : Option Held). change_by_request (period_over t) k q) is.key_is
 
   replied_over : reply_of_view view q ≡ reply_over t q
@@ -121,19 +124,19 @@ room_for keys c within none = grind (arith, nat_tests)
 
 -- where a request is accepted, there is room for what it makes
 pub room_left : (view : View) (q : Request) (change : Change) → view.keys ≤ max_keys → judge_view view q ≡ None
-    → change ≡ change_by_request (always view.period) view.key q → view.keys + made_count change ≤ max_keys
+    → change ≡ change_by_request (period_or_default view.period) view.key q → view.keys + made_count change ≤ max_keys
 room_left view q change within accepted is =
     let counted : made_count change ≡ made_by q.command =
-    ap made_count is ∙ change_counts (always view.period) view.key q in
+    ap made_count is ∙ change_counts (period_or_default view.period) view.key q in
     let room = room_for view.keys q.command within
-    (passes current view.latest view.keys (always view.period) view.key q accepted).numbered in
+    (passes current view.latest view.keys (period_or_default view.period) view.key q accepted).numbered in
     omega (arith, counted, room)
 
 -- ---- after an acceptance
 
 module _ {S : Type 0} (g : store.Ghosts S) (old new : Desk S g) (t : Tables) (q : Request) (view : View)
     (made : Change) (given : Reply) (whole : old.is_broken ≡ false) (over : IsOver g old t) (request : IsRequest q)
-    (few : view.keys ≤ max_keys) (is : made ≡ change_by_request (always view.period) view.key q)
+    (few : view.keys ≤ max_keys) (is : made ≡ change_by_request (period_or_default view.period) view.key q)
     (told : given ≡ reply_of_view view q) (accepted : judge_view view q ≡ None) (seen_so : IsViewOver t q view)
     (none : IsNew t q) where
   abbrev Commits : Database → Database → Type 0

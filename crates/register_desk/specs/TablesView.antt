@@ -4,7 +4,7 @@ use Rattle.std.specs.Prelude.{ℕ, nat_lt, [], length, Option, None, unwrap_or, 
 use Rattle.std.specs.List.{cons_option}
 use Rattle.std.specs.Option.{option_and_then, option_map}
 use Rattle.period_core.specs.declared.key_type.KeyType.{KeyType}
-use Rattle.period_core.specs.Period.{Period, periods}
+use Rattle.period_core.specs.Period.{Period, period_or_default}
 use Rattle.register_core.specs.declared.answer.Answer.{Answer}
 use Rattle.register_core.specs.declared.answer.Answer.TheVariants.{Accepted, Repeated, Refused}
 use Rattle.register_core.specs.declared.change.Change.{Change}
@@ -69,7 +69,7 @@ key_needed t q =
 
 -- the usage period of a type: the one that is set, or the table's of this register
 abbrev pub period_over : Tables → KeyType → Period
-period_over t kind = unwrap_or (period_at kind t.periods) (periods kind)
+period_over t kind = period_or_default (period_at kind t.periods) kind
 
 -- ---- what comes of a request
 

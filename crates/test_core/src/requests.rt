@@ -8,7 +8,7 @@ mod table;
 use keys::{answer_by, view_in};
 use lifecycle_core::{Row, State, state_of};
 use moment_core::Moment;
-use period_core::{KeyType, period_of};
+use period_core::KeyType;
 use register_core::{
     Command, CommandKind, Giver, Held, KeyPart, Name, Names, Purpose, Quorum, Refusal, Reply,
     Request, Version, View, command_text, given_dates, needed_period_type, read_command,
@@ -372,7 +372,7 @@ fn is_answer(alloc: Global, line: &str, expected: &Result<State, Refusal>) -> bo
     let view = View {
         latest: at,
         keys: 1,
-        period: period_of(KeyType::DataEncryption),
+        period: None,
         key: Some(key),
     };
     let expected = match *expected {

@@ -2,7 +2,7 @@
 //! owner and the dates of each key.
 ghost use Rattle.std.specs.Prelude.{◌≡◌, ◌+◌, ◌^◌, ◌<◌, ◌≤◌, [], length};
 ghost use Rattle.std.specs.Prelude.{unwrap_or, IsSome, if◌then◌else◌};
-ghost use Rattle.register_core.specs.History.{latest, count, period, type, owner, dates};
+ghost use Rattle.register_core.specs.History.{latest, count, period, set_period, type, owner, dates};
 ghost use Rattle.register_requests.specs.Subject.{key_of, is_key};
 ghost use Rattle.register_requests.specs.Within.Subject.{made_by};
 ghost use Rattle.register_core.specs.Effect.{kind_after, owner_after, dates_after, period_after};
@@ -11,7 +11,7 @@ ghost use Rattle.register_core.specs.Effect.{unset_dates};
 use crate::effect::dates_after;
 use lifecycle_core::Dates;
 use moment_core::Moment;
-use period_core::{KeyType, Period, period_of};
+use period_core::{KeyType, Period, period_or_default};
 use register_core::{Command, Name, Request, given_dates};
 
 /// The latest moment of a history.
@@ -143,18 +143,22 @@ fn period_with(before: Option<Period>, kind: KeyType, command: &Command) -> Opti
     }
 }
 
-/// The period of the type after a history: the one that was set last, or the table's.
-pub(crate) fn period(history: &[Request], kind: KeyType) -> Period
-    ensures { result ≡ period history.now kind }
+/// The period of the type that the office set last, if it set one.
+pub(crate) fn set_period(history: &[Request], kind: KeyType) -> Option<Period>
+    ensures { result ≡ set_period history.now kind }
 {
     let mut set = None;
     for request in history {
         set = period_with(set, kind, &request.command);
     }
-    match set {
-        Some(period) => period,
-        None => period_of(kind),
-    }
+    set
+}
+
+/// The period of the type after a history: the one that was set last, or the table's.
+fn period(history: &[Request], kind: KeyType) -> Period
+    ensures { result ≡ period history.now kind }
+{
+    period_or_default(kind, set_period(history, kind))
 }
 
 /// The dates of a key of this type after the request, where this is the history before it.

@@ -5,9 +5,8 @@ ghost use Rattle.register_core.specs.Verdict.{judgement};
 ghost use Rattle.register_core.specs.Decision.{IsViewOf};
 
 use crate::custody::{approvals, custodians, need};
-use crate::history::{count, dates, kind_of_key, latest, owner, period};
+use crate::history::{count, dates, kind_of_key, latest, owner, set_period};
 use lifecycle_core::{Row, state_of};
-use period_core::KeyType;
 use register_core::{Command, Held, Refusal, Request, View, judge, needed_period_type};
 use std::alloc::{AllocError, Global};
 
@@ -43,12 +42,14 @@ fn view(alloc: Global, history: &[Request], command: &Command) -> Result<View, A
         Some(key) => held(alloc, history, key)?,
         None => None,
     };
-    // Any type's serves where no period is looked at.
-    let kind = needed_period_type(&key, command).unwrap_or(KeyType::DataEncryption);
+    let period = match needed_period_type(&key, command) {
+        Some(kind) => set_period(history, kind),
+        None => None,
+    };
     Ok(View {
         latest: latest(history),
         keys: count(history),
-        period: period(history, kind),
+        period,
         key,
     })
 }

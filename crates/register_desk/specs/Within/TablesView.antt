@@ -4,11 +4,12 @@ use Rattle.register_requests.specs.declared.request.Request.{Request}
 use Rattle.register_core.specs.declared.view.View.{View}
 use Rattle.register_core.specs.Effect.{needed_period_type}
 use Rattle.register_store.specs.Tables.{Tables}
-use Rattle.register_desk.specs.TablesView.{key_needed, period_over}
+use Rattle.register_desk.specs.TablesView.{key_needed}
+use Rattle.register_core.specs.Settings.{period_at}
 
 -- the view has what a decision on the request sees over these tables
 pub record IsViewOver (t : Tables) (q : Request) (view : View) : Type 0 where
   pub latest_is : view.latest ≡ t.counts.latest
   pub keys_are : view.keys ≡ length t.keys
-  pub period_is : IfSome (needed_period_type view.key q.command) (λ kind. view.period ≡ period_over t kind)
+  pub period_is : IfSome (needed_period_type view.key q.command) (λ kind. view.period ≡ period_at kind t.periods)
   pub key_is : view.key ≡ key_needed t q

@@ -1,11 +1,10 @@
 //! Looking up what a decision rests on.
 ghost use Rattle.std.specs.Prelude.{◌≡◌, unwrap_or};
-ghost use Rattle.period_core.specs.Period.{periods};
 ghost use Rattle.register_desk.specs.TablesView.{held_without_custody};
 
 use crate::desk::Desk;
 use crate::end::End;
-use period_core::{KeyType, Period, period_of};
+use period_core::{KeyType, Period};
 use register_core::{
     Command, Held, Key, KeyPart, Names, Purpose, Quorum, Request, View, needed_period_type,
 };
@@ -29,7 +28,7 @@ impl<S: Alter> Desk<S> {
     ghost use Rattle.register_desk.specs.TablesView.{key_for, key_needed, need_over};
     ghost use Rattle.register_desk.specs.Within.TablesView.{IsViewOver};
     ghost use Rattle.register_desk.specs.TablesView.{key_with_custody, key_without_custody};
-    ghost use Rattle.register_desk.specs.TablesView.{period_over};
+    ghost use Rattle.register_core.specs.Settings.{period_at};
 
     /// What the decision on the request rests on.
     pub(super) fn look_up_needed_view(&mut self, request: &Request) -> Result<View, End>
@@ -57,38 +56,37 @@ impl<S: Alter> Desk<S> {
         })
     }
 
-    /// The usage period of the type that the dates are held to which the command gives; where it
-    /// gives none, any.
+    /// The usage period that the office set for the type that the dates are held to which the
+    /// command gives; `None` where it set none, or the command gives no dates.
     fn look_up_needed_period(
         &mut self,
         key: &Option<Held>,
         command: &Command,
-    ) -> Result<Period, End>
+    ) -> Result<Option<Period>, End>
         requires whole { IsWhole self.old }
         requires opened { IsOpen S.Store self.old }
         ensures looks { LooksUp S.Store 2 self.old self.new result }
         ensures no_memory { result ≢ Err End.Memory }
         ensures found { (t : Tables) → Sees S.Store t self.old → IsClean S.Store self.new
-            → IfOk result (λ period. IfSome (needed_period_type key.now command.now) (λ kind.
-            period ≡ period_over t kind)) }
+            → IfOk result (λ set. IfSome (needed_period_type key.now command.now) (λ kind.
+            set ≡ period_at kind t.periods)) }
     {
         match needed_period_type(key, command) {
-            Some(kind) => self.look_up_period(kind),
-            // A decision that gives no dates looks at no period.
-            None => Ok(period_of(KeyType::DataEncryption)),
+            Some(kind) => self.look_up_set_period(kind),
+            None => Ok(None),
         }
     }
 
-    /// The usage period of the type, by the tables.
-    pub(super) fn look_up_period(&mut self, kind: KeyType) -> Result<Period, End>
+    /// The usage period that the office set for the type, if it set one, by the tables.
+    pub(super) fn look_up_set_period(&mut self, kind: KeyType) -> Result<Option<Period>, End>
         requires { IsWhole self.old }
         ensures looks { LooksUp S.Store 2 self.old self.new result }
         ensures no_memory { result ≢ Err End.Memory }
         ensures found { (t : Tables) → Sees S.Store t self.old → IsClean S.Store self.new
-            → IfOk result (λ period. period ≡ period_over t kind) }
+            → IfOk result (λ set. set ≡ period_at kind t.periods) }
     {
         match find_office_period(&mut self.connection, kind) {
-            Ok(found) => Ok(period_or_default(kind, found)),
+            Ok(set) => Ok(set),
             Err(_) => Err(self.break_desk()),
         }
     }
@@ -281,11 +279,4 @@ fn held_without_custody(alloc: Global, key: Key) -> Held
         custodians: Names::from_vec(Vec::new(alloc)),
         approvals: Names::from_vec(Vec::new(alloc)),
     }
-}
-
-/// The usage period of the type, where this is set for it, if anything is.
-fn period_or_default(kind: KeyType, set: Option<Period>) -> Period
-    ensures { result ≡ unwrap_or set (periods kind) }
-{
-    set.unwrap_or(period_of(kind))
 }

@@ -4,7 +4,7 @@ use crate::desk::Desk;
 use crate::end::End;
 use key_rows::Record;
 use lifecycle_core::{Usage, usage};
-use period_core::{KeyType, OfficePeriods, Period};
+use period_core::{KeyType, OfficePeriods, Period, period_or_default};
 use register_store::{StoreError, find_office_period};
 use sqlite::Alter;
 
@@ -63,7 +63,8 @@ impl<S: Alter> Desk<S> {
         if self.is_broken {
             return Err(End::Broken);
         }
-        self.look_up_period(kind)
+        let set = self.look_up_set_period(kind)?;
+        Ok(period_or_default(kind, set))
     }
 
     /// What the office set for each type. It changes nothing, and the desk goes on where the

@@ -7,7 +7,6 @@ ghost use Rattle.register_core.specs.Decision.{IsRightKey};
 use super::keys::{answer_by, change_by_request, dates_in, outcome_by, view_in, view_with};
 use lifecycle_core::{Dates, State};
 use moment_core::Moment;
-use period_core::{KeyType, period_of};
 use register_core::{Change, CustodyChange, Name, Quorum, Refusal, View, read_request};
 use std::alloc::Global;
 use std::test::Fail;
@@ -160,7 +159,7 @@ fn refuses_without_a_key(latest: Moment) -> bool {
     let view = View {
         latest,
         keys: 0,
-        period: period_of(KeyType::Master),
+        period: None,
         key: None,
     };
     is_refused(&view, EARLY, Refusal::MomentBehind { latest })

@@ -5,7 +5,7 @@ ghost use Rattle.register_core.specs.Decision.{IsRightKey};
 
 use lifecycle_core::{Dates, Row, State, state_of};
 use moment_core::Moment;
-use period_core::{KeyType, period_of};
+use period_core::KeyType;
 use register_core::{
     Accept, Change, Held, Name, Names, Quorum, Refusal, Reply, Request, View, decide,
 };
@@ -66,7 +66,7 @@ pub fn view_with(
     Ok(View {
         latest,
         keys: 1,
-        period: period_of(KeyType::Master),
+        period: None,
         key: Some(key),
     })
 }

@@ -3,7 +3,7 @@
 use super::keys::{answer_by, change_by_request, outcome_by, view_in};
 use lifecycle_core::State;
 use moment_core::Moment;
-use period_core::{KeyType, Period, period_of};
+use period_core::{KeyType, Period};
 use register_core::{Change, MAX_KEYS, Refusal, View, read_request};
 use std::alloc::Global;
 use std::test::Fail;
@@ -152,7 +152,7 @@ fn is_replied(keys: u32, line: &str, expected: &Replied) -> bool {
     let view = View {
         latest,
         keys,
-        period: period_of(KeyType::Master),
+        period: None,
         key: None,
     };
     let replied = match answer_by(&view, &request) {
@@ -177,7 +177,7 @@ fn is_change_of(line: &str, expected: &Change) -> bool {
     let view = View {
         latest,
         keys: 1,
-        period: period_of(KeyType::Master),
+        period: None,
         key: None,
     };
     change_by_request(&view, &request) == Some(*expected)

@@ -1,5 +1,5 @@
 use Rattle.register_desk.proofs.Readings.{looks_well}
-use Rattle.register_desk.proofs.desk.Desk.look_up_period.Goals as goal
+use Rattle.register_desk.proofs.desk.Desk.look_up_set_period.Goals as goal
 
 pub returns-in-Ok-clause-looks : goal.returns-in-Ok-clause-looks
 returns-in-Ok-clause-looks g c =

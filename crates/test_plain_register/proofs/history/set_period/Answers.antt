@@ -5,7 +5,7 @@ use Rattle.register_requests.specs.declared.request.Request.{Request}
 use Rattle.register_core.specs.Effect.{period_after}
 use Rattle.register_core.specs.History.{set_period}
 use Rattle.register_core.proofs.Histories.{next_prefix}
-use Rattle.test_plain_register.proofs.history.period.Goals as goal
+use Rattle.test_plain_register.proofs.history.set_period.Goals as goal
 
 pub loop-request-preserved : goal.loop-request-preserved
 loop-request-preserved c =
