@@ -440,7 +440,8 @@ module _ {S : Type 0} (g : Ghosts S) (may_leave : S → Image → Type 0)
       (record { found = found; input = input; old = old; new = new; runs = runs; left = left }) life
       × HoldsHistory (after h life) left) ∥₁
   by_runs_of h found left input old new (Did task done does) lawful start leaves =
-      ∥∥₁_map (leads found task input old new done does h left lawful start leaves) (λ one. (one.0, one.1.in_range, one.1, one.2))
+      let led = leads found task input old new done does h left lawful start leaves in
+      ∥∥₁_map led (λ one. (one.0, one.1.in_range, one.1, one.2))
   by_runs_of h found left input old new (DidNothing same) lawful start leaves =
       ∣ (no_life, tt, refl, subst (HoldsHistory h) (sym leaves) start) ∣₁
 
@@ -464,7 +465,8 @@ module _ {S : Type 0} (g : Ghosts S) (may_leave : S → Image → Type 0)
       (λ rest. (one.0 ∷ rest.0, (one.2, rest.1), rest.2, rest.3)))
 
   pub found_again : (first : Image) (runs : List (ProgramRun g may_leave Does)) → HoldsNothing first
-      → Follow g may_leave Does first runs → ∥ FoundAgain g may_leave Does runs (left_after g may_leave Does first runs) ∥₁
+      → Follow g may_leave Does first runs
+      → ∥ FoundAgain g may_leave Does runs (left_after g may_leave Does first runs) ∥₁
   found_again first runs none follow = ∥∥₁_map (by_runs runs [] first empty_lawful (inl (none, refl)) follow)
       (λ all. record {
         lives = all.0;

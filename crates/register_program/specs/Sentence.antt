@@ -98,8 +98,8 @@ module _ {S : Type 0} (g : Ghosts S) (may_leave : S → Image → Type 0) where
       (h : List Request) (left : Image) → IsLawful h → HoldsHistory h found → LeftBy found done left
       → ∥ ((life : Life) × WasLife h task done input old new life × HoldsHistory (after h life) left) ∥₁
 
--- Runs of which this is known of what was found, the task, what was read and written, and what it came to: that the task
--- leads on so, or that it was done as the program does it.
+-- Runs of which this is known of what was found, the task, what was read and written, and what it came to: that the
+-- task leads on so, or that it was done as the program does it.
 module _ {S : Type 0} (g : Ghosts S) (may_leave : S → Image → Type 0)
     (Does : Image → Task → Option (List ℕ) → Option (List ℕ) → Option (List ℕ) → Done S → Type 0) where
   -- a task was done, or the words are none and nothing was written

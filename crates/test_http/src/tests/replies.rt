@@ -38,7 +38,11 @@ const REFUSALS: [(Refusal, &str, &str); 19] = [
     (Refusal::OwnerCustodian, CONFLICT, r#"{"name":"OwnerCustodian","refused":15}"#),
     (Refusal::AlreadyApproved, CONFLICT, r#"{"name":"AlreadyApproved","refused":16}"#),
     (Refusal::NoApproval, CONFLICT, r#"{"name":"NoApproval","refused":17}"#),
-    (Refusal::ApprovalsMissing { have: 0, need: Quorum::LEAST }, CONFLICT, r#"{"have":0,"name":"ApprovalsMissing","need":2,"refused":18}"#),
+    (
+        Refusal::ApprovalsMissing { have: 0, need: Quorum::LEAST },
+        CONFLICT,
+        r#"{"have":0,"name":"ApprovalsMissing","need":2,"refused":18}"#,
+    ),
     (Refusal::OccurrenceLater, CONFLICT, r#"{"name":"OccurrenceLater","refused":19}"#),
     (Refusal::Full, CONFLICT, r#"{"name":"Full","refused":20}"#),
     (Refusal::NotOffice, CONFLICT, r#"{"name":"NotOffice","refused":21}"#),
