@@ -23,12 +23,13 @@ use Rattle.register_core.specs.Custody.{custodians, approvals, need, held}
 use Rattle.register_core.specs.KeptReply.{reply}
 use Rattle.register_requests.specs.Version.{current}
 use Rattle.register_core.specs.Verdict.{key_refusal, named_key, judgement}
-use Rattle.register_core.specs.CustodyRefusal.{already_custodian, already_approved}
+use Rattle.register_core.specs.CustodyRefusal.{custody_refusal_in}
 use Rattle.register_core.specs.Decision.{change_of_held_key, registered_key, change_of, change_by_request}
 use Rattle.register_core.specs.Decision.{change_without_key}
 use Rattle.register_core.specs.Decision.{reply_to, Stands, LeadsTo}
 use Rattle.register_core.proofs.Histories.{latest_grows, count_grows, key_named, kind_named, owner_named, dates_named}
 use Rattle.register_core.proofs.Histories.{kind_made, owner_made, dates_made}
+use Rattle.register_core.proofs.Filling.{past}
 use Rattle.register_core.proofs.Refusals.{IsPassed, passes}
 use Rattle.register_core.proofs.CustodyLeads.{IsNew, nobody_changes, custody_lead}
 
@@ -117,16 +118,16 @@ agrees_named h q k names is new = search (reply_of_key, key_named, dates_named, 
 pub unknown_named : (c : Command) (k : ℕ) → named c ≡ Some k → key_refusal None c ≡ Some UnknownKey
 unknown_named c k names = ap (λ (key : Option ℕ). cond (is_some key) (Some UnknownKey) None) names
 
-pub new_names : (h : List Request) (q : Request) (k : ℕ) → already_custodian (Some (standing h k)) q.command ≡ None
-    → already_approved (Some (standing h k)) q.caller q.command ≡ None → IsNew h q k
-new_names h q k custodian approval = grind arith
+pub new_names : (h : List Request) (q : Request) (k : ℕ)
+    → custody_refusal_in current (Some (standing h k)) q.caller q.command ≡ None → IsNew h q k
+new_names h q k free = grind (arith, past)
 
 agrees_key : (h : List Request) (q : Request) (k : ℕ) (key : Option Held) → named q.command ≡ Some k → key ≡ held h k
     → IsPassed current (latest h) (count h) (period h) key q → Agrees h q (change_of (period h) (Names k) key q)
 agrees_key h q k None names is passed = cc
 agrees_key h q k (Some key) names is passed =
     let stands = held_stands h k key is in
-    let new = new_names h q k (rw stands.1 at passed.new_custodian) (rw stands.1 at passed.new_approval) in
+    let new = new_names h q k (rw stands.1 at passed.custody) in
     rw stands.1 (agrees_named h q k names stands.0 new)
 
 -- a command about no key

@@ -1,7 +1,8 @@
 -- A lawful history has no more keys than the register takes, and no key of it more custodians than its version allows.
-use Rattle.std.proofs.Common.{◌≡◌, ℕ, ◌+◌, ◌≤◌, suc, Bool, List, [], ◌∷◌, ◌++◌, length}
-use Rattle.std.proofs.Common.{filter, None, Some, refl, sym, ap, subst, ◌∙◌, arith, inl, inr}
-use Rattle.std.proofs.lemmas.Bool.{leb-false, cases_lt}
+use Rattle.std.proofs.Common.{◌≡◌, ℕ, ◌+◌, ◌≤◌, suc, Bool, cond, List, [], ◌∷◌, ◌++◌, length}
+use Rattle.std.proofs.Common.{filter, Option, None, Some, refl, sym, ap, subst, ◌∙◌, arith, inl, inr}
+use Rattle.std.proofs.lemmas.Bool.{cases_lt}
+use Rattle.std.proofs.lemmas.Bool.Decides.{nat_tests}
 use Rattle.std.proofs.lemmas.List.{length-append}
 use Rattle.register_requests.specs.declared.request.Request.{Request}
 use Rattle.register_requests.specs.declared.version.Version.{Version}
@@ -13,10 +14,13 @@ use Rattle.register_core.specs.Names.{with_name, sorted_names}
 use Rattle.register_core.specs.History.{latest, count, period, dates}
 use Rattle.register_requests.specs.Within.Subject.{made_by}
 use Rattle.register_core.specs.Effect.{custody_change}
-use Rattle.register_core.specs.Custody.{all_custodians, custodians}
+use Rattle.std.specs.Option.{option_and_then}
+use Rattle.register_core.specs.declared.view.Held.{Held}
+use Rattle.register_core.specs.Custody.{all_custodians, custodians, held}
 use Rattle.register_core.specs.Verdict.{Accepts, max_keys, limit_refusal, named_key, judgement, judgement_in}
 use Rattle.register_core.specs.Verdict.{verdict_in}
-use Rattle.register_core.specs.CustodyRefusal.{too_many_custodians}
+use Rattle.register_core.specs.CustodyRefusal.{custody_refusal_in}
+use Rattle.register_core.proofs.Filling.{past}
 use Rattle.register_requests.specs.Version.{current, custodians_of}
 use Rattle.register_core.specs.Decision.{custodians_by}
 use Rattle.register_core.specs.Fold.{IsLawful, IsLawfulIn}
@@ -72,23 +76,22 @@ module _ (version : Version) where
   IsFew k entries = length (names_at k entries) ≤ custodians_of version
 
   few_after : (h : List Request) (q : Request) (k : ℕ) (c : Command)
-      → too_many_custodians version (Some (standing h k)) c ≡ None → IsFew k (all_custodians h)
+      → custody_refusal_in version (Some (standing h k)) q.caller c ≡ None → IsFew k (all_custodians h)
       → IsFew k (custodians_by k (custody_change (dates h k) q.caller c) (all_custodians h))
   few_after h q k (Revoke key reason occurrence) free few = grind (arith, kept_custodians)
   few_after h q k (AddCustodian key name) free few =
-      let space = leb-false _ _ (not_refused _ _ free) in
-      grind (arith, sorted_length, one_more)
+      grind (arith, nat_tests, sorted_length, one_more, past)
   few_after h q k (RemoveCustodian key name) free few = grind (arith, fewer)
   few_after h q k c free few = few
 
   -- there is room on the key that the request names
   on_room : (h : List Request) (q : Request) (k : ℕ) → IsOn h q k → judgement_in version h q ≡ None
-      → too_many_custodians version (Some (standing h k)) q.command ≡ None
+      → custody_refusal_in version (Some (standing h k)) q.caller q.command ≡ None
   on_room h q k on passed =
-      cc (
-        there h k on.low on.high,
-        (passes version (latest h) (count h) (period h) (named_key h q.command) q passed).room,
-      )
+      let stands = ap (λ (has : Bool). cond has (Some (standing h k)) None) (there h k on.low on.high) in
+      subst (λ (key : Option Held). custody_refusal_in version key q.caller q.command ≡ None)
+      (ap (option_and_then (held h)) on.names ∙ stands)
+      (passes version (latest h) (count h) (period h) (named_key h q.command) q passed).custody
 
   abbrev AllFew : List Request → Type 0
   AllFew h = (k : ℕ) → k ≤ count h → IsFew k (all_custodians h)

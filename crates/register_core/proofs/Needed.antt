@@ -85,8 +85,11 @@ pub needed_agrees : (h : List Request) (view : View) (q : Request) → Suffices 
 needed_agrees h view q is accepted =
     let judged : judgement h q ≡ None = sym (judged_by h view q is) ∙ accepted in
     agrees_as h q view.keys (change_by_request (period_or_default view.period) view.key q) is.keys_are
-    (cc (changed_by (period_or_default view.period) (period h) view.key q (so_for _ view.period (set_period h) is.period_is),
-      is.key_is, changed_so h q judged))
+    (cc (
+      changed_by (period_or_default view.period) (period h) view.key q (so_for _ view.period (set_period h) is.period_is),
+      is.key_is,
+      changed_so h q judged,
+    ))
     judged
 
 -- ---- a view of the whole key
@@ -96,7 +99,7 @@ pub whole_judged : (h : List Request) (view : View) (q : Request) → IsViewOf v
 whole_judged h view q is =
     cc (
       judge_by view.latest view.keys (period_or_default view.period) (period h) view.key q
-      (so_for _ view.period (set_period h) is.period_is),
+          (so_for _ view.period (set_period h) is.period_is),
       is.latest_is,
       is.keys_are,
       is.key_is,
@@ -107,6 +110,9 @@ pub whole_agrees : (h : List Request) (view : View) (q : Request) → IsViewOf v
     → (reply_of_view view q ≡ reply h q) × LeadsTo h q (change_by_request (period_or_default view.period) view.key q)
 whole_agrees h view q is accepted =
     agrees_as h q view.keys (change_by_request (period_or_default view.period) view.key q) is.keys_are
-    (cc (changed_by (period_or_default view.period) (period h) view.key q
-      (so_for _ view.period (set_period h) is.period_is), is.key_is))
+    (cc (
+      changed_by (period_or_default view.period) (period h) view.key q
+          (so_for _ view.period (set_period h) is.period_is),
+      is.key_is,
+    ))
     (sym (whole_judged h view q is) ∙ accepted)

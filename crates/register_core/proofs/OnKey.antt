@@ -19,7 +19,7 @@ use Rattle.register_requests.specs.CommandRule.{is_one_of, rule}
 use Rattle.register_core.specs.Verdict.{giver_refusal, freeze_refusal, dates_refusal, occurrence_refusal, judge}
 use Rattle.register_core.specs.Verdict.{judgement}
 use Rattle.register_requests.specs.Version.{current}
-use Rattle.register_core.specs.CustodyRefusal.{owner_custodian, approvals_missing}
+use Rattle.register_core.specs.CustodyRefusal.{custody_refusal_in}
 use Rattle.register_core.proofs.Histories.{count_grows, dates_made}
 use Rattle.register_core.proofs.CustodyLeads.{IsNew}
 use Rattle.register_core.proofs.Refusals.{passes}
@@ -35,8 +35,7 @@ pub record IsOn (h : List Request) (q : Request) (k : ℕ) : Type 0 where
   pub fits_state : is_one_of (rule q.command).states (state_at (dates h k) q.moment) ≡ true
   pub not_frozen : freeze_refusal (Some (standing h k)) q.moment q.command ≡ None
   pub fit : dates_refusal (period h) (Some (standing h k)) q.moment q.command ≡ None
-  pub apart : owner_custodian (Some (standing h k)) q.command ≡ None
-  pub enough : approvals_missing (Some (standing h k)) q.command ≡ None
+  pub custody : custody_refusal_in current (Some (standing h k)) q.caller q.command ≡ None
   pub occurred : occurrence_refusal q.moment q.command ≡ None
   pub givers_own : giver_refusal (rule q.command).giver (Some (standing h k)) q.caller ≡ None
   pub new : IsNew h q k

@@ -6,8 +6,7 @@ use Rattle.register_requests.specs.declared.request.Request.{Request}
 use Rattle.register_requests.specs.declared.version.Version.{Version}
 use Rattle.register_core.specs.declared.view.Held.{Held}
 use Rattle.register_requests.specs.CommandRule.{rule}
-use Rattle.register_core.specs.CustodyRefusal.{already_custodian, no_such_custodian, too_many_custodians}
-use Rattle.register_core.specs.CustodyRefusal.{owner_custodian, already_approved, no_approval, approvals_missing}
+use Rattle.register_core.specs.CustodyRefusal.{custody_refusal_in}
 use Rattle.register_core.specs.Verdict.{moment_refusal, key_refusal, giver_refusal}
 use Rattle.register_core.specs.Verdict.{state_refusal, freeze_refusal, dates_refusal, occurrence_refusal}
 use Rattle.register_core.specs.Verdict.{limit_refusal, judge_in}
@@ -21,13 +20,7 @@ pub record IsPassed (version : Version) (last keys : ℕ) (periods : KeyType →
   pub state : state_refusal (rule q.command).states key q.moment ≡ None
   pub free : freeze_refusal key q.moment q.command ≡ None
   pub fit : dates_refusal periods key q.moment q.command ≡ None
-  pub new_custodian : already_custodian key q.command ≡ None
-  pub old_custodian : no_such_custodian key q.command ≡ None
-  pub room : too_many_custodians version key q.command ≡ None
-  pub apart : owner_custodian key q.command ≡ None
-  pub new_approval : already_approved key q.caller q.command ≡ None
-  pub old_approval : no_approval key q.caller q.command ≡ None
-  pub approved : approvals_missing key q.command ≡ None
+  pub custody : custody_refusal_in version key q.caller q.command ≡ None
   pub occurred : occurrence_refusal q.moment q.command ≡ None
   pub numbered : limit_refusal keys q.command ≡ None
 
@@ -40,13 +33,7 @@ passes version last keys periods key q accepted = record {
   state = grind (arith, past);
   free = grind (arith, past);
   fit = grind (arith, past);
-  new_custodian = grind (arith, past);
-  old_custodian = grind (arith, past);
-  room = grind (arith, past);
-  apart = grind (arith, past);
-  new_approval = grind (arith, past);
-  old_approval = grind (arith, past);
-  approved = grind (arith, past);
+  custody = grind (arith, past);
   occurred = grind (arith, past);
   numbered = grind (arith, past);
 }

@@ -1,5 +1,5 @@
 -- The refusals of custodians and of approvals, each where its condition holds.
-use Rattle.std.specs.Prelude.{ℕ, nat_lt, nat_le, List, [], ◌∷◌, Option, None, Some, length, if◌then◌else◌}
+use Rattle.std.specs.Prelude.{ℕ, nat_lt, nat_le, Bool, not, List, [], ◌∷◌, Option, None, Some, length, if◌then◌else◌}
 use Rattle.std.specs.Str.{bytes_eq}
 use Rattle.period_core.specs.Fitting.{first_that_holds}
 use Rattle.register_requests.specs.declared.request.Command.{Command}
@@ -14,58 +14,31 @@ use Rattle.register_requests.specs.Name.{is_among}
 use Rattle.register_requests.specs.declared.version.Version.{Version}
 use Rattle.register_requests.specs.Version.{custodians_of}
 
--- the name to add is a custodian of the key already
-abbrev pub already_custodian : Option Held → Command → Option Refusal
-already_custodian (Some held) (AddCustodian key name) =
-    if is_among name held.custodians then Some AlreadyCustodian else None
-already_custodian _ _ = None
+abbrev pub refused_if : Bool → Refusal → Option Refusal
+refused_if holds refusal = if holds then Some refusal else None
 
--- the name to remove is no custodian of the key
-abbrev pub no_such_custodian : Option Held → Command → Option Refusal
-no_such_custodian (Some held) (RemoveCustodian key name) =
-    if is_among name held.custodians then None else Some NoSuchCustodian
-no_such_custodian _ _ = None
-
--- the key has as many custodians as it may have in this version
-abbrev pub too_many_custodians : Version → Option Held → Command → Option Refusal
-too_many_custodians version (Some held) (AddCustodian key name) =
-    if nat_le (custodians_of version) (length held.custodians) then Some TooManyCustodians else None
-too_many_custodians version _ _ = None
-
--- a custodian would be the owner, or the owner a custodian
-abbrev pub owner_custodian : Option Held → Command → Option Refusal
-owner_custodian (Some held) (AddCustodian key name) = if bytes_eq name held.owner then Some OwnerCustodian else None
-owner_custodian (Some held) (Assign key owner) = if is_among owner held.custodians then Some OwnerCustodian else None
-owner_custodian _ _ = None
-
--- the caller approves, and its approval stands already
-abbrev pub already_approved : Option Held → List ℕ → Command → Option Refusal
-already_approved (Some held) caller (Approve key) =
-    if is_among caller held.approvals then Some AlreadyApproved else None
-already_approved _ caller _ = None
-
--- the caller withdraws, and no approval of its stands
-abbrev pub no_approval : Option Held → List ℕ → Command → Option Refusal
-no_approval (Some held) caller (Withdraw key) = if is_among caller held.approvals then None else Some NoApproval
-no_approval _ caller _ = None
-
--- fewer approvals stand than the destruction of the key needs
-abbrev pub approvals_missing : Option Held → Command → Option Refusal
-approvals_missing (Some held) (Destroy key) =
-    let have = length held.approvals in if nat_lt have held.need then Some (ApprovalsMissing have held.need) else None
-approvals_missing _ _ = None
-
--- each of these refusals in a version, in order, where its condition holds
-abbrev pub custody_refusals : Version → Option Held → List ℕ → Command → List (Option Refusal)
-custody_refusals version key caller c =
-    already_custodian key c
-    ∷ no_such_custodian key c
-    ∷ too_many_custodians version key c
-    ∷ owner_custodian key c
-    ∷ already_approved key caller c
-    ∷ no_approval key caller c
-    ∷ approvals_missing key c
+-- the name to add is a custodian of the key already, the key has as many as it may have in this version, or its owner
+-- would be one
+abbrev pub addition_refusals : Version → Held → List ℕ → List (Option Refusal)
+addition_refusals version held name =
+    refused_if (is_among name held.custodians) AlreadyCustodian
+    ∷ refused_if (nat_le (custodians_of version) (length held.custodians)) TooManyCustodians
+    ∷ refused_if (bytes_eq name held.owner) OwnerCustodian
     ∷ []
 
+-- the refusal of a caller's command on the custody of a key that stands so
+abbrev pub custody_refusal_of : Version → Held → List ℕ → Command → Option Refusal
+custody_refusal_of version held caller (AddCustodian key name) =
+    first_that_holds (addition_refusals version held name)
+custody_refusal_of version held caller (RemoveCustodian key name) =
+    refused_if (not (is_among name held.custodians)) NoSuchCustodian
+custody_refusal_of version held caller (Assign key owner) = refused_if (is_among owner held.custodians) OwnerCustodian
+custody_refusal_of version held caller (Approve key) = refused_if (is_among caller held.approvals) AlreadyApproved
+custody_refusal_of version held caller (Withdraw key) = refused_if (not (is_among caller held.approvals)) NoApproval
+custody_refusal_of version held caller (Destroy key) =
+    let have = length held.approvals in refused_if (nat_lt have held.need) (ApprovalsMissing have held.need)
+custody_refusal_of version held caller _ = None
+
 abbrev pub custody_refusal_in : Version → Option Held → List ℕ → Command → Option Refusal
-custody_refusal_in version key caller c = first_that_holds (custody_refusals version key caller c)
+custody_refusal_in version None caller c = None
+custody_refusal_in version (Some held) caller c = custody_refusal_of version held caller c

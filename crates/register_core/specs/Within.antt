@@ -1,4 +1,3 @@
 -- What functions within the crate say of one another: no public contract stands on it.
 pub mod Custody
-pub mod CustodyRefusal
 pub mod Decision

@@ -1,14 +1,12 @@
 //! The verdict on a request, and what it makes of the register, where the key that it names is
 //! known.
-ghost use Rattle.std.specs.Prelude.{◌≡◌, None, Some, IfOk, IfErr, OnOk, ◌≤◌, List};
+ghost use Rattle.std.specs.Prelude.{◌≡◌, None, Some, IfOk, IfErr, OnOk, ◌≤◌, List, length, nat_lt};
 ghost use Rattle.register_requests.specs.declared.request.Command.{Command};
 ghost use Rattle.period_core.specs.Within.Fitting.{Checks};
 ghost use Rattle.register_requests.specs.CommandRule.{rule};
-ghost use Rattle.register_core.specs.CustodyRefusal.{already_custodian, no_such_custodian};
-ghost use Rattle.register_core.specs.CustodyRefusal.{too_many_custodians, owner_custodian};
-ghost use Rattle.register_core.specs.CustodyRefusal.{already_approved, no_approval};
-ghost use Rattle.register_core.specs.CustodyRefusal.{approvals_missing};
-ghost use Rattle.register_core.specs.Within.CustodyRefusal.{custody_refusal};
+ghost use Rattle.period_core.specs.Fitting.{first_that_holds};
+ghost use Rattle.register_core.specs.CustodyRefusal.{addition_refusals, custody_refusal_in, refused_if};
+ghost use Rattle.register_core.specs.declared.reply.Refusal.TheVariants.{ApprovalsMissing};
 ghost use Rattle.register_core.specs.Decision.{IsRightKey, IsViewOf, LeadsTo};
 ghost use Rattle.register_core.specs.Within.Decision.{AreDatesAfter};
 ghost use Rattle.register_core.specs.Decision.{change_by_request, reply_to, reply_of_view};
@@ -114,114 +112,61 @@ fn check_freeze(key: &Option<Held>, at: Moment, command: &Command) -> Result<(),
     }
 }
 
-/// The name to add is no custodian yet.
-fn check_added_is_no_custodian(key: &Option<Held>, command: &Command) -> Result<(), Refusal>
-    ensures { Checks (already_custodian key.now command.now) result }
+/// The refusal, where the condition holds.
+fn refuse_if(holds: bool, refusal: Refusal) -> Result<(), Refusal>
+    ensures { Checks (refused_if holds refusal) result }
 {
-    match (key, command) {
-        (Some(held), Command::AddCustodian { name, .. }) if held.custodians.contains(name) => {
-            Err(Refusal::AlreadyCustodian)
-        }
-        _ => Ok(()),
-    }
+    if holds { Err(refusal) } else { Ok(()) }
 }
 
-/// The name to remove is a custodian.
-fn check_removed_is_custodian(key: &Option<Held>, command: &Command) -> Result<(), Refusal>
-    ensures { Checks (no_such_custodian key.now command.now) result }
+/// The name becomes a custodian only where it is none yet, where the key has fewer than it may have,
+/// and where it is not the owner.
+fn check_addition(held: &Held, name: &Name) -> Result<(), Refusal>
+    ensures { Checks (first_that_holds (addition_refusals current held.now name.now)) result }
 {
-    match (key, command) {
-        (Some(held), Command::RemoveCustodian { name, .. }) if !held.custodians.contains(name) => {
-            Err(Refusal::NoSuchCustodian)
-        }
-        _ => Ok(()),
-    }
-}
-
-/// A custodian is added only where there are fewer than a key may have.
-fn check_room_for_custodian(key: &Option<Held>, command: &Command) -> Result<(), Refusal>
-    ensures { Checks (too_many_custodians current key.now command.now) result }
-{
-    match (key, command) {
-        (Some(held), Command::AddCustodian { .. })
-            if held.custodians.len() >= Version::CURRENT.max_custodians() => {
-            Err(Refusal::TooManyCustodians)
-        }
-        _ => Ok(()),
-    }
-}
-
-/// No custodian becomes the owner, and no owner a custodian.
-fn check_owner_is_no_custodian(key: &Option<Held>, command: &Command) -> Result<(), Refusal>
-    ensures { Checks (owner_custodian key.now command.now) result }
-{
-    let is_both = match (key, command) {
-        (Some(held), Command::AddCustodian { name, .. }) => *name == held.owner,
-        (Some(held), Command::Assign { owner, .. }) => held.custodians.contains(owner),
-        _ => false,
-    };
-    if is_both {
-        Err(Refusal::OwnerCustodian)
-    } else {
-        Ok(())
-    }
-}
-
-/// The caller approves only where no approval of its stands.
-fn check_not_approved(key: &Option<Held>, caller: &Name, command: &Command) -> Result<(), Refusal>
-    ensures { Checks (already_approved key.now caller.now command.now) result }
-{
-    match (key, command) {
-        (Some(held), Command::Approve { .. }) if held.approvals.contains(caller) => {
-            Err(Refusal::AlreadyApproved)
-        }
-        _ => Ok(()),
-    }
-}
-
-/// The caller withdraws only where its approval stands.
-fn check_withdrawn_approval_stands(
-    key: &Option<Held>,
-    caller: &Name,
-    command: &Command,
-) -> Result<(), Refusal>
-    ensures { Checks (no_approval key.now caller.now command.now) result }
-{
-    match (key, command) {
-        (Some(held), Command::Withdraw { .. }) if !held.approvals.contains(caller) => {
-            Err(Refusal::NoApproval)
-        }
-        _ => Ok(()),
-    }
+    let is_full = held.custodians.len() >= Version::CURRENT.max_custodians();
+    refuse_if(held.custodians.contains(name), Refusal::AlreadyCustodian)?;
+    refuse_if(is_full, Refusal::TooManyCustodians)?;
+    refuse_if(*name == held.owner, Refusal::OwnerCustodian)
 }
 
 /// The key is destroyed only where as many approvals stand as that needs.
-fn check_approvals_suffice(key: &Option<Held>, command: &Command) -> Result<(), Refusal>
-    ensures { Checks (approvals_missing key.now command.now) result }
+fn check_approvals(held: &Held) -> Result<(), Refusal>
+    ensures { Checks (refused_if (nat_lt (length held.now.approvals) held.now.need)
+        (ApprovalsMissing (length held.now.approvals) held.now.need)) result }
 {
-    let (Some(held), Command::Destroy { .. }) = (key, command) else {
-        return Ok(());
-    };
     let have = held.approvals.len();
     let need = held.need;
-    if have < usize::from(need.get()) {
-        Err(Refusal::ApprovalsMissing { have, need })
-    } else {
-        Ok(())
-    }
+    refuse_if(
+        have < usize::from(need.get()),
+        Refusal::ApprovalsMissing { have, need },
+    )
 }
 
-/// No refusal of custody holds; else the first.
+/// What the command asks of the key's custodians and approvals is not refused; else why.
 fn check_custody(key: &Option<Held>, caller: &Name, command: &Command) -> Result<(), Refusal>
-    ensures { Checks (custody_refusal key.now caller.now command.now) result }
+    ensures { Checks (custody_refusal_in current key.now caller.now command.now) result }
 {
-    check_added_is_no_custodian(key, command)?;
-    check_removed_is_custodian(key, command)?;
-    check_room_for_custodian(key, command)?;
-    check_owner_is_no_custodian(key, command)?;
-    check_not_approved(key, caller, command)?;
-    check_withdrawn_approval_stands(key, caller, command)?;
-    check_approvals_suffice(key, command)
+    let Some(held) = key else {
+        return Ok(());
+    };
+    match command {
+        Command::AddCustodian { name, .. } => check_addition(held, name),
+        Command::RemoveCustodian { name, .. } => {
+            refuse_if(!held.custodians.contains(name), Refusal::NoSuchCustodian)
+        }
+        Command::Assign { owner, .. } => {
+            refuse_if(held.custodians.contains(owner), Refusal::OwnerCustodian)
+        }
+        Command::Approve { .. } => {
+            refuse_if(held.approvals.contains(caller), Refusal::AlreadyApproved)
+        }
+        Command::Withdraw { .. } => {
+            refuse_if(!held.approvals.contains(caller), Refusal::NoApproval)
+        }
+        Command::Destroy { .. } => check_approvals(held),
+        _ => Ok(()),
+    }
 }
 
 /// The occurrence of a compromise is not after the moment.

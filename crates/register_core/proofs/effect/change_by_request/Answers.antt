@@ -20,8 +20,8 @@ returns-in-Some-Some c set is =
     let names = named_subject q.command key c.in-Some-Some.ensures in
     let after : Option Held → Type 0 = λ named. AreDatesAfter set named q.moment q.command c.args.dates in
     let dates =
-        subst (λ (s : Subject). IfSome (type_of (Some held) s) (λ kind.
-        c.args.dates ≡ dates_after (period_or_default set kind) (dates_before (Some held)) q.moment q.command)) names
-        (subst after c.in-Some-Some.is-1 is) in
+    subst (λ (s : Subject). IfSome (type_of (Some held) s) (λ kind.
+    c.args.dates ≡ dates_after (period_or_default set kind) (dates_before (Some held)) q.moment q.command)) names
+    (subst after c.in-Some-Some.is-1 is) in
     c.change_of_held_key.ensures (period_or_default set) dates
     ∙ sym (λ i. change_of (period_or_default set) (names i) (c.in-Some-Some.is-1 i) q)
