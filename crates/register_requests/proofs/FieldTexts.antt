@@ -1,12 +1,12 @@
 -- The texts of the fields: none has a space in it but that of a purpose, and each is of one value.
-use Rattle.std.proofs.Common.{◌≡◌, ◌≢◌, ℕ, suc, ◌<◌, ◌≤◌, ◌^◌, Bool, true, false, ◌&&◌, List, [], ◌∷◌, Option, Some, None}
-use Rattle.std.proofs.Common.{inl, inr, IfSome, IfNone, IsSome, ◌↔◌, if◌then◌else◌, nat_le, length, refl, sym, ap, subst, ◌∙◌, arith}
+use Rattle.std.proofs.Common.{◌≡◌, ◌≢◌, ℕ, suc, ◌<◌, ◌≤◌, ◌^◌, nat_le, Bool, true, false, ◌&&◌, ◌↔◌, inl, inr}
+use Rattle.std.proofs.Common.{List, [], ◌∷◌, length, Option, Some, None, IfSome, IfNone, IsSome}
+use Rattle.std.proofs.Common.{refl, sym, ap, subst, ◌∙◌, arith}
 use Rattle.std.specs.Prelude.{◌⊎◌, decimal, find, codes, not, slice_index, ◌-◌}
 use Rattle.std.specs.List.{All, list_all}
 use Rattle.std.specs.Fmt.{digits}
 use Rattle.std.specs.Str.{bytes_eq, is_utf8}
 use Rattle.std.specs.Str.Parse.{AllDigits, digits_value}
-use Rattle.std.proofs.lemmas.Bool.{and_parts}
 use Rattle.std.proofs.lemmas.Bool.Decides.{nat_tests}
 use Rattle.std.proofs.lemmas.Fmt.{decimal_is_IsNumeral, decimal_injective}
 use Rattle.std.proofs.lemmas.Grind.{common_steps}
@@ -18,7 +18,6 @@ use Rattle.lifecycle_core.specs.declared.reason.Reason.TheVariants.{Unspecified,
 use Rattle.lifecycle_core.specs.declared.reason.Reason.TheVariants.{AffiliationChanged, Superseded}
 use Rattle.lifecycle_core.specs.declared.reason.Reason.TheVariants.{CessationOfOperation, PrivilegeWithdrawn}
 use Rattle.lifecycle_core.specs.Reason.{reason_code, is_compromise}
-use Rattle.period_core.specs.declared.key_type.KeyType.{KeyType}
 use Rattle.period_core.specs.KeyType.{key_type_text}
 use Rattle.period_core.specs.Period.{max_months}
 use Rattle.period_core.proofs.Types.{types}
@@ -31,9 +30,10 @@ use Rattle.register_requests.specs.Name.{IsName, is_name_byte, max_name_length}
 use Rattle.register_requests.specs.Number.{IsNumber, max_request_number}
 use Rattle.register_requests.specs.Purpose.{IsPurpose, is_purpose_byte, max_purpose_length}
 use Rattle.register_requests.specs.Quorum.{IsQuorum, min_approvals, max_approvals}
-use Rattle.register_requests.specs.Request.{IsDate, IsKeyNumber, IsEdit, StandsFor, date_text, edit_text, max_key_number}
-use Rattle.register_requests.specs.Within.FieldText.{Writes, IsAny, itself, IsMonths, reason_text, IsOccurrence, is_space}
-use Rattle.register_requests.specs.Within.FieldText.{HasNoSpace}
+use Rattle.register_requests.specs.Request.{IsDate, IsKeyNumber, IsEdit, StandsFor, date_text, edit_text}
+use Rattle.register_requests.specs.Request.{max_key_number}
+use Rattle.register_requests.specs.Within.FieldText.{Writes, IsAny, itself, IsMonths, reason_text, IsOccurrence}
+use Rattle.register_requests.specs.Within.FieldText.{is_space, HasNoSpace}
 use Rattle.register_requests.proofs.Texts.{IsExact, IsFieldText}
 
 -- ---- numbers
@@ -73,6 +73,7 @@ module _ (P : ℕ → Type 0) (least most : ℕ) (small : most < 2 ^ 64)
     where
       one : (field : List ℕ) (m n : ℕ) → Writes P decimal field m → Writes P decimal field n → m ≡ n
       one field m n x y = decimal_injective m n (number_small m x.0) (number_small n y.0) (sym x.1 ∙ y.1)
+
       by : (field : List ℕ) → (check : Bool) → is_number least most field ≡ check
           → (o : Option ℕ) × StandsFor (Writes P decimal) field o
       by field true e =
@@ -179,9 +180,11 @@ occurrences reason = record {
     by field check e (None, none) = (None, λ date is. none date (is.0.0, is.1))
     by field check e (Some None, found) = (Some None, ((tt, λ no. refl), found.1))
     by field true e (Some (Some date), found) = (Some (Some date), ((found.0, λ no. absurd cc), found.1))
-    by field false e (Some (Some date), found) =
-        (None, λ x is. let same = one_date field (Some date) x found (is.0.0, is.1) in
-        let unset = is.0.1 e in absurd cc)
+    by field false e (Some (Some date), found) = (
+      None,
+      λ x is. let same = one_date field (Some date) x found (is.0.0, is.1) in
+          let unset = is.0.1 e in absurd cc,
+    )
 
 -- ---- types of keys, kinds of commands and reasons
 
@@ -203,8 +206,10 @@ named_field {A} text values again solid = record {
   where
     found : (field : List ℕ) (x : A) → field ≡ text x → find (λ y. bytes_eq (text y) field) values ≡ Some x
     found field x e = subst (λ (f : List ℕ). find (λ y. bytes_eq (text y) f) values ≡ Some x) (sym e) (again x)
+
     one : (field : List ℕ) (x y : A) → Writes IsAny text field x → Writes IsAny text field y → x ≡ y
     one field x y p q = some_is x y (sym (found field x p.1) ∙ found field y q.1)
+
     by : (field : List ℕ) (o : Option A) → find (λ y. bytes_eq (text y) field) values ≡ o
         → (o : Option A) × StandsFor (Writes IsAny text) field o
     by field (Some x) e =
@@ -212,16 +217,20 @@ named_field {A} text values again solid = record {
         (Some x, (tt, sym ((bytes_eq-Decides (text x) field).0 passes)))
     by field None e = (None, λ x is. absurd (cc (sym e ∙ found field x is.1)))
 
+-- no text is of two values that all have one
+pub one_text : {A : Type 0} {text : A → List ℕ} → IsFieldText (Writes IsAny text) → (a b : A) → text a ≡ text b → a ≡ b
+one_text {A} {text} own a b e = own.exact.one (text a) a b (tt, refl) (tt, e)
+
 pub key_types : IsFieldText (Writes IsAny key_type_text)
 key_types = named_field key_type_text types (λ k. grind arith) (λ k. grind arith)
 
 -- each reason once
-reasons_list : List Reason
-reasons_list = Unspecified ∷ KeyCompromise ∷ CaCompromise ∷ AffiliationChanged ∷ Superseded ∷ CessationOfOperation
+all_reasons : List Reason
+all_reasons = Unspecified ∷ KeyCompromise ∷ CaCompromise ∷ AffiliationChanged ∷ Superseded ∷ CessationOfOperation
     ∷ PrivilegeWithdrawn ∷ []
 
-reason_again : (r : Reason) → find (λ y. bytes_eq (reason_text y) (reason_text r)) reasons_list ≡ Some r
-unfolding reasons_list digits
+reason_again : (r : Reason) → find (λ y. bytes_eq (reason_text y) (reason_text r)) all_reasons ≡ Some r
+unfolding all_reasons digits
 reason_again Unspecified = refl
 reason_again KeyCompromise = refl
 reason_again CaCompromise = refl
@@ -237,7 +246,7 @@ pub reason_small : (r : Reason) → reason_code r < 2 ^ 64
 reason_small r = grind arith
 
 pub reasons : IsFieldText (Writes IsAny reason_text)
-reasons = named_field reason_text reasons_list reason_again (λ r. decimal_solid (reason_code r) (reason_small r))
+reasons = named_field reason_text all_reasons reason_again (λ r. decimal_solid (reason_code r) (reason_small r))
 
 -- each kind of command once
 abbrev pub all_kinds : List CommandKind

@@ -1,16 +1,13 @@
 -- Fields of a command, commands and requests: no bytes are the text of two, and it is decided of which they are.
 use Rattle.std.proofs.Common.{◌≡◌, ℕ, nat_le, ◌≤◌, Bool, true, false, List, [], ◌∷◌, ◌++◌, length, drop, append_assoc}
 use Rattle.std.proofs.Common.{Option, Some, None, refl, sym, ap, subst, ◌∙◌, arith}
-use Rattle.std.specs.Prelude.{codes, decimal, option_map}
+use Rattle.std.specs.Prelude.{codes, decimal}
 use Rattle.std.proofs.lemmas.Bool.{and_parts, leb-true, leb-false}
 use Rattle.std.proofs.lemmas.List.{append-nil}
-use Rattle.lifecycle_core.specs.declared.reason.Reason.{Reason}
-use Rattle.period_core.specs.declared.key_type.KeyType.{KeyType}
 use Rattle.period_core.specs.KeyType.{key_type_text}
 use Rattle.period_core.specs.Period.{of_months}
 use Rattle.register_requests.specs.declared.request.Request.{Request}
 use Rattle.register_requests.specs.declared.request.Command.{Command}
-use Rattle.register_requests.specs.declared.request.Edit.{Edit}
 use Rattle.register_requests.specs.declared.command_fields.CommandKind.{CommandKind}
 use Rattle.register_requests.specs.declared.command_fields.Fields.{Fields}
 use Rattle.register_requests.specs.declared.command_fields.Fields.TheVariants.{Nothing, Key, KeyAndName, KeyAndOwner}
@@ -28,12 +25,14 @@ use Rattle.register_requests.specs.Number.{IsNumber}
 use Rattle.register_requests.specs.Purpose.{IsPurpose}
 use Rattle.register_requests.specs.Quorum.{IsQuorum}
 use Rattle.moment_core.specs.Moment.{IsMoment}
-use Rattle.register_requests.specs.Request.{AreFieldsInRange, IsDate, IsEdit, IsKeyNumber, IsLineOf, IsItem, StandsFor}
-use Rattle.register_requests.specs.Request.{date_text, edit_text, fields_text, command_text, request_text, max_line_length}
+use Rattle.register_requests.specs.Request.{IsDate, IsEdit, IsKeyNumber, IsLineOf, IsItem, StandsFor}
+use Rattle.register_requests.specs.Request.{date_text, edit_text, fields_text, command_text, max_line_length}
 use Rattle.register_requests.specs.Within.Fields.{shape_of}
 use Rattle.register_requests.specs.Within.FieldText.{Writes, IsAny, itself, IsMonths, reason_text, IsOccurrence}
-use Rattle.register_requests.specs.Within.FieldText.{HasNoSpace, Before, Then, AreFieldsOf, after_word, IsRequestText}
-use Rattle.register_requests.proofs.Texts.{IsExact, IsFieldText, IsMadeBy, made_exact, then_exact, one_split, split_word}
+use Rattle.register_requests.specs.Within.FieldText.{HasNoSpace, AreKeyAndName, key_and_name_text, AreFieldsOf}
+use Rattle.register_requests.specs.Within.FieldText.{after_word, IsRequestText}
+use Rattle.register_requests.proofs.Texts.{IsExact, AreSame, Then, Ends, same_exact, ends, ends_exact, then_both}
+use Rattle.register_requests.proofs.Texts.{then_exact, one_split, split_word}
 use Rattle.register_requests.proofs.Commands.{made, some_made, has_shape, same_command as same_parts}
 use Rattle.register_requests.proofs.FieldTexts.{moments, key_numbers, request_numbers, quorums, months, dates, edits}
 use Rattle.register_requests.proofs.FieldTexts.{occurrences, key_types, reasons, command_kinds, names, purposes}
@@ -62,253 +61,198 @@ joined_revoke k r o = simp append_assoc
 joined_named : (k n : List ℕ) → codes " " ++ k ++ codes " " ++ n ≡ spaced (before k n)
 joined_named k n = simp append_assoc
 
+joined_pair : (k n : List ℕ) → k ++ codes " " ++ n ≡ before k n
+joined_pair k n = simp append_assoc
+
+joined_fields : (k n : List ℕ) → codes " " ++ k ++ codes " " ++ n ≡ spaced (k ++ codes " " ++ n)
+joined_fields k n = simp append_assoc
+
 joined_request : (m c n d : List ℕ) → m ++ codes " " ++ c ++ codes " " ++ n ++ codes " " ++ d
     ≡ before m (before c (before n d))
 joined_request m c n d = simp append_assoc
 
--- the text of the first, a space, and what the second is the text of
+-- the text of a value, a space, and after it the text of the rest
 module _ {A B : Type 0} {P : A → Type 0} {text : A → List ℕ} {After : A → List ℕ → B → Type 0} where
-  wrote : (x : A) (y : B) (rest : List ℕ) → P x → After x rest y → Then (Writes P text) After (before (text x) rest) (x, y)
-  wrote x y rest in_range after = record {
-    rest = rest;
-    before = record { field = text x; is_text = (in_range, refl); split = refl };
-    after = after;
-  }
+  wrote : (x : A) (rest : List ℕ) {y : B} → P x → After x rest y → Then (Writes P text) After (before (text x) rest) y
+  wrote x rest in_range after =
+      then_both (record { field = text x; is_text = (in_range, refl); split = refl }) after
 
-  spelled : (bytes : List ℕ) (x : A) (y : B) → (is : Then (Writes P text) After bytes (x, y))
-      → bytes ≡ before (text x) is.rest
-  spelled bytes x y is =
-      is.before.split ∙ ap (λ (field : List ℕ). before field is.rest) is.before.is_text.1
+  spelled : (bytes : List ℕ) (y : B) → (is : Then (Writes P text) After bytes y)
+      → bytes ≡ before (text is.first) is.rest
+  spelled bytes y is = is.before.split ∙ ap (λ (field : List ℕ). before field is.rest) is.before.is_text.1
 
 -- ---- the fields of a command
 
 -- what stands after the space after its word
-abbrev pub AreAfter : Shape → List ℕ → Fields → Type 0
+abbrev AreAfter : Shape → List ℕ → Fields → Type 0
 AreAfter shape bytes fields = AreFieldsOf shape (codes " " ++ bytes) fields
 
-key_there : (bytes : List ℕ) (key : ℕ) → Writes IsKeyNumber decimal bytes key → AreAfter shapes.Key bytes (Key key)
-key_there bytes key is = record {
-  in_range = is.0;
-  shape_is = refl;
-  text = ap (λ (field : List ℕ). spaced field) is.1;
-}
+-- the bytes are those that the text of the fields has after its space
+there_after : (rest fields bytes : List ℕ) → spaced bytes ≡ fields → fields ≡ spaced rest → rest ≡ bytes
+there_after rest fields bytes e f = cc
 
-key_back : (bytes : List ℕ) (f : Fields) → AreAfter shapes.Key bytes f
-    → (key : ℕ) × Writes IsKeyNumber decimal bytes key × (f ≡ Key key)
-key_back bytes (Key key) is = (key, (is.in_range, cc), refl)
+-- a key's number alone
+abbrev IsKey : List ℕ → Fields → Type 0
+IsKey = Ends (Writes IsKeyNumber decimal) Key
+
+key_back : (bytes : List ℕ) (f : Fields) → AreAfter shapes.Key bytes f → IsKey bytes f
+key_back bytes (Key key) is = ends key (is.in_range, cc)
 key_back bytes f is = absurd (let other = is.shape_is in cc)
 
-pub key_alone : IsMadeBy (Writes IsKeyNumber decimal) (AreAfter shapes.Key) Key
-key_alone = record { there = key_there; back = key_back }
+pub key_alone : AreSame IsKey (AreAfter shapes.Key)
+key_alone = record { there = λ bytes f is. grind arith; back = key_back }
 
 -- a key's number and a name
-abbrev pub IsKeyAndName : List ℕ → ℕ × List ℕ → Type 0
-IsKeyAndName = Then (Writes IsKeyNumber decimal) (λ _. Writes IsName itself)
+abbrev IsKeyAndName : List ℕ → ℕ × List ℕ → Type 0
+IsKeyAndName = Then (Writes IsKeyNumber decimal) (λ key. Ends (Writes IsName itself) (λ name. (key, name)))
 
-abbrev pub with_name : ℕ × List ℕ → Fields
-with_name (key, name) = KeyAndName key name
+named_back : (bytes : List ℕ) (x : ℕ × List ℕ) → Writes AreKeyAndName key_and_name_text bytes x → IsKeyAndName bytes x
+named_back bytes (key, name) is =
+    subst (λ (b : List ℕ). IsKeyAndName b (key, name)) (sym (is.1 ∙ joined_pair (decimal key) name))
+    (wrote key _ is.0.0 (ends name (is.0.1, refl)))
 
-named_there : (bytes : List ℕ) (x : ℕ × List ℕ) → IsKeyAndName bytes x → AreAfter shapes.KeyAndName bytes (with_name x)
-named_there bytes x is = grind (arith, spelled, joined_named)
+pub key_and_name : AreSame IsKeyAndName (Writes AreKeyAndName key_and_name_text)
+key_and_name = record { there = λ bytes x is. grind (arith, spelled, joined_pair); back = named_back }
 
-after_same : (rest fields bytes : List ℕ) → spaced bytes ≡ fields → fields ≡ spaced rest → rest ≡ bytes
-after_same rest fields bytes e f = cc
+-- and as fields
+abbrev IsNamed : (ℕ → List ℕ → Fields) → List ℕ → Fields → Type 0
+IsNamed made = Ends (Writes AreKeyAndName key_and_name_text) (λ x. made x.0 x.1)
 
-named_back : (bytes : List ℕ) (f : Fields) → AreAfter shapes.KeyAndName bytes f
-    → (x : ℕ × List ℕ) × IsKeyAndName bytes x × (f ≡ with_name x)
-named_back bytes (KeyAndName key name) is =
-    let same = after_same _ _ bytes is.text (joined_named (decimal key) name) in
-    ((key, name),
-    subst (λ (b : List ℕ). IsKeyAndName b (key, name)) same (wrote key name name is.in_range.0 (is.in_range.1, refl)),
-    refl)
-named_back bytes f is = absurd (let other = is.shape_is in cc)
+name_back : (bytes : List ℕ) (f : Fields) → AreAfter shapes.KeyAndName bytes f → IsNamed KeyAndName bytes f
+name_back bytes (KeyAndName key name) is =
+    ends (key, name) (is.in_range, sym (there_after _ _ bytes is.text (joined_fields (decimal key) name)))
+name_back bytes f is = absurd (let other = is.shape_is in cc)
 
-pub key_and_name : IsMadeBy IsKeyAndName (AreAfter shapes.KeyAndName) with_name
-key_and_name = record { there = named_there; back = named_back }
+pub names_after : AreSame (IsNamed KeyAndName) (AreAfter shapes.KeyAndName)
+names_after = record { there = λ bytes f is. grind (arith, joined_fields); back = name_back }
 
-abbrev pub with_owner : ℕ × List ℕ → Fields
-with_owner (key, owner) = KeyAndOwner key owner
+owner_back : (bytes : List ℕ) (f : Fields) → AreAfter shapes.KeyAndOwner bytes f → IsNamed KeyAndOwner bytes f
+owner_back bytes (KeyAndOwner key owner) is =
+    ends (key, owner) (is.in_range, sym (there_after _ _ bytes is.text (joined_fields (decimal key) owner)))
+owner_back bytes f is = absurd (let other = is.shape_is in cc)
 
-owned_there : (bytes : List ℕ) (x : ℕ × List ℕ) → IsKeyAndName bytes x
-    → AreAfter shapes.KeyAndOwner bytes (with_owner x)
-owned_there bytes x is = grind (arith, spelled, joined_named)
-
-owned_back : (bytes : List ℕ) (f : Fields) → AreAfter shapes.KeyAndOwner bytes f
-    → (x : ℕ × List ℕ) × IsKeyAndName bytes x × (f ≡ with_owner x)
-owned_back bytes (KeyAndOwner key owner) is =
-    let same = after_same _ _ bytes is.text (joined_named (decimal key) owner) in
-    ((key, owner),
-    subst (λ (b : List ℕ). IsKeyAndName b (key, owner)) same (wrote key owner owner is.in_range.0 (is.in_range.1, refl)),
-    refl)
-owned_back bytes f is = absurd (let other = is.shape_is in cc)
-
-pub key_and_owner : IsMadeBy IsKeyAndName (AreAfter shapes.KeyAndOwner) with_owner
-key_and_owner = record { there = owned_there; back = owned_back }
+pub owners_after : AreSame (IsNamed KeyAndOwner) (AreAfter shapes.KeyAndOwner)
+owners_after = record { there = λ bytes f is. grind (arith, joined_fields); back = owner_back }
 
 -- a key's number, and how many approvals its destruction needs
-abbrev pub IsKeyAndNeed : List ℕ → ℕ × ℕ → Type 0
-IsKeyAndNeed = Then (Writes IsKeyNumber decimal) (λ _. Writes IsQuorum decimal)
+abbrev IsKeyAndNeed : List ℕ → Fields → Type 0
+IsKeyAndNeed = Then (Writes IsKeyNumber decimal) (λ key. Ends (Writes IsQuorum decimal) (KeyAndNeed key))
 
-abbrev pub with_need : ℕ × ℕ → Fields
-with_need (key, need) = KeyAndNeed key need
-
-need_there : (bytes : List ℕ) (x : ℕ × ℕ) → IsKeyAndNeed bytes x → AreAfter shapes.KeyAndNeed bytes (with_need x)
-need_there bytes x is = grind (arith, spelled, joined_named)
-
-need_back : (bytes : List ℕ) (f : Fields) → AreAfter shapes.KeyAndNeed bytes f
-    → (x : ℕ × ℕ) × IsKeyAndNeed bytes x × (f ≡ with_need x)
+need_back : (bytes : List ℕ) (f : Fields) → AreAfter shapes.KeyAndNeed bytes f → IsKeyAndNeed bytes f
 need_back bytes (KeyAndNeed key need) is =
-    let same = after_same _ _ bytes is.text (joined_named (decimal key) (decimal need)) in
-    ((key, need),
-    subst (λ (b : List ℕ). IsKeyAndNeed b (key, need)) same
-    (wrote key need (decimal need) is.in_range.0 (is.in_range.1, refl)), refl)
+    subst (λ (b : List ℕ). IsKeyAndNeed b (KeyAndNeed key need))
+    (there_after _ _ bytes is.text (joined_named (decimal key) (decimal need)))
+    (wrote key _ is.in_range.0 (ends need (is.in_range.1, refl)))
 need_back bytes f is = absurd (let other = is.shape_is in cc)
 
-pub key_and_need : IsMadeBy IsKeyAndNeed (AreAfter shapes.KeyAndNeed) with_need
-key_and_need = record { there = need_there; back = need_back }
+pub key_and_need : AreSame IsKeyAndNeed (AreAfter shapes.KeyAndNeed)
+key_and_need = record { there = λ bytes f is. grind (arith, spelled, joined_named); back = need_back }
 
 -- a type, and the months of its period
-abbrev pub Months : Type 0
-Months = KeyType × (ℕ × ℕ)
-
-abbrev pub IsTypeAndPeriod : List ℕ → Months → Type 0
+abbrev IsTypeAndPeriod : List ℕ → Fields → Type 0
 IsTypeAndPeriod =
-    Then (Writes IsAny key_type_text) (λ _. Then (Writes (IsMonths 1) decimal) (λ _. Writes (IsMonths 0) decimal))
+    Then (Writes IsAny key_type_text) (λ kind. Then (Writes (IsMonths 1) decimal) (λ originator.
+    Ends (Writes (IsMonths 0) decimal) (λ recipient. TypeAndPeriod kind (of_months originator recipient))))
 
-abbrev pub with_period : Months → Fields
-with_period (kind, (originator, recipient)) = TypeAndPeriod kind (of_months originator recipient)
-
-period_there : (bytes : List ℕ) (x : Months) → IsTypeAndPeriod bytes x
-    → AreAfter shapes.TypeAndPeriod bytes (with_period x)
-period_there bytes x is = grind (arith, spelled, joined_revoke)
-
-period_back : (bytes : List ℕ) (f : Fields) → AreAfter shapes.TypeAndPeriod bytes f
-    → (x : Months) × IsTypeAndPeriod bytes x × (f ≡ with_period x)
+period_back : (bytes : List ℕ) (f : Fields) → AreAfter shapes.TypeAndPeriod bytes f → IsTypeAndPeriod bytes f
 period_back bytes (TypeAndPeriod kind p) is =
-    let same = after_same _ _ bytes is.text
-    (joined_revoke (key_type_text kind) (decimal p.originator) (decimal p.recipient)) in
-    let in_range = is.in_range in
-    let x : Months = (kind, (p.originator, p.recipient)) in
-    (x, subst (λ (b : List ℕ). IsTypeAndPeriod b x) same
-    (wrote kind (p.originator, p.recipient) _ tt
-    (wrote p.originator p.recipient _ (in_range.some, in_range.originator) ((omega arith, in_range.recipient), refl))),
-    refl)
+    let months = is.in_range in
+    subst (λ (b : List ℕ). IsTypeAndPeriod b (TypeAndPeriod kind p))
+    (there_after _ _ bytes is.text
+    (joined_revoke (key_type_text kind) (decimal p.originator) (decimal p.recipient)))
+    (wrote kind _ tt
+    (wrote p.originator _ (months.some, months.originator) (ends p.recipient ((omega arith, months.recipient), refl))))
 period_back bytes f is = absurd (let other = is.shape_is in cc)
 
-pub type_and_period : IsMadeBy IsTypeAndPeriod (AreAfter shapes.TypeAndPeriod) with_period
-type_and_period = record { there = period_there; back = period_back }
+pub type_and_period : AreSame IsTypeAndPeriod (AreAfter shapes.TypeAndPeriod)
+type_and_period = record { there = λ bytes f is. grind (arith, spelled, joined_revoke); back = period_back }
 
 -- the fields of a registration
-abbrev pub Registered : Type 0
-Registered = KeyType × (List ℕ × (Option ℕ × (Option ℕ × (Option ℕ × List ℕ))))
+abbrev IsRegistration : List ℕ → Fields → Type 0
+IsRegistration =
+    Then (Writes IsAny key_type_text) (λ kind. Then (Writes IsName itself) (λ owner.
+    Then (Writes IsDate date_text) (λ activation. Then (Writes IsDate date_text) (λ protect_stop.
+    Then (Writes IsDate date_text) (λ deactivation.
+    Ends (Writes IsPurpose itself) (Registration kind owner activation protect_stop deactivation))))))
 
-abbrev pub IsRegistered : List ℕ → Registered → Type 0
-IsRegistered =
-    Then (Writes IsAny key_type_text) (λ _. Then (Writes IsName itself) (λ _. Then (Writes IsDate date_text) (λ _.
-    Then (Writes IsDate date_text) (λ _. Then (Writes IsDate date_text) (λ _. Writes IsPurpose itself)))))
-
-abbrev pub registered : Registered → Fields
-registered (kind, (owner, (activation, (protect_stop, (deactivation, purpose))))) =
-    Registration kind owner activation protect_stop deactivation purpose
-
-register_there : (bytes : List ℕ) (x : Registered) → IsRegistered bytes x
-    → AreAfter shapes.Registration bytes (registered x)
-register_there bytes x is = grind (arith, spelled, joined_register)
-
-register_back : (bytes : List ℕ) (f : Fields) → AreAfter shapes.Registration bytes f
-    → (x : Registered) × IsRegistered bytes x × (f ≡ registered x)
+register_back : (bytes : List ℕ) (f : Fields) → AreAfter shapes.Registration bytes f → IsRegistration bytes f
 register_back bytes (Registration k o a p d u) is =
-    let same = after_same _ _ bytes is.text
-    (joined_register (key_type_text k) o (date_text a) (date_text p) (date_text d) u) in
-    let x : Registered = (k, (o, (a, (p, (d, u))))) in
     let in_range = is.in_range in
-    (x, subst (λ (b : List ℕ). IsRegistered b x) same
-    (wrote k (o, (a, (p, (d, u)))) _ tt (wrote o (a, (p, (d, u))) _ in_range.0 (wrote a (p, (d, u)) _ in_range.1
-    (wrote p (d, u) _ in_range.2 (wrote d u _ in_range.3 (in_range.4, refl)))))), refl)
+    subst (λ (b : List ℕ). IsRegistration b (Registration k o a p d u))
+    (there_after _ _ bytes is.text
+    (joined_register (key_type_text k) o (date_text a) (date_text p) (date_text d) u))
+    (wrote k _ tt (wrote o _ in_range.0 (wrote a _ in_range.1 (wrote p _ in_range.2 (wrote d _ in_range.3
+    (ends u (in_range.4, refl)))))))
 register_back bytes f is = absurd (let other = is.shape_is in cc)
 
-pub registration : IsMadeBy IsRegistered (AreAfter shapes.Registration) registered
-registration = record { there = register_there; back = register_back }
+pub registration : AreSame IsRegistration (AreAfter shapes.Registration)
+registration = record { there = λ bytes f is. grind (arith, spelled, joined_register); back = register_back }
 
 -- the fields of a change of dates
-abbrev pub Edits : Type 0
-Edits = ℕ × (Edit × (Edit × Edit))
-
-abbrev pub AreEdits : List ℕ → Edits → Type 0
+abbrev AreEdits : List ℕ → Fields → Type 0
 AreEdits =
-    Then (Writes IsKeyNumber decimal) (λ _. Then (Writes IsEdit edit_text) (λ _. Then (Writes IsEdit edit_text) (λ _.
-    Writes IsEdit edit_text)))
+    Then (Writes IsKeyNumber decimal) (λ key. Then (Writes IsEdit edit_text) (λ activation.
+    Then (Writes IsEdit edit_text) (λ protect_stop.
+    Ends (Writes IsEdit edit_text) (DateEdits key activation protect_stop))))
 
-abbrev pub edited : Edits → Fields
-edited (key, (activation, (protect_stop, deactivation))) = DateEdits key activation protect_stop deactivation
-
-edits_there : (bytes : List ℕ) (x : Edits) → AreEdits bytes x → AreAfter shapes.DateEdits bytes (edited x)
-edits_there bytes x is = grind (arith, spelled, joined_edits)
-
-edits_back : (bytes : List ℕ) (f : Fields) → AreAfter shapes.DateEdits bytes f
-    → (x : Edits) × AreEdits bytes x × (f ≡ edited x)
+edits_back : (bytes : List ℕ) (f : Fields) → AreAfter shapes.DateEdits bytes f → AreEdits bytes f
 edits_back bytes (DateEdits key a p d) is =
-    let same = after_same _ _ bytes is.text
-    (joined_edits (decimal key) (edit_text a) (edit_text p) (edit_text d)) in
-    let x : Edits = (key, (a, (p, d))) in
     let in_range = is.in_range in
-    (x, subst (λ (b : List ℕ). AreEdits b x) same
-    (wrote key (a, (p, d)) _ in_range.0 (wrote a (p, d) _ in_range.1 (wrote p d _ in_range.2 (in_range.3, refl)))), refl)
+    subst (λ (b : List ℕ). AreEdits b (DateEdits key a p d))
+    (there_after _ _ bytes is.text (joined_edits (decimal key) (edit_text a) (edit_text p) (edit_text d)))
+    (wrote key _ in_range.0 (wrote a _ in_range.1 (wrote p _ in_range.2 (ends d (in_range.3, refl)))))
 edits_back bytes f is = absurd (let other = is.shape_is in cc)
 
-pub date_edits : IsMadeBy AreEdits (AreAfter shapes.DateEdits) edited
-date_edits = record { there = edits_there; back = edits_back }
+pub date_edits : AreSame AreEdits (AreAfter shapes.DateEdits)
+date_edits = record { there = λ bytes f is. grind (arith, spelled, joined_edits); back = edits_back }
 
 -- the fields of a revocation
-abbrev pub Revoked : Type 0
-Revoked = ℕ × (Reason × Option ℕ)
+abbrev IsRevocation : List ℕ → Fields → Type 0
+IsRevocation =
+    Then (Writes IsKeyNumber decimal) (λ key. Then (Writes IsAny reason_text) (λ reason.
+    Ends (Writes (IsOccurrence reason) date_text) (Revocation key reason)))
 
-abbrev pub IsRevoked : List ℕ → Revoked → Type 0
-IsRevoked = Then (Writes IsKeyNumber decimal) (λ _. Then (Writes IsAny reason_text) (λ reason.
-    Writes (IsOccurrence reason) date_text))
-
-abbrev pub revoked : Revoked → Fields
-revoked (key, (reason, occurrence)) = Revocation key reason occurrence
-
-revoke_there : (bytes : List ℕ) (x : Revoked) → IsRevoked bytes x → AreAfter shapes.Revocation bytes (revoked x)
-revoke_there bytes x is = grind (arith, spelled, joined_revoke)
-
-revoke_back : (bytes : List ℕ) (f : Fields) → AreAfter shapes.Revocation bytes f
-    → (x : Revoked) × IsRevoked bytes x × (f ≡ revoked x)
+revoke_back : (bytes : List ℕ) (f : Fields) → AreAfter shapes.Revocation bytes f → IsRevocation bytes f
 revoke_back bytes (Revocation key r o) is =
-    let same = after_same _ _ bytes is.text (joined_revoke (decimal key) (reason_text r) (date_text o)) in
-    let x : Revoked = (key, (r, o)) in
     let in_range = is.in_range in
-    (x, subst (λ (b : List ℕ). IsRevoked b x) same
-    (wrote key (r, o) _ in_range.0 (wrote r o _ tt ((in_range.1, in_range.2), refl))), refl)
+    subst (λ (b : List ℕ). IsRevocation b (Revocation key r o))
+    (there_after _ _ bytes is.text (joined_revoke (decimal key) (reason_text r) (date_text o)))
+    (wrote key _ in_range.0 (wrote r _ tt (ends o ((in_range.1, in_range.2), refl))))
 revoke_back bytes f is = absurd (let other = is.shape_is in cc)
 
-pub revocation : IsMadeBy IsRevoked (AreAfter shapes.Revocation) revoked
-revocation = record { there = revoke_there; back = revoke_back }
+pub revocation : AreSame IsRevocation (AreAfter shapes.Revocation)
+revocation = record { there = λ bytes f is. grind (arith, spelled, joined_revoke); back = revoke_back }
 
 -- no space stands after a word that has no fields
 nothing_after : (bytes : List ℕ) (f : Fields) → AreAfter shapes.Nothing bytes f → ⊥
 nothing_after bytes Nothing is = absurd (let other = is.text in cc)
 nothing_after bytes f is = absurd (let other = is.shape_is in cc)
 
+keys_and_names : IsExact (Writes AreKeyAndName key_and_name_text)
+keys_and_names = same_exact key_and_name (then_exact key_numbers (λ _. ends_exact names.exact))
+
+-- the texts of each shape, field after field
 shaped : (shape : Shape) → IsExact (AreAfter shape)
 shaped shapes.Nothing = record {
   one = λ bytes f g p q. absurd (nothing_after bytes f p);
   has = λ bytes. (None, nothing_after bytes);
 }
-shaped shapes.Key = made_exact key_alone key_numbers.exact
-shaped shapes.KeyAndName = made_exact key_and_name (then_exact key_numbers (λ _. names.exact))
-shaped shapes.KeyAndOwner = made_exact key_and_owner (then_exact key_numbers (λ _. names.exact))
-shaped shapes.KeyAndNeed = made_exact key_and_need (then_exact key_numbers (λ _. quorums.exact))
+shaped shapes.Key = same_exact key_alone (ends_exact key_numbers.exact)
+shaped shapes.KeyAndName = same_exact names_after (ends_exact keys_and_names)
+shaped shapes.KeyAndOwner = same_exact owners_after (ends_exact keys_and_names)
+shaped shapes.KeyAndNeed = same_exact key_and_need (then_exact key_numbers (λ _. ends_exact quorums.exact))
 shaped shapes.TypeAndPeriod =
-    made_exact type_and_period (then_exact key_types (λ _. then_exact (months 1) (λ _. (months 0).exact)))
+    same_exact type_and_period (then_exact key_types (λ _. then_exact (months 1) (λ _. ends_exact (months 0).exact)))
 shaped shapes.Registration =
-    made_exact registration (then_exact key_types (λ _. then_exact names (λ _. then_exact dates (λ _. then_exact dates
-    (λ _. then_exact dates (λ _. purposes))))))
+    same_exact registration (then_exact key_types (λ _. then_exact names (λ _. then_exact dates (λ _. then_exact dates
+    (λ _. then_exact dates (λ _. ends_exact purposes))))))
 shaped shapes.DateEdits =
-    made_exact date_edits (then_exact key_numbers (λ _. then_exact edits (λ _. then_exact edits (λ _. edits.exact))))
-shaped shapes.Revocation = made_exact revocation (then_exact key_numbers (λ _. then_exact reasons occurrences))
+    same_exact date_edits
+    (then_exact key_numbers (λ _. then_exact edits (λ _. then_exact edits (λ _. ends_exact edits.exact))))
+shaped shapes.Revocation =
+    same_exact revocation (then_exact key_numbers (λ _. then_exact reasons (λ reason. ends_exact (occurrences reason))))
 
+-- fields whose text is empty
 only_nothing : (f : Fields) → [] ≡ fields_text f → f ≡ Nothing
 only_nothing Nothing e = refl
 only_nothing f e = absurd cc
@@ -329,6 +273,7 @@ fields_has shape None = (None, no_fields shape (λ e. cc))
 
 -- ---- commands
 
+-- the text of fields stands after a word
 fields_begin : (f : Fields) → (after : Option (List ℕ)) × (after_word after ≡ fields_text f)
 fields_begin Nothing = (None, refl)
 fields_begin f = (Some (drop 1 (fields_text f)), refl)
@@ -338,6 +283,7 @@ no_space_in : (xs rest : List ℕ) → HasNoSpace (before xs rest) → ⊥
 no_space_in [] rest solid = cc
 no_space_in (x ∷ xs) rest solid = no_space_in xs rest (and_parts _ _ solid).1
 
+-- so no bytes are two words with what stands after each
 one_after : (a b : Option (List ℕ)) (word other : List ℕ) → HasNoSpace word → HasNoSpace other
     → word ++ after_word a ≡ other ++ after_word b → (word ≡ other) × (after_word a ≡ after_word b)
 one_after None None word other p q e = (sym (append-nil word) ∙ e ∙ append-nil other, refl)
@@ -407,12 +353,14 @@ command_has bytes = by (split_word bytes)
     with_kind word after solid whole kind e (None, none) = (None, no_fields_of bytes word after solid whole kind e none)
     with_kind word after solid whole kind e (Some f, is) =
         (command_with kind f, command_made bytes word after solid whole kind e f is (command_with kind f) refl)
+
     with_word : (word : List ℕ) (after : Option (List ℕ)) → HasNoSpace word → bytes ≡ word ++ after_word after
         → (o : Option CommandKind) × StandsFor (Writes IsAny command_kind_text) word o
         → (o : Option Command) × StandsFor IsCommandText bytes o
     with_word word after solid whole (None, none) = (None, no_kind bytes word after solid whole none)
     with_word word after solid whole (Some kind, is) =
         with_kind word after solid whole kind is.1 (fields_has (command_shape kind) after)
+
     by : (word : List ℕ) × (after : Option (List ℕ)) × HasNoSpace word × (bytes ≡ word ++ after_word after)
         → (o : Option Command) × StandsFor IsCommandText bytes o
     by split = with_word split.0 split.1 split.2 split.3 (command_kinds.exact.has split.0)
@@ -422,44 +370,31 @@ commands = record { one = same_command; has = command_has }
 
 -- ---- lines
 
-abbrev pub Requested : Type 0
-Requested = ℕ × (List ℕ × (ℕ × Command))
-
-abbrev pub IsRequested : List ℕ → Requested → Type 0
-IsRequested =
-    Then (Writes IsMoment decimal) (λ _. Then (Writes IsName itself) (λ _. Then (Writes IsNumber decimal) (λ _.
-    IsCommandText)))
-
-abbrev pub requested : Requested → Request
-requested (moment, (caller, (number, command))) =
+abbrev request_by : ℕ → List ℕ → ℕ → Command → Request
+request_by moment caller number command =
     record { moment = moment; caller = caller; number = number; command = command }
 
-request_there : (bytes : List ℕ) (x : Requested) → IsRequested bytes x → IsRequestText bytes (requested x)
-request_there bytes (moment, (caller, (number, command))) is = record {
-  request = record {
-    moment = is.before.is_text.0;
-    caller = is.after.before.is_text.0;
-    number = is.after.after.before.is_text.0;
-    command = is.after.after.after.0;
-  };
-  text = grind (arith, spelled, joined_request);
-}
+-- the fields of a line
+abbrev IsRequested : List ℕ → Request → Type 0
+IsRequested =
+    Then (Writes IsMoment decimal) (λ moment. Then (Writes IsName itself) (λ caller.
+    Then (Writes IsNumber decimal) (λ number. Ends IsCommandText (request_by moment caller number))))
 
-request_back : (bytes : List ℕ) (q : Request) → IsRequestText bytes q
-    → (x : Requested) × IsRequested bytes x × (q ≡ requested x)
+request_back : (bytes : List ℕ) (q : Request) → IsRequestText bytes q → IsRequested bytes q
 request_back bytes q is =
-    let x : Requested = (q.moment, (q.caller, (q.number, q.command))) in
+    let in_range = is.request in
     let same = is.text ∙ joined_request (decimal q.moment) q.caller (decimal q.number) (command_text q.command) in
-    (x, subst (λ (b : List ℕ). IsRequested b x) (sym same)
-    (wrote q.moment (q.caller, (q.number, q.command)) _ is.request.moment
-    (wrote q.caller (q.number, q.command) _ is.request.caller
-    (wrote q.number q.command _ is.request.number (is.request.command, refl)))), refl)
+    subst (λ (b : List ℕ). IsRequested b q) (sym same)
+    (wrote q.moment _ in_range.moment (wrote q.caller _ in_range.caller (wrote q.number _ in_range.number
+    (ends q.command (in_range.command, refl)))))
 
-pub request : IsMadeBy IsRequested IsRequestText requested
-request = record { there = request_there; back = request_back }
+pub request : AreSame IsRequested IsRequestText
+request = record { there = λ bytes q is. grind (arith, spelled, joined_request); back = request_back }
 
 requests : IsExact IsRequestText
-requests = made_exact request (then_exact moments (λ _. then_exact names (λ _. then_exact request_numbers (λ _. commands))))
+requests =
+    same_exact request
+    (then_exact moments (λ _. then_exact names (λ _. then_exact request_numbers (λ _. ends_exact commands))))
 
 -- a line that is not too long stands for the request whose text it is
 pub within_stands : (line : List ℕ) → length line ≤ max_line_length → (o : Option Request)
@@ -474,8 +409,11 @@ item_has line = by (nat_le (length line) max_line_length) refl (requests.has lin
     by : (check : Bool) → nat_le (length line) max_line_length ≡ check
         → (o : Option Request) × StandsFor IsRequestText line o → (o : Option Request) × IsItem line o
     by true e found = (found.0, within_stands line (leb-true _ _ e) found.0 found.1)
-    by false e found = (None, λ q is. let long = leb-false (length line) max_line_length e in
-        absurd (omega (arith, long, is.within)))
+    by false e found = (
+      None,
+      λ q is. let long = leb-false (length line) max_line_length e in
+          absurd (omega (arith, long, is.within)),
+    )
 
 -- No bytes are the line of two requests.
 pub same_request : (line : List ℕ) (p q : Request) → IsLineOf line p → IsLineOf line q → p ≡ q

@@ -14,7 +14,8 @@ ghost use Rattle.register_requests.specs.Request.{IsDate, IsEdit, IsKeyNumber, S
 ghost use Rattle.register_requests.specs.Request.{date_text, edit_text};
 ghost use Rattle.register_requests.specs.Within.FieldText.{Writes, IsAny, itself, IsMonths};
 ghost use Rattle.register_requests.specs.Within.FieldText.{IsOccurrence, reason_text};
-ghost use Rattle.register_requests.specs.Within.FieldText.{is_space, HasNoSpace, Before, Then};
+ghost use Rattle.register_requests.specs.Within.FieldText.{is_space, HasNoSpace, Before};
+ghost use Rattle.register_requests.specs.Within.FieldText.{AreKeyAndName, key_and_name_text};
 ghost use Rattle.register_requests.specs.Within.FieldText.{AreFieldsOf, after_word};
 ghost use Rattle.register_requests.specs.declared.command_fields.Shape.TheVariants as shapes;
 
@@ -293,8 +294,7 @@ fn registration_fields_of(bytes: &[u8]) -> Option<Fields>
 
 /// The number of a key, and the name after it.
 fn key_and_name_of(bytes: &[u8]) -> Option<(u32, Name)>
-    ensures { StandsFor (Then (Writes IsKeyNumber decimal) (λ _. Writes IsName itself))
-        bytes.now result }
+    ensures { StandsFor (Writes AreKeyAndName key_and_name_text) bytes.now result }
 {
     let mut rest = bytes;
     let key = take_key_number_before_space(&mut rest)?;

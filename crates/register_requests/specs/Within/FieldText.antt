@@ -1,5 +1,6 @@
 -- What functions within the crate say of the fields that they read.
-use Rattle.std.specs.Prelude.{◌≡◌, ℕ, ◌≤◌, ◌==◌, Bool, true, false, not, List, [], ◌∷◌, ◌++◌, codes, Option, None, Some}
+use Rattle.std.specs.Prelude.{◌≡◌, ℕ, ◌≤◌, ◌==◌, Bool, true, false, not, List, [], ◌∷◌, ◌++◌, codes, decimal}
+use Rattle.std.specs.Prelude.{Option, None, Some}
 use Rattle.std.specs.List.{list_all}
 use Rattle.lifecycle_core.specs.declared.reason.Reason.{Reason}
 use Rattle.lifecycle_core.specs.Reason.{reason_code, is_compromise}
@@ -7,9 +8,10 @@ use Rattle.period_core.specs.Period.{max_months}
 use Rattle.register_requests.specs.declared.command_fields.Fields.{Fields}
 use Rattle.register_requests.specs.declared.command_fields.Shape.{Shape}
 use Rattle.register_requests.specs.declared.request.Request.{Request}
-use Rattle.register_requests.specs.Request.{AreFieldsInRange, IsDate, IsRequest, fields_text, request_text}
+use Rattle.register_requests.specs.Name.{IsName}
+use Rattle.register_requests.specs.Request.{AreFieldsInRange, IsDate, IsKeyNumber, IsRequest}
+use Rattle.register_requests.specs.Request.{fields_text, request_text}
 use Rattle.register_requests.specs.Within.Fields.{shape_of}
-use Rattle.std.specs.Prelude.{decimal}
 
 -- ---- the text of one field
 
@@ -45,20 +47,20 @@ is_space byte = byte == 32
 abbrev pub HasNoSpace : List ℕ → Type 0
 HasNoSpace bytes = list_all (λ byte. not (is_space byte)) bytes ≡ true
 
--- the bytes begin with the text of the first, and what is left stands after its space
+-- the bytes begin with the text of a value and a space, after which stands what is left
 pub record Before {A : Type 0} (IsText : List ℕ → A → Type 0) (bytes : List ℕ) (taken : A × List ℕ) : Type 0 where
   pub field : List ℕ
   pub is_text : IsText field taken.0
   pub split : bytes ≡ field ++ (32 ∷ taken.1)
 
--- the same, and after that space they are the text of the second, which may rest on the first
-pub record Then {A B : Type 0} (First : List ℕ → A → Type 0) (After : A → List ℕ → B → Type 0) (bytes : List ℕ)
-    (both : A × B) : Type 0 where
-  pub rest : List ℕ
-  pub before : Before First bytes (both.0, rest)
-  pub after : After both.0 rest both.1
-
 -- ---- the fields of a command, and of a line
+
+-- a key's number and a name after it
+abbrev pub key_and_name_text : ℕ × List ℕ → List ℕ
+key_and_name_text (key, name) = decimal key ++ codes " " ++ name
+
+abbrev pub AreKeyAndName : ℕ × List ℕ → Type 0
+AreKeyAndName (key, name) = IsKeyNumber key × IsName name
 
 -- the bytes are the text of fields of this shape
 pub record AreFieldsOf (shape : Shape) (bytes : List ℕ) (fields : Fields) : Type 0 where

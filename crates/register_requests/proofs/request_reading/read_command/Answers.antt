@@ -1,4 +1,4 @@
-use Rattle.std.proofs.Common.{None, Some}
+use Rattle.std.proofs.Common.{None}
 use Rattle.register_requests.specs.CommandKind.{command_kind_text}
 use Rattle.register_requests.proofs.FieldTexts.{any_stands}
 use Rattle.register_requests.proofs.Lines.{no_kind, no_fields_of, command_made}

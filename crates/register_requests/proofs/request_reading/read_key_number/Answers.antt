@@ -6,6 +6,7 @@ use Rattle.register_requests.proofs.request_reading.read_key_number.Goals as goa
 
 pub returns-clause-none : goal.returns-clause-none
 returns-clause-none c =
-    let stands = number_stands IsKeyNumber (λ n is. omega arith) c.args.field.now c.in_ok-read_decimal.field-0 (omega arith)
-    c.in_ok-read_decimal.ensures.found c.key_number_in_range.result c.key_number_in_range.ensures.in_range c.key_number_in_range.ensures.value in
+    let stands = number_stands IsKeyNumber (λ n is. omega arith) c.args.field.now c.in_ok-read_decimal.field-0
+    (omega arith) c.in_ok-read_decimal.ensures.found c.key_number_in_range.result
+    c.key_number_in_range.ensures.in_range c.key_number_in_range.ensures.value in
     (stands_found IsKeyNumber decimal c.args.field.now c.key_number_in_range.result stands).1
