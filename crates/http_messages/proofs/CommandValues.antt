@@ -9,7 +9,6 @@ use Rattle.period_core.specs.declared.key_type.KeyType.{KeyType}
 use Rattle.period_core.specs.KeyType.{key_type_text}
 use Rattle.period_core.specs.Period.{Period, of_months}
 use Rattle.register_requests.specs.CommandRule.{kind_of}
-use Rattle.register_requests.specs.Within.RequestLine.{key_type_at, reason_at}
 use Rattle.register_requests.specs.declared.command_fields.CommandKind.{CommandKind}
 use Rattle.register_requests.specs.declared.request.Command.{Command}
 use Rattle.register_requests.specs.declared.command_fields.Fields.{Fields}
@@ -21,8 +20,7 @@ use Rattle.register_requests.specs.Within.Fields.{shape_of}
 use Rattle.register_requests.specs.declared.request.Edit.{Edit}
 use Rattle.register_requests.specs.declared.request.Edit.TheVariants.{Keep, Clear, Set}
 use Rattle.register_requests.proofs.Commands.{has_shape, same_command}
-use Rattle.register_requests.proofs.FieldReading.{some_is}
-use Rattle.register_requests.proofs.Readers.{key_type_reader, reason_reader, same_kind}
+use Rattle.register_requests.proofs.FieldTexts.{command_kinds, key_types, reasons, one_text}
 use Rattle.http_messages.specs.CommandValue.{command_data, fields_members, kind_data, date_data, edit_data}
 
 -- ---- the kind of a value
@@ -36,7 +34,7 @@ kind_found : (c : Command) → get (codes "kind") (command_data c) ≡ Some (kin
 kind_found c = kind_member (kind_data (kind_of c)) (fields_of c)
 
 one_kind : (j k : CommandKind) → Some (kind_data j) ≡ Some (kind_data k) → j ≡ k
-one_kind j k e = same_kind j k cc
+one_kind j k e = one_text command_kinds j k cc
 
 -- ---- the values of members, read back
 
@@ -65,15 +63,14 @@ one_edit : (a b : Edit) → edit_data a ≡ edit_data b → a ≡ b
 one_edit a b e = sym (edit_again a) ∙ ap edit_in e ∙ edit_again b
 
 one_type : (a b : KeyType) → key_type_text a ≡ key_type_text b → a ≡ b
-one_type a b e = some_is a b (sym (key_type_reader.again a tt) ∙ ap key_type_at e ∙ key_type_reader.again b tt)
+one_type = one_text key_types
 
 one_period : (a b : Period) → a.originator ≡ b.originator → a.recipient ≡ b.recipient → a ≡ b
 one_period a b e f =
     ap (λ (n : ℕ). of_months n a.recipient) e ∙ ap (λ (n : ℕ). of_months b.originator n) f
 
 one_reason : (a b : Reason) → reason_code a ≡ reason_code b → a ≡ b
-one_reason a b e =
-    some_is a b (sym (reason_reader.again a tt) ∙ ap (λ code. reason_at (decimal code)) e ∙ reason_reader.again b tt)
+one_reason a b e = one_text reasons a b (ap decimal e)
 
 -- ---- fields and commands
 

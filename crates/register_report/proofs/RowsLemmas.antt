@@ -8,20 +8,12 @@ use Rattle.csv.specs.declared.parser.Config.{Config}
 use Rattle.csv.specs.declared.parser.State.{State}
 use Rattle.csv.specs.declared.reader.Reader.{Reader}
 use Rattle.moment_core.proofs.Texts.{one_moment, text_length}
-use Rattle.period_core.specs.declared.key_type.KeyType.{KeyType}
-use Rattle.period_core.specs.KeyType.{key_type_text}
 use Rattle.register_requests.specs.declared.request.Request.{Request}
 use Rattle.register_requests.specs.Request.{IsDate, IsRequest}
-use Rattle.register_requests.specs.Within.RequestLine.{key_type_at}
-use Rattle.register_requests.proofs.Readers.{key_type_reader}
+use Rattle.register_requests.proofs.FieldTexts.{key_types, one_text}
 use Rattle.register_report.specs.ImportRows.{AreRowItems, IsRowItem, IsRowOf, Item, Row, date_field}
 
 -- ---- no row asks for two registrations
-
-one_key_type : (a b : KeyType) → key_type_text a ≡ key_type_text b → a ≡ b
-one_key_type a b e =
-    let found : Some a ≡ Some b = sym (key_type_reader.again a tt)
-    ∙ ap key_type_at e ∙ key_type_reader.again b tt in cc
 
 one_date : (a b : Option ℕ) → IsDate a → IsDate b → date_field a ≡ date_field b → a ≡ b
 one_date None None p q e = refl
@@ -35,7 +27,7 @@ one_row moment caller number fields p q a b =
     let same = sym a.fields_are ∙ b.fields_are in
     let ra = (subst IsRequest a.is a.in_range).command in
     let rb = (subst IsRequest b.is b.in_range).command in
-    let kind = one_key_type a.given.kind b.given.kind cc in
+    let kind = one_text key_types a.given.kind b.given.kind cc in
     let owner : a.given.owner ≡ b.given.owner = cc in
     let activation = one_date a.given.activation b.given.activation ra.1 rb.1 cc in
     let protect_stop = one_date a.given.protect_stop b.given.protect_stop ra.2 rb.2 cc in

@@ -22,8 +22,10 @@ use Rattle.register_requests.specs.Name.{IsName}
 use Rattle.register_requests.specs.Number.{IsNumber, max_request_number}
 use Rattle.register_requests.specs.Purpose.{IsPurpose}
 use Rattle.register_requests.specs.Request.{IsDate, IsRequest}
-use Rattle.register_requests.proofs.FieldReading.{IsReader}
-use Rattle.register_requests.proofs.Readers.{key_type_reader, name_reader, purpose_reader}
+use Rattle.register_requests.specs.Request.{StandsFor}
+use Rattle.register_requests.specs.Within.FieldText.{Writes as IsTextOf}
+use Rattle.register_requests.proofs.Texts.{IsExact}
+use Rattle.register_requests.proofs.FieldTexts.{key_types, names, purposes}
 use Rattle.register_report.specs.ImportRows.{AreRowItems, BeginsWithHeader, HasRowItems, HasRows}
 use Rattle.register_report.specs.ImportRows.{IsRowItem, IsRowOf, Item, Row, date_field, header}
 use Rattle.register_report.proofs.HeaderLemmas.{same_tail}
@@ -59,13 +61,13 @@ is_same xs ys = by (bytes_eq xs ys) refl
 abbrev Writes : {A : Type 0} → (A → List ℕ) → (A → Type 0) → List ℕ → Type 0
 Writes {A} text P field = (x : A) × P x × (field ≡ text x)
 
-read_or_none : {A : Type 0} {read_by : List ℕ → Option A} {text : A → List ℕ} {P : A → Type 0}
-    → IsReader read_by text P → (field : List ℕ) → Decided (Writes text P field)
-read_or_none {A} {read_by} {text} {P} own field = by (read_by field) refl
+field_or_none : {A : Type 0} {text : A → List ℕ} {P : A → Type 0} → IsExact (IsTextOf P text) → (field : List ℕ)
+    → Decided (Writes text P field)
+field_or_none {A} {text} {P} exact field = by (exact.has field)
   where
-    by : (o : Option A) → read_by field ≡ o → Decided (Writes text P field)
-    by None e = inr (λ it. absurd (let both = sym e ∙ ap read_by it.2 ∙ own.again it.0 it.1 in cc))
-    by (Some x) e = let taken = own.takes field x e in inl (x, taken.0, taken.1)
+    by : (o : Option A) × StandsFor (IsTextOf P text) field o → Decided (Writes text P field)
+    by (None, none) = inr (λ it. none it.0 (it.1, it.2))
+    by (Some x, is) = inl (x, is.0, is.1)
 
 at_last : (m last : ℕ) → m ≤ suc last → (m ≤ last → ⊥) → m ≡ suc last
 at_last m last le above = by (nat_le m last) refl
@@ -115,7 +117,7 @@ record MayHave (moment : ℕ) (caller : List ℕ) (number : ℕ) : Type 0 where
   number_is : IsNumber number
 
 is_name : (bytes : List ℕ) → Decided (IsName bytes)
-is_name bytes = elim (read_or_none name_reader bytes) [
+is_name bytes = elim (field_or_none names.exact bytes) [
   | inl found ↦ inl (subst IsName (sym found.2) found.1)
   | inr none ↦ inr (λ name. none (bytes, name, refl))
 ]
@@ -160,8 +162,8 @@ module _ (moment : ℕ) (caller : List ℕ) (number : ℕ) where
     parts_in : Decided (RowParts moment caller number u v w x y z)
     parts_in =
         let dates =
-        both (date_of_field w) (both (date_of_field x) (both (date_of_field y) (read_or_none purpose_reader z))) in
-        let all = both (read_or_none key_type_reader u) (both (read_or_none name_reader v) dates) in
+        both (date_of_field w) (both (date_of_field x) (both (date_of_field y) (field_or_none purposes z))) in
+        let all = both (field_or_none key_types.exact u) (both (field_or_none names.exact v) dates) in
         elim (both (may_have moment caller number) all) [
           | inl it ↦ inl (record {
             may = it.0;

@@ -1,7 +1,7 @@
 pub mod Subjects
 pub mod NameTexts
 pub mod TextLengths
-pub mod FieldReading
+pub mod Texts
+pub mod FieldTexts
 pub mod Commands
-pub mod Readers
 pub mod Lines

@@ -1,18 +1,14 @@
--- What is read is the request whose line it is, and each line of a request is read.
-use Rattle.std.proofs.Common.{◌≡◌, ℕ, ◌<◌, ◌^◌, nat_lt, Bool, true, false, cond, List, [], ◌∷◌, ◌++◌, length}
-use Rattle.std.proofs.Common.{Option, Some, None, refl, sym, ap, subst, ◌∙◌, append_assoc, arith}
+-- Fields of a command, commands and requests: no bytes are the text of two, and it is decided of which they are.
+use Rattle.std.proofs.Common.{◌≡◌, ℕ, nat_le, ◌≤◌, Bool, true, false, List, [], ◌∷◌, ◌++◌, length, drop, append_assoc}
+use Rattle.std.proofs.Common.{Option, Some, None, refl, sym, ap, subst, ◌∙◌, arith}
 use Rattle.std.specs.Prelude.{codes, decimal}
-use Rattle.std.specs.List.{list_all}
-use Rattle.std.specs.Str.Parse.{AllDigits}
-use Rattle.std.proofs.lemmas.Bool.{and_parts, ltb-false}
-use Rattle.std.proofs.lemmas.Bool.Decides.{nat_tests}
+use Rattle.std.proofs.lemmas.Bool.{and_parts, leb-true, leb-false}
 use Rattle.std.proofs.lemmas.List.{append-nil}
-use Rattle.std.proofs.lemmas.Fmt.{decimal_is_IsNumeral}
-use Rattle.lifecycle_core.specs.declared.reason.Reason.{Reason}
-use Rattle.lifecycle_core.specs.Reason.{reason_code}
-use Rattle.period_core.specs.declared.key_type.KeyType.{KeyType}
+use Rattle.period_core.specs.KeyType.{key_type_text}
+use Rattle.period_core.specs.Period.{of_months}
 use Rattle.register_requests.specs.declared.request.Request.{Request}
 use Rattle.register_requests.specs.declared.request.Command.{Command}
+use Rattle.register_requests.specs.declared.command_fields.CommandKind.{CommandKind}
 use Rattle.register_requests.specs.declared.command_fields.Fields.{Fields}
 use Rattle.register_requests.specs.declared.command_fields.Fields.TheVariants.{Nothing, Key, KeyAndName, KeyAndOwner}
 use Rattle.register_requests.specs.declared.command_fields.Fields.TheVariants.{KeyAndNeed}
@@ -20,80 +16,26 @@ use Rattle.register_requests.specs.declared.command_fields.Fields.TheVariants.{T
 use Rattle.register_requests.specs.declared.command_fields.Fields.TheVariants.{Revocation}
 use Rattle.register_requests.specs.declared.command_fields.Shape.{Shape}
 use Rattle.register_requests.specs.declared.command_fields.Shape.TheVariants as shapes
-use Rattle.register_requests.specs.Fields.{command_with}
-use Rattle.register_requests.specs.Within.Fields.{shape_of}
-use Rattle.register_requests.specs.declared.command_fields.CommandKind.{CommandKind}
-use Rattle.register_requests.specs.declared.request.Edit.{Edit}
-use Rattle.moment_core.specs.Moment.{IsMoment}
-use Rattle.register_requests.specs.Name.{IsName, is_name_byte}
+use Rattle.register_requests.specs.CommandKind.{command_kind_text, command_shape}
+use Rattle.register_requests.specs.CommandRule.{kind_of}
+use Rattle.register_requests.specs.Fields.{fields_of, command_with}
+use Rattle.register_requests.specs.CommandText.{IsCommandText}
+use Rattle.register_requests.specs.Name.{IsName}
 use Rattle.register_requests.specs.Number.{IsNumber}
 use Rattle.register_requests.specs.Purpose.{IsPurpose}
 use Rattle.register_requests.specs.Quorum.{IsQuorum}
-use Rattle.period_core.specs.KeyType.{key_type_text}
-use Rattle.period_core.specs.Period.{Period}
-use Rattle.register_requests.specs.CommandKind.{command_kind_text, command_shape}
-use Rattle.register_requests.specs.Request.{max_line_length, AreFieldsInRange, IsCommand, IsDate, IsEdit, IsKeyNumber}
-use Rattle.register_requests.specs.Request.{IsRequest}
-use Rattle.register_requests.specs.Request.{IsLineOf, StandsFor, IsItem, date_text, edit_text, fields_text}
-use Rattle.register_requests.specs.Request.{command_text}
-use Rattle.register_requests.specs.Request.{request_text}
-use Rattle.register_requests.specs.CommandText.{IsCommandText, IsCommandItem}
-use Rattle.register_requests.specs.Within.RequestLine.{◌>>=◌, field_at, field_then, moment_at, date_at}
-use Rattle.register_requests.specs.Within.RequestLine.{edit_at}
-use Rattle.register_requests.specs.Within.RequestLine.{key_number_at, request_number_at}
-use Rattle.register_requests.specs.Within.RequestLine.{reason_at, occurrence_at, name_at}
-use Rattle.register_requests.specs.Within.RequestLine.{key_type_at, purpose_at, registered, register_at, edits}
-use Rattle.register_requests.specs.Within.RequestLine.{edits_at}
-use Rattle.register_requests.specs.Within.RequestLine.{revoked, revoke_at, key_and_name_at, key_and_need_at, quorum_at}
-use Rattle.register_requests.specs.Within.RequestLine.{type_and_period_at, originator_at, recipient_at, set_period}
-use Rattle.register_requests.specs.Within.RequestLine.{keyed_at}
-use Rattle.register_requests.specs.Within.RequestLine.{named_at, kind_at, shaped_at, after_at, word_at}
-use Rattle.register_requests.specs.Within.RequestLine.{command_at}
-use Rattle.register_requests.specs.Within.RequestLine.{requested, fields_at, request_at}
-use Rattle.register_requests.proofs.Commands.{made, made_again, has_shape}
-use Rattle.register_requests.proofs.FieldReading.{bind_some, some_is, none_from, IsReader, HasNoSpace, field_takes}
-use Rattle.register_requests.proofs.FieldReading.{field_again, then_reader}
-use Rattle.register_requests.proofs.Readers.{moment_reader, date_reader, edit_reader, moment_small, key_number_reader}
-use Rattle.register_requests.proofs.Readers.{key_number_small, request_number_reader, request_number_small}
-use Rattle.register_requests.proofs.Readers.{quorum_reader}
-use Rattle.register_requests.proofs.Readers.{originator_reader, recipient_reader, IsMonths, months_small, name_reader}
-use Rattle.register_requests.proofs.Readers.{purpose_reader, key_type_reader, kind_reader, reason_reader, reason_text}
-use Rattle.register_requests.proofs.Readers.{reason_small, IsOccurrence, occurrence_reader}
-use Rattle.std.proofs.lemmas.Grind.{common_steps}
-
--- ---- what has no space
-
-digits_solid : (ds : List ℕ) → AllDigits 10 ds → HasNoSpace ds
-digits_solid [] h = refl
-digits_solid (c ∷ cs) h = grind (arith, digits_solid cs h.1)
-
-decimal_solid : (n : ℕ) → n < 2 ^ 64 → HasNoSpace (decimal n)
-decimal_solid n lt = digits_solid (decimal n) ((decimal_is_IsNumeral n lt).0.1)
-
-moment_solid : (m : ℕ) → IsMoment m → HasNoSpace (decimal m)
-moment_solid m in_range = decimal_solid m (moment_small m in_range)
-
-date_solid : (x : Option ℕ) → IsDate x → HasNoSpace (date_text x)
-date_solid x in_range = grind (arith, moment_solid)
-
-edit_solid : (x : Edit) → IsEdit x → HasNoSpace (edit_text x)
-edit_solid x in_range = grind (arith, moment_solid)
-
-key_number_solid : (key : ℕ) → IsKeyNumber key → HasNoSpace (decimal key)
-key_number_solid key in_range = decimal_solid key (key_number_small key in_range)
-
-request_number_solid : (n : ℕ) → IsNumber n → HasNoSpace (decimal n)
-request_number_solid n in_range = decimal_solid n (request_number_small n in_range)
-
-reason_solid : (reason : Reason) → HasNoSpace (reason_text reason)
-reason_solid reason = decimal_solid (reason_code reason) (reason_small reason)
-
-name_bytes_solid : (bytes : List ℕ) → list_all is_name_byte bytes ≡ true → HasNoSpace bytes
-name_bytes_solid [] h = refl
-name_bytes_solid (b ∷ bytes) h = grind (arith, nat_tests, name_bytes_solid bytes)
-
-key_type_solid : (k : KeyType) → HasNoSpace (key_type_text k)
-key_type_solid k = grind arith
+use Rattle.moment_core.specs.Moment.{IsMoment}
+use Rattle.register_requests.specs.Request.{IsDate, IsEdit, IsKeyNumber, IsLineOf, IsItem, StandsFor}
+use Rattle.register_requests.specs.Request.{date_text, edit_text, fields_text, command_text, max_line_length}
+use Rattle.register_requests.specs.Within.Fields.{shape_of}
+use Rattle.register_requests.specs.Within.FieldText.{Writes, IsAny, itself, IsMonths, reason_text, IsOccurrence}
+use Rattle.register_requests.specs.Within.FieldText.{HasNoSpace, AreKeyAndName, key_and_name_text, AreFieldsOf}
+use Rattle.register_requests.specs.Within.FieldText.{after_word, IsRequestText}
+use Rattle.register_requests.proofs.Texts.{IsExact, AreSame, Then, Ends, same_exact, ends, ends_exact, then_both}
+use Rattle.register_requests.proofs.Texts.{then_exact, one_split, split_word}
+use Rattle.register_requests.proofs.Commands.{made, some_made, has_shape, same_command as same_parts}
+use Rattle.register_requests.proofs.FieldTexts.{moments, key_numbers, request_numbers, quorums, months, dates, edits}
+use Rattle.register_requests.proofs.FieldTexts.{occurrences, key_types, reasons, command_kinds, names, purposes}
 
 -- ---- texts, as fields with what stands after them
 
@@ -119,345 +61,362 @@ joined_revoke k r o = simp append_assoc
 joined_named : (k n : List ℕ) → codes " " ++ k ++ codes " " ++ n ≡ spaced (before k n)
 joined_named k n = simp append_assoc
 
+joined_pair : (k n : List ℕ) → k ++ codes " " ++ n ≡ before k n
+joined_pair k n = simp append_assoc
+
+joined_fields : (k n : List ℕ) → codes " " ++ k ++ codes " " ++ n ≡ spaced (k ++ codes " " ++ n)
+joined_fields k n = simp append_assoc
+
 joined_request : (m c n d : List ℕ) → m ++ codes " " ++ c ++ codes " " ++ n ++ codes " " ++ d
     ≡ before m (before c (before n d))
 joined_request m c n d = simp append_assoc
 
--- ---- what stands after a command's word
+-- the text of a value, a space, and after it the text of the rest
+module _ {A B : Type 0} {P : A → Type 0} {text : A → List ℕ} {After : A → List ℕ → B → Type 0} where
+  wrote : (x : A) (rest : List ℕ) {y : B} → P x → After x rest y → Then (Writes P text) After (before (text x) rest) y
+  wrote x rest in_range after =
+      then_both (record { field = text x; is_text = (in_range, refl); split = refl }) after
 
--- what stands after a word, with the space before it
-abbrev after_text : Option (List ℕ) → List ℕ
-after_text None = []
-after_text (Some fields) = spaced fields
+  spelled : (bytes : List ℕ) (y : B) → (is : Then (Writes P text) After bytes y)
+      → bytes ≡ before (text is.first) is.rest
+  spelled bytes y is = is.before.split ∙ ap (λ (field : List ℕ). before field is.rest) is.before.is_text.1
 
--- what is read as fields
-record AreRead (after : Option (List ℕ)) (f : Fields) : Type 0 where
-  in_range : AreFieldsInRange f
-  text : after_text after ≡ fields_text f
+-- ---- the fields of a command
 
--- the fields that are made of what was read
-made_of : {A : Type 0} {read_by : List ℕ → Option A} {text : A → List ℕ} {P : A → Type 0} → IsReader read_by text P
-    → (made : A → Fields) → ((x : A) → P x → AreFieldsInRange (made x))
-    → ((x : A) → fields_text (made x) ≡ spaced (text x)) → (bytes : List ℕ) (f : Fields) → (read_by bytes >>= λ x. Some (made x)) ≡ Some f → AreRead (Some bytes) f
-made_of {A} {read_by} own made in_range text bytes f e = grind arith
+-- what stands after the space after its word
+abbrev AreAfter : Shape → List ℕ → Fields → Type 0
+AreAfter shape bytes fields = AreFieldsOf shape (codes " " ++ bytes) fields
 
-name_solid : (name : List ℕ) → IsName name → HasNoSpace name
-name_solid name in_range = name_bytes_solid name in_range.2
+-- the bytes are those that the text of the fields has after its space
+there_after : (rest fields bytes : List ℕ) → spaced bytes ≡ fields → fields ≡ spaced rest → rest ≡ bytes
+there_after rest fields bytes e f = cc
 
-abbrev Registered : Type 0
-Registered = KeyType × (List ℕ × (Option ℕ × (Option ℕ × (Option ℕ × List ℕ))))
+-- a key's number alone
+abbrev IsKey : List ℕ → Fields → Type 0
+IsKey = Ends (Writes IsKeyNumber decimal) Key
 
-abbrev text_of_registered : Registered → List ℕ
-text_of_registered (kind, (owner, (activation, (protect_stop, (deactivation, purpose))))) =
-    before (key_type_text kind)
-    (before owner
-    (before (date_text activation) (before (date_text protect_stop) (before (date_text deactivation) purpose))))
+key_back : (bytes : List ℕ) (f : Fields) → AreAfter shapes.Key bytes f → IsKey bytes f
+key_back bytes (Key key) is = ends key (is.in_range, cc)
+key_back bytes f is = absurd (let other = is.shape_is in cc)
 
-abbrev AreRegistered : Registered → Type 0
-AreRegistered (kind, (owner, (activation, (protect_stop, (deactivation, purpose))))) =
-    Unit {0} × (IsName owner × (IsDate activation × (IsDate protect_stop × (IsDate deactivation × IsPurpose purpose))))
+pub key_alone : AreSame IsKey (AreAfter shapes.Key)
+key_alone = record { there = λ bytes f is. grind arith; back = key_back }
 
-register_reader : IsReader
-    (field_then key_type_at
-    (λ _. field_then name_at
-    (λ _. field_then date_at (λ _. field_then date_at (λ _. field_then date_at (λ _. purpose_at))))))
-    text_of_registered AreRegistered
-register_reader =
-    then_reader key_type_reader (λ k _. key_type_solid k) (λ _. then_reader name_reader name_solid (λ _.
-    then_reader date_reader date_solid
-    (λ _. then_reader date_reader date_solid (λ _. then_reader date_reader date_solid (λ _. purpose_reader)))))
+-- a key's number and a name
+abbrev IsKeyAndName : List ℕ → ℕ × List ℕ → Type 0
+IsKeyAndName = Then (Writes IsKeyNumber decimal) (λ key. Ends (Writes IsName itself) (λ name. (key, name)))
 
-registered_ranges : (x : Registered) → AreRegistered x → AreFieldsInRange (registered x)
-registered_ranges x in_range = grind arith
+named_back : (bytes : List ℕ) (x : ℕ × List ℕ) → Writes AreKeyAndName key_and_name_text bytes x → IsKeyAndName bytes x
+named_back bytes (key, name) is =
+    subst (λ (b : List ℕ). IsKeyAndName b (key, name)) (sym (is.1 ∙ joined_pair (decimal key) name))
+    (wrote key _ is.0.0 (ends name (is.0.1, refl)))
 
-registered_text : (x : Registered) → fields_text (registered x) ≡ spaced (text_of_registered x)
-registered_text x = grind (arith, joined_register)
+pub key_and_name : AreSame IsKeyAndName (Writes AreKeyAndName key_and_name_text)
+key_and_name = record { there = λ bytes x is. grind (arith, spelled, joined_pair); back = named_back }
 
-register_takes : (bytes : List ℕ) (f : Fields) → register_at bytes ≡ Some f → AreRead (Some bytes) f
-unfolding register_at
-register_takes = made_of register_reader registered registered_ranges registered_text
+-- and as fields
+abbrev IsNamed : (ℕ → List ℕ → Fields) → List ℕ → Fields → Type 0
+IsNamed made = Ends (Writes AreKeyAndName key_and_name_text) (λ x. made x.0 x.1)
 
-register_again : (k : KeyType) (o : List ℕ) (a p d : Option ℕ) (u : List ℕ)
-    → AreFieldsInRange (Registration k o a p d u) → register_at (before (key_type_text k) (before o
-    (before (date_text a) (before (date_text p) (before (date_text d) u))))) ≡ Some (Registration k o a p d u)
-unfolding register_at
-register_again k o a p d u in_range = grind (arith, register_reader.again (k, (o, (a, (p, (d, u))))))
+name_back : (bytes : List ℕ) (f : Fields) → AreAfter shapes.KeyAndName bytes f → IsNamed KeyAndName bytes f
+name_back bytes (KeyAndName key name) is =
+    ends (key, name) (is.in_range, sym (there_after _ _ bytes is.text (joined_fields (decimal key) name)))
+name_back bytes f is = absurd (let other = is.shape_is in cc)
 
-abbrev Edits : Type 0
-Edits = ℕ × (Edit × (Edit × Edit))
+pub names_after : AreSame (IsNamed KeyAndName) (AreAfter shapes.KeyAndName)
+names_after = record { there = λ bytes f is. grind (arith, joined_fields); back = name_back }
 
-edits_reader : IsReader (field_then key_number_at (λ _. field_then edit_at (λ _. field_then edit_at (λ _. edit_at))))
-    (λ (x : Edits). before (decimal x.0) (before (edit_text x.1.0) (before (edit_text x.1.1.0) (edit_text x.1.1.1))))
-    (λ (x : Edits). IsKeyNumber x.0 × (IsEdit x.1.0 × (IsEdit x.1.1.0 × IsEdit x.1.1.1)))
-edits_reader = then_reader key_number_reader key_number_solid
-    (λ _. then_reader edit_reader edit_solid (λ _. then_reader edit_reader edit_solid (λ _. edit_reader)))
+owner_back : (bytes : List ℕ) (f : Fields) → AreAfter shapes.KeyAndOwner bytes f → IsNamed KeyAndOwner bytes f
+owner_back bytes (KeyAndOwner key owner) is =
+    ends (key, owner) (is.in_range, sym (there_after _ _ bytes is.text (joined_fields (decimal key) owner)))
+owner_back bytes f is = absurd (let other = is.shape_is in cc)
 
-edits_take : (bytes : List ℕ) (f : Fields) → edits_at bytes ≡ Some f → AreRead (Some bytes) f
-unfolding edits_at
-edits_take = made_of edits_reader edits (λ x h. (h.0, h.1.0, h.1.1.0, h.1.1.1)) (λ x. grind (arith, joined_edits))
+pub owners_after : AreSame (IsNamed KeyAndOwner) (AreAfter shapes.KeyAndOwner)
+owners_after = record { there = λ bytes f is. grind (arith, joined_fields); back = owner_back }
 
-edits_again : (key : ℕ) (a p d : Edit) → AreFieldsInRange (DateEdits key a p d)
-    → edits_at (before (decimal key) (before (edit_text a) (before (edit_text p) (edit_text d)))) ≡ Some
-    (DateEdits key a p d)
-unfolding edits_at
-edits_again key a p d in_range =
-    cc (edits_reader.again (key, (a, (p, d))) (in_range.0, (in_range.1, (in_range.2, in_range.3))))
+-- a key's number, and how many approvals its destruction needs
+abbrev IsKeyAndNeed : List ℕ → Fields → Type 0
+IsKeyAndNeed = Then (Writes IsKeyNumber decimal) (λ key. Ends (Writes IsQuorum decimal) (KeyAndNeed key))
 
-abbrev Revoked : Type 0
-Revoked = ℕ × (Reason × Option ℕ)
+need_back : (bytes : List ℕ) (f : Fields) → AreAfter shapes.KeyAndNeed bytes f → IsKeyAndNeed bytes f
+need_back bytes (KeyAndNeed key need) is =
+    subst (λ (b : List ℕ). IsKeyAndNeed b (KeyAndNeed key need))
+    (there_after _ _ bytes is.text (joined_named (decimal key) (decimal need)))
+    (wrote key _ is.in_range.0 (ends need (is.in_range.1, refl)))
+need_back bytes f is = absurd (let other = is.shape_is in cc)
 
-revoke_reader : IsReader (field_then key_number_at (λ _. field_then reason_at occurrence_at))
-    (λ (x : Revoked). before (decimal x.0) (before (reason_text x.1.0) (date_text x.1.1)))
-    (λ (x : Revoked). IsKeyNumber x.0 × (Unit {0} × IsOccurrence x.1.0 x.1.1))
-revoke_reader =
-    then_reader key_number_reader key_number_solid
-    (λ _. then_reader reason_reader (λ r _. reason_solid r) occurrence_reader)
+pub key_and_need : AreSame IsKeyAndNeed (AreAfter shapes.KeyAndNeed)
+key_and_need = record { there = λ bytes f is. grind (arith, spelled, joined_named); back = need_back }
 
-revoke_takes : (bytes : List ℕ) (f : Fields) → revoke_at bytes ≡ Some f → AreRead (Some bytes) f
-unfolding revoke_at
-revoke_takes = made_of revoke_reader revoked (λ x h. (h.0, h.1.1.0, h.1.1.1)) (λ x. grind (arith, joined_revoke))
+-- a type, and the months of its period
+abbrev IsTypeAndPeriod : List ℕ → Fields → Type 0
+IsTypeAndPeriod =
+    Then (Writes IsAny key_type_text) (λ kind. Then (Writes (IsMonths 1) decimal) (λ originator.
+    Ends (Writes (IsMonths 0) decimal) (λ recipient. TypeAndPeriod kind (of_months originator recipient))))
 
-revoke_again : (key : ℕ) (r : Reason) (o : Option ℕ) → AreFieldsInRange (Revocation key r o)
-    → revoke_at (before (decimal key) (before (reason_text r) (date_text o))) ≡ Some (Revocation key r o)
-unfolding revoke_at
-revoke_again key r o in_range = cc (revoke_reader.again (key, (r, o)) (in_range.0, (tt, (in_range.1, in_range.2))))
+period_back : (bytes : List ℕ) (f : Fields) → AreAfter shapes.TypeAndPeriod bytes f → IsTypeAndPeriod bytes f
+period_back bytes (TypeAndPeriod kind p) is =
+    let months = is.in_range in
+    subst (λ (b : List ℕ). IsTypeAndPeriod b (TypeAndPeriod kind p))
+    (there_after _ _ bytes is.text
+    (joined_revoke (key_type_text kind) (decimal p.originator) (decimal p.recipient)))
+    (wrote kind _ tt
+    (wrote p.originator _ (months.some, months.originator) (ends p.recipient ((omega arith, months.recipient), refl))))
+period_back bytes f is = absurd (let other = is.shape_is in cc)
 
--- ---- a key's number, alone or with a name
+pub type_and_period : AreSame IsTypeAndPeriod (AreAfter shapes.TypeAndPeriod)
+type_and_period = record { there = λ bytes f is. grind (arith, spelled, joined_revoke); back = period_back }
 
-key_and_name_reader : IsReader key_and_name_at (λ (y : ℕ × List ℕ). before (decimal y.0) y.1)
-    (λ (y : ℕ × List ℕ). IsKeyNumber y.0 × IsName y.1)
-unfolding key_and_name_at
-key_and_name_reader = then_reader key_number_reader key_number_solid (λ _. name_reader)
+-- the fields of a registration
+abbrev IsRegistration : List ℕ → Fields → Type 0
+IsRegistration =
+    Then (Writes IsAny key_type_text) (λ kind. Then (Writes IsName itself) (λ owner.
+    Then (Writes IsDate date_text) (λ activation. Then (Writes IsDate date_text) (λ protect_stop.
+    Then (Writes IsDate date_text) (λ deactivation.
+    Ends (Writes IsPurpose itself) (Registration kind owner activation protect_stop deactivation))))))
 
-keyed_takes : (bytes : List ℕ) (f : Fields) → keyed_at bytes ≡ Some f → AreRead (Some bytes) f
-unfolding keyed_at
-keyed_takes = made_of key_number_reader Key (λ key h. h) (λ key. refl)
+register_back : (bytes : List ℕ) (f : Fields) → AreAfter shapes.Registration bytes f → IsRegistration bytes f
+register_back bytes (Registration k o a p d u) is =
+    let in_range = is.in_range in
+    subst (λ (b : List ℕ). IsRegistration b (Registration k o a p d u))
+    (there_after _ _ bytes is.text
+    (joined_register (key_type_text k) o (date_text a) (date_text p) (date_text d) u))
+    (wrote k _ tt (wrote o _ in_range.0 (wrote a _ in_range.1 (wrote p _ in_range.2 (wrote d _ in_range.3
+    (ends u (in_range.4, refl)))))))
+register_back bytes f is = absurd (let other = is.shape_is in cc)
 
-named_takes : (made : ℕ → List ℕ → Fields)
-    → ((key : ℕ) (name : List ℕ) → IsKeyNumber key × IsName name → AreFieldsInRange (made key name))
-    → ((key : ℕ) (name : List ℕ) → fields_text (made key name) ≡ codes " " ++ decimal key ++ codes " " ++ name)
-    → (bytes : List ℕ) (f : Fields) → named_at made bytes ≡ Some f → AreRead (Some bytes) f
-unfolding named_at
-named_takes made in_range text = grind (arith, key_and_name_reader, joined_named)
+pub registration : AreSame IsRegistration (AreAfter shapes.Registration)
+registration = record { there = λ bytes f is. grind (arith, spelled, joined_register); back = register_back }
 
-key_and_need_reader : IsReader (field_then key_number_at (λ _. quorum_at))
-    (λ (y : ℕ × ℕ). before (decimal y.0) (decimal y.1))
-    (λ (y : ℕ × ℕ). IsKeyNumber y.0 × IsQuorum y.1)
-key_and_need_reader = then_reader key_number_reader key_number_solid (λ _. quorum_reader)
+-- the fields of a change of dates
+abbrev AreEdits : List ℕ → Fields → Type 0
+AreEdits =
+    Then (Writes IsKeyNumber decimal) (λ key. Then (Writes IsEdit edit_text) (λ activation.
+    Then (Writes IsEdit edit_text) (λ protect_stop.
+    Ends (Writes IsEdit edit_text) (DateEdits key activation protect_stop))))
 
-key_and_need_takes : (bytes : List ℕ) (f : Fields) → key_and_need_at bytes ≡ Some f → AreRead (Some bytes) f
-unfolding key_and_need_at
-key_and_need_takes = made_of key_and_need_reader (λ y. KeyAndNeed y.0 y.1) (λ y h. h) (λ y. grind (arith, joined_named))
+edits_back : (bytes : List ℕ) (f : Fields) → AreAfter shapes.DateEdits bytes f → AreEdits bytes f
+edits_back bytes (DateEdits key a p d) is =
+    let in_range = is.in_range in
+    subst (λ (b : List ℕ). AreEdits b (DateEdits key a p d))
+    (there_after _ _ bytes is.text (joined_edits (decimal key) (edit_text a) (edit_text p) (edit_text d)))
+    (wrote key _ in_range.0 (wrote a _ in_range.1 (wrote p _ in_range.2 (ends d (in_range.3, refl)))))
+edits_back bytes f is = absurd (let other = is.shape_is in cc)
 
-key_and_need_again : (key need : ℕ) → AreFieldsInRange (KeyAndNeed key need)
-    → key_and_need_at (before (decimal key) (decimal need)) ≡ Some (KeyAndNeed key need)
-unfolding key_and_need_at
-key_and_need_again key need in_range = rw (key_and_need_reader.again (key, need) in_range) refl
+pub date_edits : AreSame AreEdits (AreAfter shapes.DateEdits)
+date_edits = record { there = λ bytes f is. grind (arith, spelled, joined_edits); back = edits_back }
 
-abbrev Months : Type 0
-Months = KeyType × (ℕ × ℕ)
+-- the fields of a revocation
+abbrev IsRevocation : List ℕ → Fields → Type 0
+IsRevocation =
+    Then (Writes IsKeyNumber decimal) (λ key. Then (Writes IsAny reason_text) (λ reason.
+    Ends (Writes (IsOccurrence reason) date_text) (Revocation key reason)))
 
-type_and_period_reader : IsReader (field_then key_type_at (λ _. field_then originator_at (λ _. recipient_at)))
-    (λ (x : Months). before (key_type_text x.0) (before (decimal x.1.0) (decimal x.1.1)))
-    (λ (x : Months). Unit {0} × (IsMonths 1 x.1.0 × IsMonths 0 x.1.1))
-type_and_period_reader =
-    then_reader key_type_reader (λ k _. key_type_solid k) (λ _.
-    then_reader originator_reader (λ n in_range. decimal_solid n (months_small 1 n in_range)) (λ _. recipient_reader))
+revoke_back : (bytes : List ℕ) (f : Fields) → AreAfter shapes.Revocation bytes f → IsRevocation bytes f
+revoke_back bytes (Revocation key r o) is =
+    let in_range = is.in_range in
+    subst (λ (b : List ℕ). IsRevocation b (Revocation key r o))
+    (there_after _ _ bytes is.text (joined_revoke (decimal key) (reason_text r) (date_text o)))
+    (wrote key _ in_range.0 (wrote r _ tt (ends o ((in_range.1, in_range.2), refl))))
+revoke_back bytes f is = absurd (let other = is.shape_is in cc)
 
-type_and_period_takes : (bytes : List ℕ) (f : Fields) → type_and_period_at bytes ≡ Some f → AreRead (Some bytes) f
-unfolding type_and_period_at
-type_and_period_takes =
-    made_of type_and_period_reader set_period (λ x h. grind arith) (λ x. grind (arith, joined_revoke))
+pub revocation : AreSame IsRevocation (AreAfter shapes.Revocation)
+revocation = record { there = λ bytes f is. grind (arith, spelled, joined_revoke); back = revoke_back }
 
-type_and_period_again : (kind : KeyType) (p : Period) → AreFieldsInRange (TypeAndPeriod kind p)
-    → type_and_period_at (before (key_type_text kind) (before (decimal p.originator) (decimal p.recipient)))
-    ≡ Some (TypeAndPeriod kind p)
-unfolding type_and_period_at
-type_and_period_again kind p in_range =
-    grind (arith, type_and_period_reader.again (kind, (p.originator, p.recipient)))
+-- no space stands after a word that has no fields
+nothing_after : (bytes : List ℕ) (f : Fields) → AreAfter shapes.Nothing bytes f → ⊥
+nothing_after bytes Nothing is = absurd (let other = is.text in cc)
+nothing_after bytes f is = absurd (let other = is.shape_is in cc)
 
-keyed_again : (key : ℕ) → IsKeyNumber key → keyed_at (decimal key) ≡ Some (Key key)
-unfolding keyed_at
-keyed_again key in_range = rw (key_number_reader.again key in_range) refl
+keys_and_names : IsExact (Writes AreKeyAndName key_and_name_text)
+keys_and_names = same_exact key_and_name (then_exact key_numbers (λ _. ends_exact names.exact))
 
-named_again : (made : ℕ → List ℕ → Fields) (key : ℕ) (name : List ℕ) → IsKeyNumber key × IsName name
-    → named_at made (before (decimal key) name) ≡ Some (made key name)
-unfolding named_at
-named_again made key name in_range = rw (key_and_name_reader.again (key, name) (in_range.0, in_range.1)) refl
+-- the texts of each shape, field after field
+shaped : (shape : Shape) → IsExact (AreAfter shape)
+shaped shapes.Nothing = record {
+  one = λ bytes f g p q. absurd (nothing_after bytes f p);
+  has = λ bytes. (None, nothing_after bytes);
+}
+shaped shapes.Key = same_exact key_alone (ends_exact key_numbers.exact)
+shaped shapes.KeyAndName = same_exact names_after (ends_exact keys_and_names)
+shaped shapes.KeyAndOwner = same_exact owners_after (ends_exact keys_and_names)
+shaped shapes.KeyAndNeed = same_exact key_and_need (then_exact key_numbers (λ _. ends_exact quorums.exact))
+shaped shapes.TypeAndPeriod =
+    same_exact type_and_period (then_exact key_types (λ _. then_exact (months 1) (λ _. ends_exact (months 0).exact)))
+shaped shapes.Registration =
+    same_exact registration (then_exact key_types (λ _. then_exact names (λ _. then_exact dates (λ _. then_exact dates
+    (λ _. then_exact dates (λ _. ends_exact purposes))))))
+shaped shapes.DateEdits =
+    same_exact date_edits
+    (then_exact key_numbers (λ _. then_exact edits (λ _. then_exact edits (λ _. ends_exact edits.exact))))
+shaped shapes.Revocation =
+    same_exact revocation (then_exact key_numbers (λ _. then_exact reasons (λ reason. ends_exact (occurrences reason))))
 
--- ---- texts that are read exactly where they are a value's
+-- fields whose text is empty
+only_nothing : (f : Fields) → [] ≡ fields_text f → f ≡ Nothing
+only_nothing Nothing e = refl
+only_nothing f e = absurd cc
 
-module _ {A : Type 0} (read_by : List ℕ → Option A) (IsText : List ℕ → A → Type 0)
-    (takes : (bytes : List ℕ) (x : A) → read_by bytes ≡ Some x → IsText bytes x) (again : (bytes : List ℕ) (x : A)
-    → IsText bytes x → read_by bytes ≡ Some x) where
-  stands_as : (bytes : List ℕ) (o : Option A) → read_by bytes ≡ o → StandsFor IsText bytes o
-  stands_as bytes None e = λ x h. let found = again bytes x h in absurd (cc (e, found))
-  stands_as bytes (Some x) e = takes bytes x e
+fields_one : (shape : Shape) (after : Option (List ℕ)) (f g : Fields) → AreFieldsOf shape (after_word after) f
+    → AreFieldsOf shape (after_word after) g → f ≡ g
+fields_one shape (Some bytes) f g p q = (shaped shape).one bytes f g p q
+fields_one shape None f g p q = only_nothing f p.text ∙ sym (only_nothing g q.text)
 
-  stands_for : (bytes : List ℕ) (o : Option A) → o ≡ read_by bytes → StandsFor IsText bytes o
-  stands_for bytes o e = stands_as bytes o (sym e)
+no_fields : (shape : Shape) → (shape ≡ shapes.Nothing → ⊥) → (f : Fields) → AreFieldsOf shape [] f → ⊥
+no_fields shape other f is = other (sym is.shape_is ∙ ap shape_of (only_nothing f is.text))
 
-  same_value : (bytes : List ℕ) (x y : A) → IsText bytes x → IsText bytes y → x ≡ y
-  same_value bytes x y hx hy = some_is x y (sym (again bytes x hx) ∙ again bytes y hy)
+fields_has : (shape : Shape) (after : Option (List ℕ))
+    → (o : Option Fields) × StandsFor (AreFieldsOf shape) (after_word after) o
+fields_has shape (Some bytes) = (shaped shape).has bytes
+fields_has shapes.Nothing None = (Some Nothing, record { in_range = tt; shape_is = refl; text = refl })
+fields_has shape None = (None, no_fields shape (λ e. cc))
 
--- ---- the word, and the fields of its kind
+-- ---- commands
 
--- a field with a space in it is none
+-- the text of fields stands after a word
+fields_begin : (f : Fields) → (after : Option (List ℕ)) × (after_word after ≡ fields_text f)
+fields_begin Nothing = (None, refl)
+fields_begin f = (Some (drop 1 (fields_text f)), refl)
+
+-- a text with a space in it has one
 no_space_in : (xs rest : List ℕ) → HasNoSpace (before xs rest) → ⊥
 no_space_in [] rest solid = cc
 no_space_in (x ∷ xs) rest solid = no_space_in xs rest (and_parts _ _ solid).1
 
-no_field : (word : List ℕ) → HasNoSpace word → field_at word ≡ None
-no_field word solid =
-    none_from (field_at word) (λ (x : List ℕ × List ℕ) (e : field_at word ≡ Some x).
-    no_space_in x.0 x.1 (subst HasNoSpace (field_takes word x e) solid))
-
-word_takes : (bytes : List ℕ) → bytes ≡ (word_at bytes).0 ++ after_text (word_at bytes).1
-unfolding word_at
-word_takes bytes = grind (arith, field_takes, append-nil)
-
-word_again : (word : List ℕ) (after : Option (List ℕ)) → HasNoSpace word
-    → word_at (word ++ after_text after) ≡ (word, after)
-unfolding word_at
-word_again word after solid = grind (arith, append-nil, no_field, field_again)
+-- so no bytes are two words with what stands after each
+one_after : (a b : Option (List ℕ)) (word other : List ℕ) → HasNoSpace word → HasNoSpace other
+    → word ++ after_word a ≡ other ++ after_word b → (word ≡ other) × (after_word a ≡ after_word b)
+one_after None None word other p q e = (sym (append-nil word) ∙ e ∙ append-nil other, refl)
+one_after None (Some b) word other p q e =
+    absurd (no_space_in other b (subst HasNoSpace (sym (append-nil word) ∙ e) p))
+one_after (Some a) None word other p q e =
+    absurd (no_space_in word a (subst HasNoSpace (sym (append-nil other) ∙ sym e) q))
+one_after (Some a) (Some b) word other p q e =
+    let split = one_split word other a b p q e in (split.0, ap (λ (rest : List ℕ). spaced rest) split.1)
 
 kind_solid : (kind : CommandKind) → HasNoSpace (command_kind_text kind)
-kind_solid kind = grind arith
+kind_solid kind = command_kinds.solid (command_kind_text kind) kind (tt, refl)
 
--- ---- fields
+-- the bytes are a word and what stands after it
+module _ (bytes word : List ℕ) (after : Option (List ℕ)) (solid : HasNoSpace word)
+    (whole : bytes ≡ word ++ after_word after) where
+  -- so the parts of a command that they are the text of are these
+  parts : (q : Command) → IsCommandText bytes q
+      → (word ≡ command_kind_text (kind_of q)) × (after_word after ≡ fields_text (fields_of q))
+  parts q is =
+      let fields = fields_begin (fields_of q) in
+      let split = one_after after fields.0 word (command_kind_text (kind_of q)) solid (kind_solid (kind_of q))
+      (sym whole ∙ is.1 ∙ ap (λ (text : List ℕ). command_kind_text (kind_of q) ++ text) (sym fields.1)) in
+      (split.0, split.1 ∙ fields.1)
 
-shaped_takes : (shape : Shape) (bytes : List ℕ) (f : Fields) → shaped_at shape bytes ≡ Some f → AreRead (Some bytes) f
-shaped_takes shapes.Nothing bytes f e = absurd cc
-shaped_takes shapes.Key bytes f e = keyed_takes bytes f e
-shaped_takes shapes.KeyAndName bytes f e = named_takes KeyAndName (λ key name h. h) (λ key name. refl) bytes f e
-shaped_takes shapes.KeyAndOwner bytes f e = named_takes KeyAndOwner (λ key name h. h) (λ key name. refl) bytes f e
-shaped_takes shapes.KeyAndNeed bytes f e = key_and_need_takes bytes f e
-shaped_takes shapes.TypeAndPeriod bytes f e = type_and_period_takes bytes f e
-shaped_takes shapes.Registration bytes f e = register_takes bytes f e
-shaped_takes shapes.DateEdits bytes f e = edits_take bytes f e
-shaped_takes shapes.Revocation bytes f e = revoke_takes bytes f e
+  pub no_kind : StandsFor (Writes IsAny command_kind_text) word None → StandsFor IsCommandText bytes None
+  no_kind none = λ q is. none (kind_of q) (tt, (parts q is).0)
 
-after_takes : (shape : Shape) (after : Option (List ℕ)) (f : Fields) → after_at shape after ≡ Some f
-    → AreRead after f
-after_takes shape (Some bytes) f e = shaped_takes shape bytes f e
-after_takes shapes.Nothing None f e = grind arith
-after_takes shape None f e = absurd cc
+  pub no_fields_of : (kind : CommandKind) → word ≡ command_kind_text kind
+      → StandsFor (AreFieldsOf (command_shape kind)) (after_word after) None → StandsFor IsCommandText bytes None
+  no_fields_of kind e none = λ q is.
+      let of = parts q is in
+      let same = command_kinds.exact.one word (kind_of q) kind (tt, of.0) (tt, e) in
+      none (fields_of q) (record {
+        in_range = is.0;
+        shape_is = has_shape q ∙ ap command_shape same;
+        text = of.1;
+      })
 
--- what stands after the word of the fields
-abbrev after_of : Fields → Option (List ℕ)
-after_of Nothing = None
-after_of (Key key) = Some (decimal key)
-after_of (KeyAndName key name) = Some (before (decimal key) name)
-after_of (KeyAndOwner key owner) = Some (before (decimal key) owner)
-after_of (KeyAndNeed key need) = Some (before (decimal key) (decimal need))
-after_of (TypeAndPeriod kind p) =
-    Some (before (key_type_text kind) (before (decimal p.originator) (decimal p.recipient)))
-after_of (Registration k o a p d u) = Some (text_of_registered (k, (o, (a, (p, (d, u))))))
-after_of (DateEdits key a p d) = Some (before (decimal key) (before (edit_text a) (before (edit_text p) (edit_text d))))
-after_of (Revocation key r o) = Some (before (decimal key) (before (reason_text r) (date_text o)))
-
-has_text : (f : Fields) → fields_text f ≡ after_text (after_of f)
-has_text f = grind (arith, joined_register, joined_edits, joined_revoke, joined_named)
-
-ruleset keyed_fields_again = (keyed_again, named_again, key_and_need_again, edits_again, revoke_again)
-
-read_again : (f : Fields) → AreFieldsInRange f → after_at (shape_of f) (after_of f) ≡ Some f
-read_again f in_range = grind (arith, keyed_fields_again, type_and_period_again, register_again)
-
--- ---- commands
-
-command_takes : (bytes : List ℕ) (q : Command) → command_at bytes ≡ Some q → IsCommandText bytes q
-unfolding command_at
-command_takes bytes q e =
-    let word = word_at bytes in
-    let kind = bind_some (kind_at word.0) (λ kind. after_at (command_shape kind) word.1 >>= command_with kind) q e in
-    let fields = bind_some (after_at (command_shape kind.0) word.1) (command_with kind.0) q kind.2 in
-    let taken = after_takes (command_shape kind.0) word.1 fields.0 fields.1 in
-    let of = made fields.0 kind.0 q fields.2 in
-    let text = kind_reader.takes word.0 kind.0 kind.1 in
-    (rw of.fields_are taken.in_range, cc (word_takes bytes))
-
-command_again : (q : Command) → IsCommand q → command_at (command_text q) ≡ Some q
-unfolding command_at
-command_again q in_range =
-    grind (arith, has_text, word_again, kind_solid, kind_reader, read_again, has_shape, made_again)
-
-command_read : (bytes : List ℕ) (q : Command) → IsCommandText bytes q → command_at bytes ≡ Some q
-command_read bytes q h = ap command_at h.1 ∙ command_again q h.0
-
-pub is_command_item : (bytes : List ℕ) (o : Option Command) → o ≡ command_at bytes → IsCommandItem bytes o
-is_command_item = stands_for command_at IsCommandText command_takes command_read
+  pub command_made : (kind : CommandKind) → word ≡ command_kind_text kind → (f : Fields)
+      → AreFieldsOf (command_shape kind) (after_word after) f → (o : Option Command) → o ≡ command_with kind f
+      → StandsFor IsCommandText bytes o
+  command_made kind e f is None made_none = absurd (some_made f kind is.shape_is (sym made_none))
+  command_made kind e f is (Some q) made_some =
+      let of = made f kind q (sym made_some) in
+      (rw of.fields_are is.in_range, cc (is.text, whole, of.kind_is, of.fields_are, e))
 
 -- No bytes are the text of two commands.
 pub same_command : (bytes : List ℕ) (p q : Command) → IsCommandText bytes p → IsCommandText bytes q → p ≡ q
-same_command = same_value command_at IsCommandText command_takes command_read
+same_command bytes p q is other =
+    let after = fields_begin (fields_of p) in
+    let whole = is.1 ∙ ap (λ (text : List ℕ). command_kind_text (kind_of p) ++ text) (sym after.1) in
+    let of = parts bytes (command_kind_text (kind_of p)) after.0 (kind_solid (kind_of p)) whole q other in
+    let kind = command_kinds.exact.one (command_kind_text (kind_of p)) (kind_of p) (kind_of q) (tt, refl) (tt, of.0) in
+    let fields = fields_one (command_shape (kind_of p)) after.0 (fields_of p) (fields_of q)
+    (record { in_range = is.0; shape_is = has_shape p; text = after.1 })
+    (record { in_range = other.0; shape_is = has_shape q ∙ ap command_shape (sym kind); text = of.1 }) in
+    same_parts p q kind fields
+
+command_has : (bytes : List ℕ) → (o : Option Command) × StandsFor IsCommandText bytes o
+command_has bytes = by (split_word bytes)
+  where
+    with_kind : (word : List ℕ) (after : Option (List ℕ)) → HasNoSpace word → bytes ≡ word ++ after_word after
+        → (kind : CommandKind) → word ≡ command_kind_text kind
+        → (o : Option Fields) × StandsFor (AreFieldsOf (command_shape kind)) (after_word after) o
+        → (o : Option Command) × StandsFor IsCommandText bytes o
+    with_kind word after solid whole kind e (None, none) = (None, no_fields_of bytes word after solid whole kind e none)
+    with_kind word after solid whole kind e (Some f, is) =
+        (command_with kind f, command_made bytes word after solid whole kind e f is (command_with kind f) refl)
+
+    with_word : (word : List ℕ) (after : Option (List ℕ)) → HasNoSpace word → bytes ≡ word ++ after_word after
+        → (o : Option CommandKind) × StandsFor (Writes IsAny command_kind_text) word o
+        → (o : Option Command) × StandsFor IsCommandText bytes o
+    with_word word after solid whole (None, none) = (None, no_kind bytes word after solid whole none)
+    with_word word after solid whole (Some kind, is) =
+        with_kind word after solid whole kind is.1 (fields_has (command_shape kind) after)
+
+    by : (word : List ℕ) × (after : Option (List ℕ)) × HasNoSpace word × (bytes ≡ word ++ after_word after)
+        → (o : Option Command) × StandsFor IsCommandText bytes o
+    by split = with_word split.0 split.1 split.2 split.3 (command_kinds.exact.has split.0)
+
+commands : IsExact IsCommandText
+commands = record { one = same_command; has = command_has }
 
 -- ---- lines
 
-abbrev Requested : Type 0
-Requested = ℕ × (List ℕ × (ℕ × Command))
+abbrev request_by : ℕ → List ℕ → ℕ → Command → Request
+request_by moment caller number command =
+    record { moment = moment; caller = caller; number = number; command = command }
 
-command_reader : IsReader command_at command_text IsCommand
-command_reader = record { takes = command_takes; again = command_again }
+-- the fields of a line
+abbrev IsRequested : List ℕ → Request → Type 0
+IsRequested =
+    Then (Writes IsMoment decimal) (λ moment. Then (Writes IsName itself) (λ caller.
+    Then (Writes IsNumber decimal) (λ number. Ends IsCommandText (request_by moment caller number))))
 
-abbrev text_of_requested : Requested → List ℕ
-text_of_requested (moment, (caller, (number, command))) = before (decimal moment)
-    (before caller (before (decimal number) (command_text command)))
+request_back : (bytes : List ℕ) (q : Request) → IsRequestText bytes q → IsRequested bytes q
+request_back bytes q is =
+    let in_range = is.request in
+    let same = is.text ∙ joined_request (decimal q.moment) q.caller (decimal q.number) (command_text q.command) in
+    subst (λ (b : List ℕ). IsRequested b q) (sym same)
+    (wrote q.moment _ in_range.moment (wrote q.caller _ in_range.caller (wrote q.number _ in_range.number
+    (ends q.command (in_range.command, refl)))))
 
-abbrev AreRequested : Requested → Type 0
-AreRequested (moment, (caller, (number, command))) = IsMoment moment
-    × (IsName caller × (IsNumber number × IsCommand command))
+pub request : AreSame IsRequested IsRequestText
+request = record { there = λ bytes q is. grind (arith, spelled, joined_request); back = request_back }
 
-fields_reader : IsReader
-    (field_then moment_at (λ _. field_then name_at (λ _. field_then request_number_at (λ _. command_at))))
-    text_of_requested AreRequested
-fields_reader =
-    then_reader moment_reader moment_solid
-    (λ _. then_reader name_reader name_solid
-    (λ _. then_reader request_number_reader request_number_solid (λ _. command_reader)))
+requests : IsExact IsRequestText
+requests =
+    same_exact request
+    (then_exact moments (λ _. then_exact names (λ _. then_exact request_numbers (λ _. ends_exact commands))))
 
--- what is read as the fields of a line
-record IsFieldsOf (line : List ℕ) (q : Request) : Type 0 where
-  in_range : IsRequest q
-  text : line ≡ request_text q
+-- a line that is not too long stands for the request whose text it is
+pub within_stands : (line : List ℕ) → length line ≤ max_line_length → (o : Option Request)
+    → StandsFor IsRequestText line o → IsItem line o
+within_stands line within None none = λ q is. none q (record { request = is.request; text = is.text })
+within_stands line within (Some q) is = record { request = is.request; within = within; text = is.text }
 
-requested_fields : (line : List ℕ) (x : Requested) → AreRequested x → line ≡ text_of_requested x
-    → IsFieldsOf line (requested x)
-requested_fields line x in_range text = grind (arith, common_steps)
-
-fields_takes : (line : List ℕ) (q : Request) → fields_at line ≡ Some q → IsFieldsOf line q
-unfolding fields_at
-fields_takes line q e =
-    let x = bind_some
-    (field_then moment_at (λ _. field_then name_at (λ _. field_then request_number_at (λ _. command_at))) line)
-    (λ x. Some (requested x)) q e in
-    let taken = fields_reader.takes line x.0 x.1 in
-    subst (IsFieldsOf line) (some_is (requested x.0) q x.2) (requested_fields line x.0 taken.0 taken.1)
-
-fields_again : (q : Request) → IsRequest q → fields_at (request_text q) ≡ Some q
-unfolding fields_at
-fields_again q in_range =
-    grind (arith, joined_request, fields_reader.again (q.moment, (q.caller, (q.number, q.command))))
-
-guard_none : (b : Bool) (o : Option Request) (q : Request) → cond b None o ≡ Some q → (b ≡ false) × (o ≡ Some q)
-guard_none b o q e = grind arith
-
--- What is read is the request whose line it is.
-pub request_takes : (line : List ℕ) (q : Request) → request_at line ≡ Some q → IsLineOf line q
-unfolding request_at
-request_takes line q e =
-    let g = guard_none (nat_lt max_line_length (length line)) (fields_at line) q e in
-    let taken = fields_takes line q g.1 in
-    record { request = taken.in_range; within = ltb-false max_line_length (length line) g.0; text = taken.text }
-
--- Each line of a request is read.
-pub request_again : (line : List ℕ) (q : Request) → IsLineOf line q → request_at line ≡ Some q
-unfolding request_at
-request_again line q h = grind (arith, fields_again)
-
-pub is_item : (line : List ℕ) (o : Option Request) → o ≡ request_at line → IsItem line o
-is_item = stands_for request_at IsLineOf request_takes request_again
+-- Each line stands for an item.
+pub item_has : (line : List ℕ) → (o : Option Request) × IsItem line o
+item_has line = by (nat_le (length line) max_line_length) refl (requests.has line)
+  where
+    by : (check : Bool) → nat_le (length line) max_line_length ≡ check
+        → (o : Option Request) × StandsFor IsRequestText line o → (o : Option Request) × IsItem line o
+    by true e found = (found.0, within_stands line (leb-true _ _ e) found.0 found.1)
+    by false e found = (
+      None,
+      λ q is. let long = leb-false (length line) max_line_length e in
+          absurd (omega (arith, long, is.within)),
+    )
 
 -- No bytes are the line of two requests.
 pub same_request : (line : List ℕ) (p q : Request) → IsLineOf line p → IsLineOf line q → p ≡ q
-same_request = same_value request_at IsLineOf request_takes request_again
+same_request line p q is other =
+    requests.one line p q (record { request = is.request; text = is.text })
+    (record { request = other.request; text = other.text })

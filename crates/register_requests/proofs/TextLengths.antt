@@ -9,8 +9,8 @@ use Rattle.register_requests.specs.declared.command_fields.Fields.TheVariants.{R
 use Rattle.register_requests.specs.declared.request.Command.{Command}
 use Rattle.register_requests.specs.declared.request.Edit.{Edit}
 use Rattle.register_requests.specs.CommandText.{max_command_length}
-use Rattle.register_requests.specs.Request.{AreFieldsInRange, IsCommand, IsDate, IsEdit, IsKeyNumber, command_text, date_text}
-use Rattle.register_requests.specs.Request.{edit_text, fields_text}
+use Rattle.register_requests.specs.Request.{AreFieldsInRange, IsCommand, IsDate, IsEdit, IsKeyNumber}
+use Rattle.register_requests.specs.Request.{command_text, date_text, edit_text, fields_text}
 
 moment_short : (t : ℕ) → IsMoment t → length (decimal t) ≤ 12
 moment_short t is = length-decimal-le 12 t (omega arith) (omega (arith, is)) (omega (arith, is))

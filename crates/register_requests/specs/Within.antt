@@ -2,4 +2,4 @@
 pub mod Text
 pub mod Fields
 pub mod Subject
-pub mod RequestLine
+pub mod FieldText

@@ -1,27 +1,23 @@
 //! Reads the fields of a line, which are what stands between its spaces, and the command at its
 //! end.
-ghost use Rattle.std.specs.Prelude.{◌≡◌, ◌≢◌, ℕ, ◌<◌, ◌≤◌, ◌^◌, ◌↔◌, ◌⊎◌, decimal, option_map};
-ghost use Rattle.std.specs.Prelude.{length, position, IsSome, IfSome, IfNone};
+ghost use Rattle.std.specs.Prelude.{◌≡◌, ◌≢◌, ℕ, ◌<◌, ◌≤◌, ◌^◌, ◌++◌, ◌↔◌, ◌⊎◌, codes, decimal};
+ghost use Rattle.std.specs.Prelude.{option_map, length, position, IsSome, IfSome, IfNone};
+ghost use Rattle.moment_core.specs.Moment.{IsMoment};
 ghost use Rattle.lifecycle_core.specs.Reason.{reason_code};
-ghost use Rattle.register_requests.specs.Request.{IsKeyNumber};
-ghost use Rattle.register_requests.specs.Within.RequestLine.{Gives, is_space, field_at, field_as};
-ghost use Rattle.register_requests.specs.Within.RequestLine.{moment_at};
-ghost use Rattle.register_requests.specs.Within.RequestLine.{key_number_at, request_number_at};
-ghost use Rattle.register_requests.specs.Within.RequestLine.{date_at, edit_at, reason_at};
-ghost use Rattle.register_requests.specs.Within.RequestLine.{occurrence_at, name_at};
-ghost use Rattle.register_requests.specs.Within.RequestLine.{key_type_at, kind_at, purpose_at};
-ghost use Rattle.register_requests.specs.Within.RequestLine.{quorum_at};
-ghost use Rattle.register_requests.specs.Within.RequestLine.{originator_at, recipient_at};
-ghost use Rattle.register_requests.specs.Within.RequestLine.{register_at};
-ghost use Rattle.register_requests.specs.Within.RequestLine.{edits_at, revoke_at, key_and_name_at};
-ghost use Rattle.register_requests.specs.Within.RequestLine.{word_at};
-ghost use Rattle.register_requests.specs.Within.RequestLine.{key_and_need_at, shaped_at, after_at};
-ghost use Rattle.register_requests.specs.Within.RequestLine.{command_at};
-ghost use Rattle.register_requests.specs.Within.RequestLine.{type_and_period_at};
+ghost use Rattle.period_core.specs.KeyType.{key_type_text};
+ghost use Rattle.period_core.specs.Period.{max_months};
 ghost use Rattle.register_requests.specs.CommandText.{IsCommandItem};
+ghost use Rattle.register_requests.specs.Name.{IsName};
 ghost use Rattle.register_requests.specs.Number.{IsNumber};
 ghost use Rattle.register_requests.specs.Quorum.{IsQuorum};
-ghost use Rattle.period_core.specs.Period.{max_months};
+ghost use Rattle.register_requests.specs.Request.{IsDate, IsEdit, IsKeyNumber, StandsFor};
+ghost use Rattle.register_requests.specs.Request.{date_text, edit_text};
+ghost use Rattle.register_requests.specs.Within.FieldText.{Writes, IsAny, itself, IsMonths};
+ghost use Rattle.register_requests.specs.Within.FieldText.{IsOccurrence, reason_text};
+ghost use Rattle.register_requests.specs.Within.FieldText.{is_space, HasNoSpace, Before};
+ghost use Rattle.register_requests.specs.Within.FieldText.{AreKeyAndName, key_and_name_text};
+ghost use Rattle.register_requests.specs.Within.FieldText.{AreFieldsOf, after_word};
+ghost use Rattle.register_requests.specs.declared.command_fields.Shape.TheVariants as shapes;
 
 use crate::command_fields::{CommandKind, Fields, Shape};
 use crate::request::{Command, Edit};
@@ -41,9 +37,8 @@ fn first_space(bytes: &[u8]) -> Option<usize>
 }
 
 /// The field before the first space, and what stands after that space.
-#[tactic(auto, unfolding(crate::specs::Within::RequestLine::field_at))]
 fn split_first_field(bytes: &[u8]) -> Option<(&[u8], &[u8])>
-    ensures { Gives (λ x. (x.0.now, x.1.now)) result (field_at bytes.now) }
+    ensures { StandsFor (Before (Writes HasNoSpace itself)) bytes.now (option_map (λ x. (x.0.now, x.1.now)) result) }
 {
     let end = first_space(bytes)?;
     Some((&bytes[..end], &bytes[end + 1..]))
@@ -51,7 +46,8 @@ fn split_first_field(bytes: &[u8]) -> Option<(&[u8], &[u8])>
 
 /// Takes the field before the first space, and leaves what stands after that space.
 fn take_field_before_space<'a>(rest: &mut &'a [u8]) -> Option<&'a [u8]>
-    ensures { Gives (λ field. (field.now, rest.new.now)) result (field_at rest.old.now) }
+    ensures { StandsFor (Before (Writes HasNoSpace itself)) rest.old.now
+        (option_map (λ field. (field.now, rest.new.now)) result) }
 {
     let (field, after) = split_first_field(rest)?;
     *rest = after;
@@ -81,22 +77,22 @@ pub fn read_decimal(field: &[u8]) -> Option<u64>
 
 /// The moment that the field writes.
 fn moment_of_decimal_seconds(field: &[u8]) -> Option<Moment>
-    ensures { result ≡ moment_at field.now }
+    ensures { StandsFor (Writes IsMoment decimal) field.now result }
 {
     Moment::new(read_decimal(field)?)
 }
 
 /// Takes the moment before the first space, and leaves what stands after that space.
 pub(crate) fn take_moment_before_space(rest: &mut &[u8]) -> Option<Moment>
-    ensures { Gives (λ moment. (moment, rest.new.now)) result (field_as moment_at rest.old.now) }
+    ensures { StandsFor (Before (Writes IsMoment decimal)) rest.old.now
+        (option_map (λ moment. (moment, rest.new.now)) result) }
 {
     moment_of_decimal_seconds(take_field_before_space(rest)?)
 }
 
 /// The date that the field writes, `-` for none.
-#[tactic(auto, unfolding(crate::specs::Within::RequestLine::date_at))]
 fn date_of(field: &[u8]) -> Option<Option<Moment>>
-    ensures { result ≡ date_at field.now }
+    ensures { StandsFor (Writes IsDate date_text) field.now result }
 {
     if field == b"-".as_slice() {
         return Some(None);
@@ -107,16 +103,16 @@ fn date_of(field: &[u8]) -> Option<Option<Moment>>
 
 /// Takes the date before the first space, and leaves what stands after that space.
 fn take_date_before_space(rest: &mut &[u8]) -> Option<Option<Moment>>
-    ensures { Gives (λ date. (date, rest.new.now)) result (field_as date_at rest.old.now) }
+    ensures { StandsFor (Before (Writes IsDate date_text)) rest.old.now
+        (option_map (λ date. (date, rest.new.now)) result) }
 {
     date_of(take_field_before_space(rest)?)
 }
 
 /// What the field says of a date: `=` that it stays, `-` that it is unset, or the moment to set it
 /// to.
-#[tactic(auto, unfolding(crate::specs::Within::RequestLine::edit_at))]
 fn edit_of(field: &[u8]) -> Option<Edit>
-    ensures { result ≡ edit_at field.now }
+    ensures { StandsFor (Writes IsEdit edit_text) field.now result }
 {
     if field == b"=".as_slice() {
         return Some(Edit::Keep);
@@ -130,7 +126,8 @@ fn edit_of(field: &[u8]) -> Option<Edit>
 
 /// Takes what is said of a date before the first space, and leaves what stands after that space.
 fn take_edit_before_space(rest: &mut &[u8]) -> Option<Edit>
-    ensures { Gives (λ edit. (edit, rest.new.now)) result (field_as edit_at rest.old.now) }
+    ensures { StandsFor (Before (Writes IsEdit edit_text)) rest.old.now
+        (option_map (λ edit. (edit, rest.new.now)) result) }
 {
     edit_of(take_field_before_space(rest)?)
 }
@@ -146,27 +143,21 @@ fn key_number_in_range(number: u64) -> Option<u32>
     u32::try_from(number).ok()
 }
 
-/// The number of a key that the field writes.
-fn key_number_of(field: &[u8]) -> Option<u32>
-    ensures { result ≡ key_number_at field.now }
-{
-    key_number_in_range(read_decimal(field)?)
-}
-
 /// The number of a key that the field writes in decimal, from 1 to 2^32 - 1, or `None` where it
 /// writes none.
 pub fn read_key_number(field: &[u8]) -> Option<u32>
     ensures found { IfSome result (λ n. IsKeyNumber n × (field.now ≡ decimal n)) }
     ensures none { IfNone result ((n : ℕ) → IsKeyNumber n → field.now ≢ decimal n) }
 {
-    key_number_of(field)
+    key_number_in_range(read_decimal(field)?)
 }
 
 /// Takes the key's number before the first space, and leaves what stands after that space.
 fn take_key_number_before_space(rest: &mut &[u8]) -> Option<u32>
-    ensures { Gives (λ key. (key, rest.new.now)) result (field_as key_number_at rest.old.now) }
+    ensures { StandsFor (Before (Writes IsKeyNumber decimal)) rest.old.now
+        (option_map (λ key. (key, rest.new.now)) result) }
 {
-    key_number_of(take_field_before_space(rest)?)
+    read_key_number(take_field_before_space(rest)?)
 }
 
 /// The reason with this code, or `None` where no reason has it.
@@ -180,22 +171,22 @@ fn reason_with_code(number: u64) -> Option<Reason>
 
 /// The reason whose code the field writes.
 fn reason_of(field: &[u8]) -> Option<Reason>
-    ensures { result ≡ reason_at field.now }
+    ensures { StandsFor (Writes IsAny reason_text) field.now result }
 {
     reason_with_code(read_decimal(field)?)
 }
 
 /// Takes the code of a reason before the first space, and leaves what stands after that space.
 fn take_reason_before_space(rest: &mut &[u8]) -> Option<Reason>
-    ensures { Gives (λ reason. (reason, rest.new.now)) result (field_as reason_at rest.old.now) }
+    ensures { StandsFor (Before (Writes IsAny reason_text)) rest.old.now
+        (option_map (λ reason. (reason, rest.new.now)) result) }
 {
     reason_of(take_field_before_space(rest)?)
 }
 
 /// The occurrence that the field writes: a date with a compromise, else `-` alone.
-#[tactic(auto, unfolding(crate::specs::Within::RequestLine::occurrence_at))]
 fn occurrence_of(reason: Reason, field: &[u8]) -> Option<Option<Moment>>
-    ensures { result ≡ occurrence_at reason field.now }
+    ensures { StandsFor (Writes (IsOccurrence reason) date_text) field.now result }
 {
     if reason.is_compromise() {
         return date_of(field);
@@ -207,27 +198,20 @@ fn occurrence_of(reason: Reason, field: &[u8]) -> Option<Option<Moment>>
     }
 }
 
-/// The request's number that the field writes.
-fn request_number_of(field: &[u8]) -> Option<RequestNumber>
-    ensures { result ≡ request_number_at field.now }
-{
-    RequestNumber::new(read_decimal(field)?)
-}
-
 /// The request's number that the field writes in decimal, or `None` where it writes none.
 pub fn read_request_number(field: &[u8]) -> Option<RequestNumber>
     ensures found { IfSome result (λ n. IsNumber n × (field.now ≡ decimal n)) }
     ensures none { IfNone result ((n : ℕ) → IsNumber n → field.now ≢ decimal n) }
 {
-    request_number_of(field)
+    RequestNumber::new(read_decimal(field)?)
 }
 
 /// Takes the request's number before the first space, and leaves what stands after that space.
 pub(crate) fn take_request_number_before_space(rest: &mut &[u8]) -> Option<RequestNumber>
-    ensures { Gives (λ number. (number, rest.new.now)) result
-        (field_as request_number_at rest.old.now) }
+    ensures { StandsFor (Before (Writes IsNumber decimal)) rest.old.now
+        (option_map (λ number. (number, rest.new.now)) result) }
 {
-    request_number_of(take_field_before_space(rest)?)
+    read_request_number(take_field_before_space(rest)?)
 }
 
 /// So many approvals, or `None` out of the range.
@@ -240,7 +224,7 @@ fn quorum_in_range(number: u64) -> Option<Quorum>
 
 /// How many approvals the field writes that a destruction needs.
 fn quorum_of(field: &[u8]) -> Option<Quorum>
-    ensures { result ≡ quorum_at field.now }
+    ensures { StandsFor (Writes IsQuorum decimal) field.now result }
 {
     quorum_in_range(read_decimal(field)?)
 }
@@ -256,7 +240,7 @@ fn months_in_range(least: u16, number: u64) -> Option<u16>
 
 /// How many months of originator use the field writes.
 fn originator_months_of(field: &[u8]) -> Option<u16>
-    ensures { result ≡ originator_at field.now }
+    ensures { StandsFor (Writes (IsMonths 1) decimal) field.now result }
 {
     months_in_range(1, read_decimal(field)?)
 }
@@ -264,65 +248,38 @@ fn originator_months_of(field: &[u8]) -> Option<u16>
 /// Takes the months of originator use before the first space, and leaves what stands after that
 /// space.
 fn take_originator_months_before_space(rest: &mut &[u8]) -> Option<u16>
-    ensures { Gives (λ months. (months, rest.new.now)) result
-        (field_as originator_at rest.old.now) }
+    ensures { StandsFor (Before (Writes (IsMonths 1) decimal)) rest.old.now
+        (option_map (λ months. (months, rest.new.now)) result) }
 {
     originator_months_of(take_field_before_space(rest)?)
 }
 
 /// How many months of recipient use the field writes.
 fn recipient_months_of(field: &[u8]) -> Option<u16>
-    ensures { result ≡ recipient_at field.now }
+    ensures { StandsFor (Writes (IsMonths 0) decimal) field.now result }
 {
     months_in_range(0, read_decimal(field)?)
 }
 
-/// The name that the field is.
-fn name_of(field: &[u8]) -> Option<Name>
-    ensures { result ≡ name_at field.now }
-{
-    Name::new(field)
-}
-
 /// Takes the name before the first space, and leaves what stands after that space.
 pub(crate) fn take_name_before_space(rest: &mut &[u8]) -> Option<Name>
-    ensures { Gives (λ name. (name, rest.new.now)) result (field_as name_at rest.old.now) }
+    ensures { StandsFor (Before (Writes IsName itself)) rest.old.now
+        (option_map (λ name. (name, rest.new.now)) result) }
 {
-    name_of(take_field_before_space(rest)?)
-}
-
-/// The type whose text the field is.
-fn key_type_of(field: &[u8]) -> Option<KeyType>
-    ensures { result ≡ key_type_at field.now }
-{
-    KeyType::from_text(field)
+    Name::new(take_field_before_space(rest)?)
 }
 
 /// Takes the type before the first space, and leaves what stands after that space.
 fn take_key_type_before_space(rest: &mut &[u8]) -> Option<KeyType>
-    ensures { Gives (λ kind. (kind, rest.new.now)) result (field_as key_type_at rest.old.now) }
+    ensures { StandsFor (Before (Writes IsAny key_type_text)) rest.old.now
+        (option_map (λ kind. (kind, rest.new.now)) result) }
 {
-    key_type_of(take_field_before_space(rest)?)
-}
-
-/// The kind of command whose word the field is.
-fn command_kind_of(field: &[u8]) -> Option<CommandKind>
-    ensures { result ≡ kind_at field.now }
-{
-    CommandKind::from_text(field)
-}
-
-/// The purpose that the bytes are.
-fn purpose_of(bytes: &[u8]) -> Option<Purpose>
-    ensures { result ≡ purpose_at bytes.now }
-{
-    Purpose::new(bytes)
+    KeyType::from_text(take_field_before_space(rest)?)
 }
 
 /// The fields of a registration.
-#[tactic(auto, unfolding(crate::specs::Within::RequestLine::register_at))]
 fn registration_fields_of(bytes: &[u8]) -> Option<Fields>
-    ensures { result ≡ register_at bytes.now }
+    ensures { StandsFor (AreFieldsOf shapes.Registration) (codes " " ++ bytes.now) result }
 {
     let mut rest = bytes;
     Some(Fields::Registration {
@@ -331,25 +288,23 @@ fn registration_fields_of(bytes: &[u8]) -> Option<Fields>
         activation: take_date_before_space(&mut rest)?,
         protect_stop: take_date_before_space(&mut rest)?,
         deactivation: take_date_before_space(&mut rest)?,
-        purpose: purpose_of(rest)?,
+        purpose: Purpose::new(rest)?,
     })
 }
 
 /// The number of a key, and the name after it.
-#[tactic(auto, unfolding(crate::specs::Within::RequestLine::key_and_name_at))]
 fn key_and_name_of(bytes: &[u8]) -> Option<(u32, Name)>
-    ensures { result ≡ key_and_name_at bytes.now }
+    ensures { StandsFor (Writes AreKeyAndName key_and_name_text) bytes.now result }
 {
     let mut rest = bytes;
     let key = take_key_number_before_space(&mut rest)?;
-    let name = name_of(rest)?;
+    let name = Name::new(rest)?;
     Some((key, name))
 }
 
 /// The number of a key, and after it how many approvals its destruction needs.
-#[tactic(auto, unfolding(crate::specs::Within::RequestLine::key_and_need_at))]
 fn key_and_need_fields_of(bytes: &[u8]) -> Option<Fields>
-    ensures { result ≡ key_and_need_at bytes.now }
+    ensures { StandsFor (AreFieldsOf shapes.KeyAndNeed) (codes " " ++ bytes.now) result }
 {
     let mut rest = bytes;
     let key = take_key_number_before_space(&mut rest)?;
@@ -358,9 +313,8 @@ fn key_and_need_fields_of(bytes: &[u8]) -> Option<Fields>
 }
 
 /// A type, and after it the months of its period.
-#[tactic(auto, unfolding(crate::specs::Within::RequestLine::type_and_period_at))]
 fn type_and_period_fields_of(bytes: &[u8]) -> Option<Fields>
-    ensures { result ≡ type_and_period_at bytes.now }
+    ensures { StandsFor (AreFieldsOf shapes.TypeAndPeriod) (codes " " ++ bytes.now) result }
 {
     let mut rest = bytes;
     let kind = take_key_type_before_space(&mut rest)?;
@@ -371,9 +325,8 @@ fn type_and_period_fields_of(bytes: &[u8]) -> Option<Fields>
 }
 
 /// The fields of a change of dates.
-#[tactic(auto, unfolding(crate::specs::Within::RequestLine::edits_at))]
 fn date_edit_fields_of(bytes: &[u8]) -> Option<Fields>
-    ensures { result ≡ edits_at bytes.now }
+    ensures { StandsFor (AreFieldsOf shapes.DateEdits) (codes " " ++ bytes.now) result }
 {
     let mut rest = bytes;
     Some(Fields::DateEdits {
@@ -385,9 +338,8 @@ fn date_edit_fields_of(bytes: &[u8]) -> Option<Fields>
 }
 
 /// The fields of a revocation.
-#[tactic(auto, unfolding(crate::specs::Within::RequestLine::revoke_at))]
 fn revocation_fields_of(bytes: &[u8]) -> Option<Fields>
-    ensures { result ≡ revoke_at bytes.now }
+    ensures { StandsFor (AreFieldsOf shapes.Revocation) (codes " " ++ bytes.now) result }
 {
     let mut rest = bytes;
     let key = take_key_number_before_space(&mut rest)?;
@@ -401,13 +353,12 @@ fn revocation_fields_of(bytes: &[u8]) -> Option<Fields>
 }
 
 /// The fields of this shape, which stand after the space after a word.
-#[tactic(auto, unfolding(crate::specs::Within::RequestLine::keyed_at, crate::specs::Within::RequestLine::named_at))]
 fn fields_of_shape(shape: Shape, bytes: &[u8]) -> Option<Fields>
-    ensures { result ≡ shaped_at shape bytes.now }
+    ensures { StandsFor (AreFieldsOf shape) (codes " " ++ bytes.now) result }
 {
     match shape {
         Shape::Nothing => None,
-        Shape::Key => key_number_of(bytes).map(|key| Fields::Key { key }),
+        Shape::Key => read_key_number(bytes).map(|key| Fields::Key { key }),
         Shape::KeyAndName => {
             let (key, name) = key_and_name_of(bytes)?;
             Some(Fields::KeyAndName { key, name })
@@ -426,7 +377,8 @@ fn fields_of_shape(shape: Shape, bytes: &[u8]) -> Option<Fields>
 
 /// The fields of this shape after a word, which has a space after it or stands alone.
 fn fields_after_word(shape: Shape, after: Option<&[u8]>) -> Option<Fields>
-    ensures { result ≡ after_at shape (option_map (λ bytes. bytes.now) after.entry) }
+    ensures { StandsFor (AreFieldsOf shape)
+        (after_word (option_map (λ bytes. bytes.now) after.entry)) result }
 {
     match (after, shape) {
         (Some(bytes), _) => fields_of_shape(shape, bytes),
@@ -436,10 +388,10 @@ fn fields_after_word(shape: Shape, after: Option<&[u8]>) -> Option<Fields>
 }
 
 /// The word at the start, and what stands after its space where it has one.
-#[tactic(auto, unfolding(crate::specs::Within::RequestLine::word_at))]
 fn split_command_word(bytes: &[u8]) -> (&[u8], Option<&[u8]>)
-    ensures word { result.0.now ≡ (word_at bytes.now).0 }
-    ensures after { option_map (λ fields. fields.now) result.1 ≡ (word_at bytes.now).1 }
+    ensures word { HasNoSpace result.0.now }
+    ensures whole { bytes.now ≡ result.0.now
+        ++ after_word (option_map (λ fields. fields.now) result.1) }
 {
     match split_first_field(bytes) {
         Some((word, fields)) => (word, Some(fields)),
@@ -447,23 +399,15 @@ fn split_command_word(bytes: &[u8]) -> (&[u8], Option<&[u8]>)
     }
 }
 
-/// The command, all of the bytes.
-#[tactic(auto, unfolding(crate::specs::Within::RequestLine::command_at))]
-pub(crate) fn command_of(bytes: &[u8]) -> Option<Command>
-    ensures { result ≡ command_at bytes.now }
+/// The command whose text the bytes are, or `None` where they are the text of no command.
+pub fn read_command(bytes: &[u8]) -> Option<Command>
+    ensures { IsCommandItem bytes.now result }
 {
     let (word, after) = split_command_word(bytes);
-    let kind = command_kind_of(word)?;
+    let kind = CommandKind::from_text(word)?;
     // By reference: the checker makes no proof of a `?` on fields that are held by value.
     match &fields_after_word(kind.shape(), after) {
         Some(fields) => Command::with_fields(kind, fields),
         None => None,
     }
-}
-
-/// The command whose text the bytes are, or `None` where they are the text of no command.
-pub fn read_command(bytes: &[u8]) -> Option<Command>
-    ensures { IsCommandItem bytes.now result }
-{
-    command_of(bytes)
 }

@@ -1,5 +1,6 @@
-use Rattle.register_requests.proofs.Lines.{is_item}
+use Rattle.std.proofs.Common.{arith}
+use Rattle.register_requests.proofs.Lines.{within_stands}
 use Rattle.register_requests.proofs.request_line.read_request.Goals as goal
 
 pub returns : goal.returns
-returns c = is_item c.args.line.now c.request_of.result c.request_of.ensures
+returns c = within_stands c.args.line.now (omega arith) c.request_of_any_length.result c.request_of_any_length.ensures
