@@ -38,10 +38,10 @@ use Rattle.sqlite_value.specs.declared.keys.Collation.{Collation}
 use Rattle.register_store.specs.declared.table.TableName.{TableName}
 use Rattle.register_requests.specs.declared.version.Version.{Version}
 use Rattle.register_requests.specs.Version.{current}
-use Rattle.register_store.specs.Tables.{Layout, AreApart, AreApartBelow, AreApartIn, Tables, all_tables, place_of}
+use Rattle.register_store.specs.Tables.{Layout, AreApartIn, Tables, all_tables, place_of}
 use Rattle.register_store.specs.Tables.{table_count, table_of}
 use Rattle.register_store.specs.Schema.{Holds, HoldsIn, schema_in, schema_with}
-use Rattle.register_store.proofs.EachTable.{each, in_version, low_in_version, placed_low, same_place}
+use Rattle.register_store.proofs.EachTable.{AreApart, each, in_version, low_in_version, placed_low, same_place}
 
 -- ---- one table
 
@@ -145,7 +145,7 @@ module _ (s : Schema) (table : Table) (has : table_classes s [] table.tree ≡ S
 
 -- two tables of a version have two trees, and each is one that a file can have
 pub record IsPlacedIn (version : Version) (l : Layout) : Type 0 where
-  pub apart : AreApartBelow (table_count version) l
+  pub apart : AreApartIn version l
   pub low : (name : TableName) → place_of name < table_count version → l.tree name < 65536
 
 abbrev pub IsPlaced : Layout → Type 0
@@ -159,9 +159,6 @@ low_in (r ∷ rows) [] all t h = absurd all
 low_in (r ∷ rows) (s ∷ tables) all t (inl same) = subst (λ (x : Table). x.tree < 65536) (sym same) all.0.described.low
 low_in (r ∷ rows) (s ∷ tables) all t (inr later) = low_in rows tables all.1 t later
 
-apart_below : (version : Version) (l : Layout) → AreApartIn version l → AreApartBelow (table_count version) l
-apart_below version l apart = search arith
-
 module _ (version : Version) where
   pub placed_of : (l : Layout) (db : Database) → db.schema ≡ schema_in version l → AreApartIn version l
       → IsDatabase db → IsPlacedIn version l
@@ -169,7 +166,7 @@ module _ (version : Version) where
       let rows = filter is_table_row (db.trees catalog_tree) in
       let listed = subst (λ (s : Schema). AllZip IsTableRow rows s.tables) is sound.lists.listed.tables in
       record {
-        apart = apart_below version l apart;
+        apart = apart;
         low = λ name within. subst (λ n. n < 65536) ((each name).tree_is l)
             (low_in rows (schema_in version l).tables listed (table_of l name)
             ((each name).listed_in version l within));

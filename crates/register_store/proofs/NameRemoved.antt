@@ -39,7 +39,7 @@ use Rattle.register_store.specs.TableChanges.{Makes}
 use Rattle.register_store.specs.Within.TableChanges.{Always, without_custodian, without_approval, without_approvals}
 use Rattle.register_store.specs.Within.TableChanges.{without_name}
 use Rattle.register_store.proofs.Actions.{idle, custodian_drops, shows_all}
-use Rattle.register_store.proofs.EachTable.{each, content_with}
+use Rattle.register_store.proofs.EachTable.{apart_all, each, content_with}
 use Rattle.sqlite_resolve.specs.Compile.{first}
 use Rattle.register_store.proofs.Meanings.{Takes, classes, placed, takes}
 use Rattle.register_store.proofs.Frame.{holds_with, rows_kept}
@@ -192,7 +192,7 @@ module _ (key : ℕ) (name : List ℕ) where
       (change_text (Taken role.Custodian)) (place_of Custodian) refl m.is m.plain
       (custodian_drops l holds.schema.apart) (λ olds. idle l holds.schema.apart Approval refl 1 olds [])
       (λ db. shows_all db (l.tree Custodian)) ((each Custodian).listed l) ((each Approval).listed l)
-      (λ same. two_places (holds.schema.apart Approval Custodian same)) old new count h holds.schema.is
+      (λ same. two_places (apart_all l holds.schema.apart Approval Custodian same)) old new count h holds.schema.is
       custodians.ordered custodians.counted approvals.ordered approvals.counted passing
       (from_custodian old.now t holds) (of_custodian old.now t holds) in
       let other = rows_kept l (λ (tree : ℕ). (tree ≡ l.tree Custodian) ⊎ (tree ≡ l.tree Approval)) old.now new.now
@@ -216,8 +216,8 @@ module _ (key : ℕ) (name : List ℕ) where
             (without t.custodians (rows_of l Custodian old.now) custodians))
             (λ no_custodian. subst (Shows n (content n t))
             (sym (other n (λ written. elim written [
-              | inl e ↦ no_custodian (holds.schema.apart n Custodian e)
-              | inr e ↦ no_approval (holds.schema.apart n Approval e)
+              | inl e ↦ no_custodian (apart_all l holds.schema.apart n Custodian e)
+              | inr e ↦ no_approval (apart_all l holds.schema.apart n Approval e)
             ]))) (holds.shown n)));
       }
 

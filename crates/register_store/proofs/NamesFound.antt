@@ -3,6 +3,7 @@ use Rattle.std.proofs.Common.{◌≡◌, ◌≢◌, ℕ, pos, List, [], ◌∷�
 use Rattle.std.proofs.Common.{IfErr, OnOk, refl, sym, ap, subst, ◌∙◌, arith}
 use Rattle.std.proofs.lemmas.List.Sorted.{IsPermutation-map, IsPermutation-sym, IsPermutation-trans, length_permutation}
 use Rattle.std.proofs.lemmas.List.{length-map}
+use Rattle.std.specs.List.{AllByRecursion}
 use Rattle.std.specs.List.Sorted.{IsPermutation}
 use Rattle.sqlite.specs.declared.error.Error.{Error}
 use Rattle.sqlite.specs.declared.types.Value.{Value}
@@ -31,7 +32,7 @@ use Rattle.register_store.specs.declared.table.TableName.TheVariants.{Custodian,
 use Rattle.register_store.specs.Within.Roles.{names_of, select_text}
 use Rattle.register_store.specs.TableReads.{HoldsWhereOpen, IsOpenStill, ReadsBy}
 use Rattle.register_store.specs.Within.TableReads.{AreNamesOf, HasNoName}
-use Rattle.register_store.specs.Tables.{Layout, Tables, table_of, AreNames, IsNamed, ShowsEntries, name_cells}
+use Rattle.register_store.specs.Tables.{Layout, Tables, table_of, IsNamed, ShowsEntries, name_cells}
 use Rattle.register_store.specs.Schema.{schema_with, Holds, rows_of}
 use Rattle.register_store.proofs.Actions.{shows_all}
 use Rattle.register_store.proofs.Meanings.{Asks, asks, classes, placed}
@@ -100,7 +101,8 @@ module _ (sql : List ℕ) (table : TableName) (search_is : IsNameSearch sql tabl
 
   module _ (entries_of : Tables → List KeyName) (shown : (t : Tables) (old : State) (holds : Holds t old.now)
       → ShowsEntries name_cells (entries_of t) (rows_of holds.schema.layout table old.now))
-      (in_range : (t : Tables) (old : State) → Holds t old.now → AreNames (entries_of t)) (old new : State)
+      (in_range : (t : Tables) (old : State) → Holds t old.now → AllByRecursion IsNamed (entries_of t))
+      (old new : State)
       (survives : Survives old new (CommitsShowing sql params old)) where
     abbrev Found : Tables → List (List ℕ) → Type 0
     Found t names = names ≡ sorted_names (names_at key (entries_of t))
@@ -205,7 +207,8 @@ select_is role = record {
   query = select_plain (select_text role) (names_select role);
 }
 
-pub names_ranged : (role : Role) (t : Tables) (old : State) → Holds t old.now → AreNames (names_of role t)
+pub names_ranged : (role : Role) (t : Tables) (old : State) → Holds t old.now
+    → AllByRecursion IsNamed (names_of role t)
 names_ranged role.Custodian t old holds = holds.in_range Custodian
 names_ranged role.Approver t old holds = holds.in_range Approval
 

@@ -10,7 +10,7 @@ use Rattle.sqlite.specs.Listing.{understood}
 use Rattle.sqlite.specs.Schema.{Schema}
 use Rattle.sqlite.specs.State.{State, Executes, ExecutesIn}
 use Rattle.sqlite.specs.Table.{Table}
-use Rattle.sqlite.proofs.Callers.{IsPlain, command_of, runs_as}
+use Rattle.sqlite.proofs.Callers.{IsPlain, command_of, runs_as, statement_of}
 use Rattle.sqlite_resolve.specs.Compile.{is_attached}
 use Rattle.sqlite_resolve.specs.declared.error.CompileError.{CompileError}
 use Rattle.sqlite_resolve.specs.declared.error.CompileError.TheVariants.{Exists}
@@ -82,8 +82,9 @@ creates name is l old new count h has = by (index_named (before name l) (def_of 
         let known = makes_table (create_text name) (parsed name) (def_of name) (unplaced name) it.text s
         free.bare free.no_table free.no_view none in
         let plain : IsPlain (understood s (create_text name)) = subst IsPlain (sym known) (refl, refl) in
+        let whole = ap (statement_of (create_text name)) known ∙ it.whole in
         let w = runs_as (create_text name) [] old new s has MakeTable (ap command_of known) plain count h in (
-          makes s (unplaced name) (create_text name) (ap command_of known) (cc) plain (unplaced name) it.defined refl
+          makes s (unplaced name) (create_text name) (ap command_of known) whole plain (unplaced name) it.defined refl
               (uncounted name is l) old new count h has,
           w.sound,
         )

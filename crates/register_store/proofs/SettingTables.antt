@@ -20,11 +20,11 @@ use Rattle.register_store.specs.declared.table.TableName.{TableName}
 use Rattle.register_store.specs.declared.table.TableName.TheVariants.{Meta}
 use Rattle.register_store.specs.Columns.{select}
 use Rattle.register_store.specs.TableForms.{Named, name_of}
-use Rattle.register_store.specs.Tables.{AreApart, Form, Layout, ShowsKeyed, ShowsSinceSecond, Tables, form}
-use Rattle.register_store.specs.Tables.{place_of, table_of}
+use Rattle.register_store.specs.Tables.{Form, Layout, ShowsKeyed, ShowsSinceSecond, Tables, form}
+use Rattle.register_store.specs.Tables.{place_of, table_of, with_content}
 use Rattle.register_store.specs.Schema.{Holds, rows_of, schema_with}
 use Rattle.register_store.proofs.ColumnTerms.{inserted, inserts, shown_from}
-use Rattle.register_store.proofs.EachTable.{content_is, each}
+use Rattle.register_store.proofs.EachTable.{AreApart, content_is, each}
 use Rattle.register_store.proofs.EntryAdded.{IsInsert}
 use Rattle.register_store.proofs.Frame.{holds_with}
 use Rattle.register_store.proofs.Meanings.{Asks, Takes}
@@ -39,6 +39,13 @@ there l name = refl
 -- what a statement about one of them is given
 abbrev pub number_params : ℕ → Cells
 number_params n = Int (pos n) ∷ []
+
+-- a form, and the tables with another content of it
+abbrev Formed : Type 1
+Formed = (f : Form) × (f.Content → Tables → Tables)
+
+abbrev formed : TableName → Formed
+formed name = (form name, with_content name)
 
 -- A table in which a value is set for each of some numbers: its name, the column of the number and those past it, how
 -- an entry stands in a row, and the entries among all that is held.
@@ -98,18 +105,19 @@ module _ {A X : Type 0} (s : Setting A X) where
   Finds = (l : Layout) → Asks (schema_with l) (table_of l s.name) find_text
       (plain_query (l.tree s.name) has_number shown) names
 
-  -- the form of such a table
-  abbrev set_form : Form
-  set_form = record {
-    place = place_of s.name;
-    Content = List A;
-    content = s.entries;
-    with_content = s.with_entries;
-    table = (form s.name).table;
-    create_text = (form s.name).create_text;
-    Shows = ShowsSinceSecond row;
-    IsInRange = AllByRecursion IsEntry;
-  }
+  -- the form of such a table, and the tables with other entries
+  abbrev set_form : Formed
+  set_form = (
+    record {
+      place = place_of s.name;
+      Content = List A;
+      content = s.entries;
+      table = (form s.name).table;
+      Shows = ShowsSinceSecond row;
+      IsInRange = AllByRecursion IsEntry;
+    },
+    s.with_entries,
+  )
 
   -- an entry is picked by its number
   pub check_is : (passed : List Term) (n : ℕ) (a : A)
@@ -119,7 +127,7 @@ module _ {A X : Type 0} (s : Setting A X) where
 -- The form of its table is that of a table of settings, its statements mean what they say, no write of it sets off an
 -- action, and its cells show one value.
 pub record IsSetting {A X : Type 0} (s : Setting A X) : Type 1 where
-  pub form_is : form s.name ≡ set_form s
+  pub form_is : formed s.name ≡ set_form s
   pub idle : (l : Layout) → AreApart l → (olds news : List Cells)
       → works (schema_with l) Enforced 0 (table_of l s.name).tree olds news ≡ []
   pub shows : (x : X) → s.IsOne x → s.ShowsOne (s.cells x) x
@@ -137,7 +145,7 @@ module _ {A X : Type 0} {s : Setting A X} (is : IsSetting s) where
   pub table_shown : (t : Tables) (db : Database) (holds : Holds t db)
       → ShowsKeyed (row s) (s.entries t) (rows_of holds.schema.layout s.name db)
   table_shown t db holds =
-      subst (λ (f : Form). f.Shows current (f.content t) (rows_of holds.schema.layout s.name db)) is.form_is
+      subst (λ (f : Formed). f.0.Shows current (f.0.content t) (rows_of holds.schema.layout s.name db)) is.form_is
       (holds.shown s.name)
 
   pub tree_shown : (t : Tables) (db : Database) (holds : Holds t db)
@@ -147,11 +155,11 @@ module _ {A X : Type 0} {s : Setting A X} (is : IsSetting s) where
       (sym ((each s.name).tree_is holds.schema.layout)) (table_shown t db holds)
 
   pub table_in_range : (t : Tables) (db : Database) → Holds t db → AllByRecursion (IsEntry s) (s.entries t)
-  table_in_range t db holds = subst (λ (f : Form). f.IsInRange (f.content t)) is.form_is (holds.in_range s.name)
+  table_in_range t db holds = subst (λ (f : Formed). f.0.IsInRange (f.0.content t)) is.form_is (holds.in_range s.name)
 
   pub entries_are : (c : List A) (t : Tables) → s.entries (s.with_entries c t) ≡ c
   entries_are c t =
-      subst (λ (f : Form). (d : f.Content) → f.content (f.with_content d t) ≡ d) is.form_is
+      subst (λ (f : Formed). (d : f.0.Content) → f.0.content (f.1 d t) ≡ d) is.form_is
       (λ d. content_is s.name d t) c
 
   -- where a statement wrote these rows, the tables have these entries
@@ -161,5 +169,5 @@ module _ {A X : Type 0} {s : Setting A X} (is : IsSetting s) where
   table_holds c t old new rows holds wrote =
       let l = holds.schema.layout in
       let own = subst (λ tree. Wrote (schema_with l) tree rows old new) ((each s.name).tree_is l) wrote in
-      subst (λ (f : Form). (d : f.Content) → f.IsInRange d → f.Shows current d rows → Holds (f.with_content d t) new)
+      subst (λ (f : Formed). (d : f.0.Content) → f.0.IsInRange d → f.0.Shows current d rows → Holds (f.1 d t) new)
       is.form_is (λ d. holds_with s.name d t old new rows holds own) c

@@ -23,11 +23,11 @@ use Rattle.register_store.specs.declared.table.TableName.TheVariants.{Meta, Keys
 use Rattle.register_store.specs.declared.table.TableName.TheVariants.{Quorum}
 use Rattle.register_store.specs.Within.Migration.{HasTablesBelow, SetsVersion}
 use Rattle.register_store.specs.Schema.{HoldsIn, schema_with, rows_of}
-use Rattle.register_store.specs.Tables.{AreApart, Counts, Layout, Tables, content, counts_row_in, fresh, place_of}
+use Rattle.register_store.specs.Tables.{Counts, Layout, Tables, content, counts_row_in, fresh, place_of}
 use Rattle.register_store.specs.Tables.{version}
 use Rattle.register_store.specs.Within.Tables.{Shows, meta}
 use Rattle.register_store.proofs.Actions.{idle, shows_all}
-use Rattle.register_store.proofs.EachTable.{placed_low}
+use Rattle.register_store.proofs.EachTable.{AreApart, apart_all}
 use Rattle.register_store.proofs.EntryRows.{keyed_none}
 use Rattle.register_store.proofs.Frame.{rows_kept}
 use Rattle.register_store.proofs.Meanings.{Sets, classes, placed_in, sets}
@@ -69,7 +69,7 @@ module _ (old new : State) (count : ℕ) (h : Executes version_text version_para
   l = has.layout
 
   apart : AreApart l
-  apart a b same = has.apart a b (placed_low a) (placed_low b) same
+  apart = has.apart
 
   wrote : Wrote (schema_with l) (l.tree Meta) (map enc (map changed ((First, t.counts) ∷ []))) old.now new.now
   wrote =
@@ -85,7 +85,7 @@ module _ (old new : State) (count : ℕ) (h : Executes version_text version_para
   other : (name : TableName) → (place_of name ≡ place_of Meta → ⊥) → rows_of l name new.now ≡ rows_of l name old.now
   other name off =
       rows_kept l (λ (tree : ℕ). tree ≡ l.tree Meta) old.now new.now wrote.kept name
-      (λ same. off (apart name Meta same))
+      (λ same. off (apart_all l apart name Meta same))
 
   shown_now : (name : TableName) → Shows name (content name t) (rows_of l name new.now)
   shown_now Meta = wrote.rows_are ∙ ap (λ row. enc row ∷ []) (changed_is (First, t.counts))

@@ -53,11 +53,3 @@ listed columns = joined (codes ", ") (map name_of columns)
 -- a search that shows these columns, and goes on so
 abbrev pub select : List Named → List ℕ → List ℕ
 select columns rest = codes "SELECT " ++ listed columns ++ rest
-
--- a column as in the text that makes its table
-abbrev pub definition : Named → List ℕ
-definition (Numbers name) = name ++ codes " INTEGER NOT NULL"
-definition (Texts name) = name ++ codes " TEXT NOT NULL"
-
-abbrev pub defined : List Named → List ℕ
-defined columns = joined (codes ", ") (map definition columns)

@@ -23,11 +23,8 @@ no_schema = record { tables = []; indexes = []; views = [] }
 -- The schema with the first n of a register's tables, which stand so. Indexes are free, since they change no row: it
 -- may have any beside those of the primary keys.
 abbrev pub schema_below : ℕ → Layout → Schema
-schema_below n l = record {
-  tables = map (table_of l) (take n all_tables);
-  indexes = key_indexes l ++ l.more;
-  views = [];
-}
+schema_below n l =
+    record { tables = map (table_of l) (take n all_tables); indexes = key_indexes l ++ l.more; views = [] }
 
 abbrev pub schema_in : Version → Layout → Schema
 schema_in version l = schema_below (table_count version) l

@@ -1,7 +1,8 @@
 -- The tables of a register, one by one: what each holds, how it is made, and how its content stands in its rows.
-use Rattle.std.specs.Prelude.{◌≡◌, ◌<◌, ℕ, ◌+◌, pos, Bool, cond, false, not, List, [], ◌∷◌, ◌++◌, map, drop, filter}
+use Rattle.std.specs.Prelude.{◌≡◌, ◌<◌, ℕ, ◌+◌, pos, Bool, cond, not, List, [], ◌∷◌, ◌++◌, map, drop, filter}
 use Rattle.std.specs.Prelude.{take, Option, None, Some, is_some, IsTrue, IsPermutation, codes}
 use Rattle.std.specs.List.{AllByRecursion, enumerate_from}
+use Rattle.sqlite.specs.declared.types.Value.{Value}
 use Rattle.sqlite.specs.declared.types.Value.TheVariants.{Null, Int, Text as Words}
 use Rattle.sqlite.specs.Order.{Row as Cells}
 use Rattle.sqlite.specs.Table.{Table}
@@ -32,9 +33,9 @@ use Rattle.register_requests.specs.Version.{current, version_number}
 use Rattle.register_store.specs.declared.table.TableName.{TableName}
 use Rattle.register_store.specs.declared.table.TableName.TheVariants.{Meta, Keys, Custodian, Approval, Request, Period}
 use Rattle.register_store.specs.declared.table.TableName.TheVariants.{Quorum}
-use Rattle.register_store.specs.Columns.{meta_columns, key_columns, name_columns, request_columns, period_columns}
-use Rattle.register_store.specs.Columns.{need_columns, defined, paired}
-use Rattle.register_store.specs.TableForms.{Numbers, Texts, keyed, indexed}
+use Rattle.register_store.specs.Columns.{meta_columns, key_columns, request_columns, period_columns}
+use Rattle.register_store.specs.Columns.{need_columns, paired}
+use Rattle.register_store.specs.TableForms.{Numbers, Texts, keyed, indexed, reference}
 
 -- ---- what they hold
 
@@ -80,29 +81,32 @@ date_cell (Some date) = date
 abbrev pub version : ℕ
 version = version_number current
 
+-- a cell of a whole number
+abbrev pub number : ℕ → Value
+number n = Int (pos n)
+
 abbrev pub counts_row_in : Version → Counts → Cells
 counts_row_in v counts =
-    Int (pos 1) ∷ Null ∷ Int (pos (version_number v)) ∷ Int (pos counts.latest) ∷ Int (pos counts.key_count) ∷ []
+    number 1 ∷ Null ∷ number (version_number v) ∷ number counts.latest ∷ number counts.key_count ∷ []
 
 -- the cells of a key past its number
 abbrev pub key_cells : Key → Cells
 key_cells k =
     let d = k.row.dates in
-    Int (pos (key_type_code k.kind)) ∷ Words k.owner ∷ Words k.purpose ∷ Int (pos (state_code k.row.state)) ∷ Int
-    (pos d.initial)
-    ∷ Int (pos (date_cell d.activation)) ∷ Int (pos (date_cell d.protect_stop)) ∷ Int (pos (date_cell d.deactivation))
-    ∷ Int (pos (date_cell d.destroy)) ∷ Int (pos (date_cell d.compromise)) ∷ Int
-    (pos (date_cell d.compromise_occurrence)) ∷ []
+    number (key_type_code k.kind) ∷ Words k.owner ∷ Words k.purpose ∷ number (state_code k.row.state)
+    ∷ number d.initial ∷ number (date_cell d.activation) ∷ number (date_cell d.protect_stop)
+    ∷ number (date_cell d.deactivation) ∷ number (date_cell d.destroy) ∷ number (date_cell d.compromise)
+    ∷ number (date_cell d.compromise_occurrence) ∷ []
 
 -- a key with its number
 abbrev pub key_row : ℕ × Key → Cells
-key_row numbered = Int (pos numbered.0) ∷ Null ∷ key_cells numbered.1
+key_row numbered = number numbered.0 ∷ Null ∷ key_cells numbered.1
 
 abbrev pub numbered : List Key → List (ℕ × Key)
 numbered keys = enumerate_from 1 keys
 
 abbrev pub name_cells : KeyName → Cells
-name_cells at_key = Int (pos at_key.key) ∷ Words at_key.name ∷ []
+name_cells at_key = number at_key.key ∷ Words at_key.name ∷ []
 
 -- the state in a reply, 0 for none
 abbrev pub state_cell : Option State → ℕ
@@ -112,17 +116,17 @@ state_cell (Some state) = state_code state
 -- what is kept of a request; Advance and Set period, which are about no key, have key 0
 abbrev pub request_cells : KeptReply → Cells
 request_cells k =
-    Words k.caller ∷ Int (pos k.number) ∷ Words (command_text k.command)
-    ∷ Int (pos k.reply.key) ∷ Int (pos (state_cell k.reply.state)) ∷ Int (pos k.reply.moment) ∷ []
+    Words k.caller ∷ number k.number ∷ Words (command_text k.command)
+    ∷ number k.reply.key ∷ number (state_cell k.reply.state) ∷ number k.reply.moment ∷ []
 
 -- a type with its period
 abbrev pub period_row : TypePeriod → Cells
 period_row set =
-    Int (pos (key_type_code set.kind)) ∷ Null ∷ Int (pos set.period.originator) ∷ Int (pos set.period.recipient) ∷ []
+    number (key_type_code set.kind) ∷ Null ∷ number set.period.originator ∷ number set.period.recipient ∷ []
 
 -- a key with its need
 abbrev pub need_row : KeyNeed → Cells
-need_row set = Int (pos set.key) ∷ Null ∷ Int (pos set.need) ∷ []
+need_row set = number set.key ∷ Null ∷ number set.need ∷ []
 
 -- Past their rowids the rows are those of the entries, in any order. The rowids are whole numbers that rise, as in each
 -- table.
@@ -160,9 +164,6 @@ pub record IsKey (k : Key) : Type 0 where
 abbrev pub IsNamed : KeyName → Type 0
 IsNamed at_key = IsName at_key.name
 
-abbrev pub AreNames : List KeyName → Type 0
-AreNames names = AllByRecursion IsNamed names
-
 abbrev pub IsSetPeriod : TypePeriod → Type 0
 IsSetPeriod set = IsPeriod set.period
 
@@ -172,15 +173,7 @@ IsSetNeed set = IsQuorum set.need
 -- ---- what they refer to
 
 abbrev pub to_keys : Reference
-to_keys = record {
-  columns = 1 ∷ [];
-  parent = codes "keys";
-  parent_columns = codes "number" ∷ [];
-  on_delete =
-      NoAction;
-  on_update = NoAction;
-  is_deferred = false;
-}
+to_keys = reference (1 ∷ []) (codes "keys") (codes "number" ∷ []) NoAction
 
 -- by the rowid, which the place of an INTEGER PRIMARY KEY is
 abbrev pub rowid_to_keys : Reference
@@ -188,15 +181,7 @@ rowid_to_keys = record to_keys { columns = 0 ∷ [] }
 
 -- where a custodian goes, the approval goes too
 abbrev pub to_custodian : Reference
-to_custodian = record {
-  columns = 1 ∷ 2 ∷ [];
-  parent = codes "custodian";
-  parent_columns = codes "key_no" ∷ codes
-      "name" ∷ [];
-  on_delete = Cascade;
-  on_update = NoAction;
-  is_deferred = false;
-}
+to_custodian = reference (1 ∷ 2 ∷ []) (codes "custodian") (codes "key_no" ∷ codes "name" ∷ []) Cascade
 
 -- ---- what each table is
 
@@ -204,13 +189,11 @@ to_custodian = record {
 pub record Form : Type 1 where
   -- its place among the tables
   pub place : ℕ
-  -- what it holds: of which type, that of these tables, and these tables with another content of it
+  -- what it holds: of which type, and that of these tables
   pub Content : Type 0
   pub content : Tables → Content
-  pub with_content : Content → Tables → Tables
-  -- its columns and what they refer to, where its rows stand in this tree; and the text that makes it
+  -- its columns and what they refer to, where its rows stand in this tree
   pub table : ℕ → Table
-  pub create_text : List ℕ
   -- which rows are those of a content in a version, and which contents are in range
   pub Shows : Version → Content → List Cells → Type 0
   pub IsInRange : Content → Type 0
@@ -221,9 +204,7 @@ form Meta = record {
   place = 0;
   Content = Counts;
   content = λ t. t.counts;
-  with_content = λ counts t. record t { counts = counts };
   table = keyed (codes "meta") (codes "id") meta_columns [];
-  create_text = codes "CREATE TABLE meta (id INTEGER PRIMARY KEY, " ++ defined meta_columns ++ codes ") STRICT";
   Shows = λ v counts rows. rows ≡ counts_row_in v counts ∷ [];
   IsInRange = λ counts. IsMoment counts.latest;
 }
@@ -231,9 +212,7 @@ form Keys = record {
   place = 1;
   Content = List Key;
   content = λ t. t.keys;
-  with_content = λ keys t. record t { keys = keys };
   table = keyed (codes "keys") (codes "number") key_columns [];
-  create_text = codes "CREATE TABLE keys (number INTEGER PRIMARY KEY, " ++ defined key_columns ++ codes ") STRICT";
   Shows = λ v keys rows. rows ≡ map key_row (numbered keys);
   IsInRange = AllByRecursion IsKey;
 }
@@ -241,33 +220,24 @@ form Custodian = record {
   place = 2;
   Content = List KeyName;
   content = λ t. t.custodians;
-  with_content = λ custodians t. record t { custodians = custodians };
   table = paired (codes "custodian") to_keys;
-  create_text = codes
-      "CREATE TABLE custodian (key_no INTEGER NOT NULL REFERENCES keys(number), name TEXT NOT NULL, PRIMARY KEY (key_no, name)) STRICT";
   Shows = λ v. ShowsEntries name_cells;
-  IsInRange = AreNames;
+  IsInRange = AllByRecursion IsNamed;
 }
 form Approval = record {
   place = 3;
   Content = List KeyName;
   content = λ t. t.approvals;
-  with_content = λ approvals t. record t { approvals = approvals };
   table = paired (codes "approval") to_custodian;
-  create_text = codes "CREATE TABLE approval (" ++ defined name_columns
-      ++ codes ", PRIMARY KEY (key_no, name), FOREIGN KEY (key_no, name) REFERENCES custodian(key_no, name) ON DELETE CASCADE) STRICT";
   Shows = λ v. ShowsEntries name_cells;
-  IsInRange = AreNames;
+  IsInRange = AllByRecursion IsNamed;
 }
 -- a caller's number stands once, and refers to nothing
 form Request = record {
   place = 4;
   Content = List KeptReply;
   content = λ t. t.requests;
-  with_content = λ requests t. record t { requests = requests };
   table = indexed (codes "request") (Texts (codes "caller") ∷ Numbers (codes "number") ∷ request_columns) [];
-  create_text = codes "CREATE TABLE request (caller TEXT NOT NULL, number INTEGER NOT NULL, " ++ defined request_columns
-      ++ codes ", PRIMARY KEY (caller, number)) STRICT";
   Shows = λ v. ShowsEntries request_cells;
   IsInRange = AllByRecursion IsKeptReply;
 }
@@ -276,9 +246,7 @@ form Period = record {
   place = 5;
   Content = List TypePeriod;
   content = λ t. t.periods;
-  with_content = λ periods t. record t { periods = periods };
   table = keyed (codes "period") (codes "kind") period_columns [];
-  create_text = codes "CREATE TABLE period (kind INTEGER PRIMARY KEY, " ++ defined period_columns ++ codes ") STRICT";
   Shows = ShowsSinceSecond period_row;
   IsInRange = AllByRecursion IsSetPeriod;
 }
@@ -287,10 +255,7 @@ form Quorum = record {
   place = 6;
   Content = List KeyNeed;
   content = λ t. t.needs;
-  with_content = λ needs t. record t { needs = needs };
   table = keyed (codes "quorum") (codes "key_no") need_columns (rowid_to_keys ∷ []);
-  create_text = codes "CREATE TABLE quorum (key_no INTEGER PRIMARY KEY REFERENCES keys(number), "
-      ++ defined need_columns ++ codes ") STRICT";
   Shows = ShowsSinceSecond need_row;
   IsInRange = AllByRecursion IsSetNeed;
 }
@@ -315,8 +280,15 @@ Content name = (form name).Content
 abbrev pub content : (name : TableName) → Tables → Content name
 content name = (form name).content
 
+-- the tables with another content of this one
 abbrev pub with_content : (name : TableName) → Content name → Tables → Tables
-with_content name = (form name).with_content
+with_content Meta counts t = record t { counts = counts }
+with_content Keys keys t = record t { keys = keys }
+with_content Custodian custodians t = record t { custodians = custodians }
+with_content Approval approvals t = record t { approvals = approvals }
+with_content Request requests t = record t { requests = requests }
+with_content Period periods t = record t { periods = periods }
+with_content Quorum needs t = record t { needs = needs }
 
 abbrev pub ShowsIn : Version → (name : TableName) → Content name → List Cells → Type 0
 ShowsIn v name = (form name).Shows v
@@ -343,19 +315,14 @@ pub record Layout : Type 0 where
   -- the indexes beside those of the primary keys
   pub more : List Index
 
--- two tables have two trees
-abbrev pub AreApart : Layout → Type 0
-AreApart l = (a b : TableName) → l.tree a ≡ l.tree b → place_of a ≡ place_of b
-
--- two of the first n
+-- two of the first n tables have two trees
 abbrev pub AreApartBelow : ℕ → Layout → Type 0
 AreApartBelow n l =
     (a b : TableName) → place_of a < n → place_of b < n → l.tree a ≡ l.tree b → place_of a ≡ place_of b
 
 -- two that a version has
 abbrev pub AreApartIn : Version → Layout → Type 0
-AreApartIn First l = AreApartBelow (table_count First) l
-AreApartIn Second l = AreApart l
+AreApartIn version = AreApartBelow (table_count version)
 
 -- how many trees these tables take: one for the rows of each, and one for the index of its primary key
 abbrev pub trees_of : List TableName → ℕ
