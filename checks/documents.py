@@ -351,7 +351,7 @@ def names_of_code():
     indexes = set(re.findall(r"keys_by_\w+", "".join(
         read(path) for path in listed("crates/register_store/s*/**/*") if path.endswith((".rt", ".antt")))))
     reply, ends = read("crates/register_core/src/reply.rt"), read("crates/register_desk/src/end.rt")
-    pairs = dict(re.findall(r'Refusal::(\w+)(?: \{ \.\. \})? => (\d+)', reply))
+    pairs = dict(re.findall(r'Refusal::(\w+)(?: \{ \.\. \})? => Title \{ number: (\d+)', reply))
     names = set(re.findall(r'"([A-Z]\w+)"', ends + read("crates/register_desk/src/opening.rt")))
     return tables, indexes, pairs, names | {"BadValue"}
 

@@ -62,7 +62,7 @@ KINDS = (
     Kind("Add a shape of fields", r"\bTypeAndPeriod\b|type_and_period|\bDateEdits\b", {
         "the kinds that have it": "*/CommandKind.antt */command_fields.rt",
     }),
-    Kind("Add a refusal", r"\bNoApproval\b|\bno_approval key\b|Refusal::ApprovalsMissing|\(ApprovalsMissing ", {}),
+    Kind("Add a refusal", r"\bNoApproval\b|Refusal::ApprovalsMissing|\(ApprovalsMissing ", {}),
     Kind("Add a route", r"ShowUsage|Route(Pattern)?::Usage|Show, Usage|/usage\b|\busage_(text|reply|data|value|row)", {
         "one look-up stands for others": "crates/test_fault_trials/src/lent.rt",
     }),
