@@ -11,7 +11,7 @@ use Rattle.sql_steps.specs.Steps.{TransactsBy}
 use Rattle.lifecycle_core.specs.declared.row.Row.{Row}
 use Rattle.lifecycle_core.specs.Row.{IsRightAt}
 use Rattle.period_core.specs.declared.key_type.KeyType.{KeyType}
-use Rattle.period_core.specs.Period.{Period}
+use Rattle.period_core.specs.Period.{Period, period_or_default}
 use Rattle.register_requests.specs.declared.request.Command.{Command}
 use Rattle.register_requests.specs.declared.request.Request.{Request}
 use Rattle.register_requests.specs.Request.{IsRequest}
@@ -31,7 +31,9 @@ use Rattle.register_core.specs.declared.reply.Reply.{Reply}
 use Rattle.register_core.specs.declared.view.Held.{Held}
 use Rattle.register_core.specs.declared.view.View.{View}
 use Rattle.register_core.specs.Decision.{change_of, change_by_request, change_without_key, reply_of_view, reply_to}
+use Rattle.register_core.specs.Effect.{needed_period_type}
 use Rattle.register_core.specs.KeptReply.{kept_with, IsKeptReply}
+use Rattle.register_core.specs.Settings.{period_at}
 use Rattle.register_core.specs.Verdict.{answer_by, is_same_command, judge, judge_view, limit_refusal, max_keys}
 use Rattle.register_core.specs.Verdict.{repeated, Repeats, Refuses, verdict_by}
 use Rattle.register_core.proofs.Kept.{decided_at, decided_in_range}

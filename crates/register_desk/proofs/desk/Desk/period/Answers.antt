@@ -13,7 +13,7 @@ told_so other set told is found =
 
 pub returns-clause-found : goal.returns-clause-found
 returns-clause-found g c h stands clean =
-    let set = told_so _ c.in_ok-set.set c.look_up_set_period-set.result c.in_ok-set.was
-    (c.look_up_set_period-set.ensures.found (tables h) stands.over.sees clean) in
+    let set = told_so _ c.in_ok-set.set c.look_up_set_period.result c.in_ok-set.was
+    (c.look_up_set_period.ensures.found (tables h) stands.over.sees clean) in
     c.period_or_default.ensures
     ∙ ap (λ (told : Option Period). period_or_default told c.args.kind) (set ∙ periods_are h c.args.kind)
