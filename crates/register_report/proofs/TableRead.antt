@@ -21,8 +21,7 @@ use Rattle.register_requests.specs.declared.request.Command.TheVariants.{Registe
 use Rattle.register_requests.specs.Name.{IsName}
 use Rattle.register_requests.specs.Number.{IsNumber, max_request_number}
 use Rattle.register_requests.specs.Purpose.{IsPurpose}
-use Rattle.register_requests.specs.Request.{IsDate, IsRequest}
-use Rattle.register_requests.specs.Request.{StandsFor}
+use Rattle.register_requests.specs.Request.{IsDate, IsRequest, StandsFor}
 use Rattle.register_requests.specs.Within.FieldText.{Writes as IsTextOf}
 use Rattle.register_requests.proofs.Texts.{IsExact}
 use Rattle.register_requests.proofs.FieldTexts.{key_types, names, purposes}
