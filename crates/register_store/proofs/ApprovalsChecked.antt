@@ -24,9 +24,11 @@ own_approvals t db rows holds sure =
     let it = own_entries name_cells ShowsName IsNamed (holds.schema.layout.tree Approval) (shown_of_table Approval)
     names_past own_row db t.tables.approvals rows (holds.in_range Approval) (holds.shown Approval)
     (shows_all db.trees (holds.schema.layout.tree Approval)) sure in
-    record { c = it.0; shows = it.2; like = it.1; meets = all_permuted (IsCustodian t.tables.custodians) t.tables.approvals it.0 it.1 }
+    let meets = all_permuted (IsCustodian t.tables.custodians) t.tables.approvals it.0 it.1 in
+    record { c = it.0; shows = it.2; like = it.1; meets = meets }
 
-all_as : {A : Type 0} (P Q : A → Type 0) → ((x : A) → P x → Q x) → (xs : List A) → AllByRecursion P xs → AllByRecursion Q xs
+all_as : {A : Type 0} (P Q : A → Type 0) → ((x : A) → P x → Q x) → (xs : List A) → AllByRecursion P xs
+    → AllByRecursion Q xs
 all_as P Q turn [] all = tt
 all_as P Q turn (x ∷ xs) all = (turn x all.0, all_as P Q turn xs all.1)
 

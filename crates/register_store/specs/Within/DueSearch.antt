@@ -1,5 +1,6 @@
 -- The searches for the next key that is due, each for the first of the keys that pass its check.
-use Rattle.std.specs.Prelude.{◌≡◌, ◌⊎◌, ◌==◌, ◌&&◌, ◌||◌, ℕ, nat_le, not, Bool, true, List, Option, None, Some, codes}
+use Rattle.std.specs.Prelude.{◌≡◌, ◌⊎◌, ◌==◌, ◌&&◌, ◌||◌, ℕ, nat_le, not, Bool, true, List, ◌++◌, codes}
+use Rattle.std.specs.Prelude.{Option, None, Some}
 use Rattle.sqlite_rules.specs.Lists.{Has}
 use Rattle.lifecycle_core.specs.declared.state.State.TheVariants.{Active}
 use Rattle.lifecycle_core.specs.State.{state_code}
@@ -36,14 +37,18 @@ is_past until last x =
     is_active x && (nat_le last.stop (stop_cell x)
     && (nat_le (stop_cell x) until && (not (nat_le (stop_cell x) last.stop) || not (nat_le x.0 last.number))))
 
--- the text of each search after a cursor
+-- the text of a search for Active keys of which this holds too
+abbrev pub active_search : List ℕ → List ℕ
+active_search condition =
+    select key_columns (codes ", number FROM keys WHERE state = 2 AND " ++ condition
+    ++ codes " ORDER BY protect_stop, number")
+
+-- that of each search after a cursor
 abbrev pub search_text : DueSearch → List ℕ
-search_text SameStop = select key_columns
-    (codes ", number FROM keys WHERE state = 2 AND protect_stop = ?1 AND protect_stop <= ?2 AND number > ?3 ORDER BY protect_stop, number")
-search_text LaterStop = select key_columns
-    (codes ", number FROM keys WHERE state = 2 AND protect_stop > ?1 AND protect_stop <= ?2 ORDER BY protect_stop, number")
-search_text Past = select key_columns
-    (codes ", number FROM keys WHERE state = 2 AND protect_stop >= ?1 AND protect_stop <= ?2 AND (protect_stop > ?1 OR number > ?3) ORDER BY protect_stop, number")
+search_text SameStop = active_search (codes "protect_stop = ?1 AND protect_stop <= ?2 AND number > ?3")
+search_text LaterStop = active_search (codes "protect_stop > ?1 AND protect_stop <= ?2")
+search_text Past =
+    active_search (codes "protect_stop >= ?1 AND protect_stop <= ?2 AND (protect_stop > ?1 OR number > ?3)")
 
 -- what it finds the first of
 abbrev pub is_found : DueSearch → ℕ → DueCursor → ℕ × Key → Bool

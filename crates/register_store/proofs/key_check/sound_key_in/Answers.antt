@@ -6,4 +6,10 @@ use Rattle.std.proofs.Common.{arith}
 
 pub returns-else-shown-from : goal.returns-else-shown-from
 returns-else-shown-from c k shows sound =
-    search (arith, else-shown-from-via-then-shown-from+else-is_sound_key, one_key, else-shown-from-via-else-shown-from, same_number)
+    search (
+      arith,
+      one_key,
+      same_number,
+      else-shown-from-via-then-shown-from+else-is_sound_key,
+      else-shown-from-via-else-shown-from,
+    )

@@ -48,10 +48,11 @@ returns-in-LaterStop-clause-sight g c =
 pub returns-in-SameStop : goal.returns-in-SameStop
 returns-in-SameStop g c =
     let is = c.in-SameStop.is in
+    let by = c.args.by in
     let asked = c.find_one_row-in-SameStop.ensures.finds in record {
       counted = c.find_one_row-in-SameStop.ensures.calls;
-      sight = seen_still g.S.Store c.args.by c.args.until c.args.last.now c.sql-in-SameStop.ensures (search arith) asked;
-      reads = found g.S.Store c.args.by c.args.until c.args.last.now c.sql-in-SameStop.ensures (search arith) asked
+      sight = seen_still g.S.Store by c.args.until c.args.last.now c.sql-in-SameStop.ensures (search arith) asked;
+      reads = found g.S.Store by c.args.until c.args.last.now c.sql-in-SameStop.ensures (search arith) asked
           (search rules);
       moment = c.params-to_sql-in-SameStop-2.ensures.in_range;
     }

@@ -14,8 +14,9 @@ pub returns-clause-taken : goal.returns-clause-taken
 returns-clause-taken c result first rows taken =
     let k = c.in-Some.kept in
     let passed : c.is_reply_of_found_register.result ≡ true = cc in
-    let own = c.is_reply_of_found_register.ensures.0 passed in
-    (taken.0, one_more ShowsKept (IsReplyOf (mark_of first.found)) rows c.args.row.now k taken.1 c.in-Some.ensures (subst (λ (f : Found). IsReplyOf (mark_of f) k) taken.0 own))
+    let own = subst (λ (f : Found). IsReplyOf (mark_of f) k) taken.0 (c.is_reply_of_found_register.ensures.0 passed) in
+    let Meets = IsReplyOf (mark_of first.found) in
+    (taken.0, one_more ShowsKept Meets rows c.args.row.now k taken.1 c.in-Some.ensures own)
 
 pub returns-clause-refused : goal.returns-clause-refused
 returns-clause-refused c result first rows taken =
