@@ -15,6 +15,7 @@ import functools
 import re
 import sys
 import textwrap
+from typing import NamedTuple
 
 import definitions
 import sources
@@ -161,28 +162,38 @@ def sentence(text):
 # ---- the page
 
 
+class Count(NamedTuple):
+    """Definitions, their lines, and how many of these are of types and traits of the code."""
+    number: int = 0
+    lines: int = 0
+    of_code: int = 0
+
+    def plus(self, other):
+        return Count(*(one + more for one, more in zip(self, other)))
+
+
 def counts(found):
-    """The definitions and their lines, by crate, in the page's order."""
+    """What is counted of the definitions, by crate, in the page's order."""
     by_crate = {}
     for definition in found:
-        number, lines = by_crate.get(definition.key.crate, (0, 0))
-        by_crate[definition.key.crate] = (number + 1, lines + code_lines(definition))
+        crate, lines = definition.key.crate, code_lines(definition)
+        of_code = lines if definition.key.place.startswith("src/") else 0
+        by_crate[crate] = by_crate.get(crate, Count()).plus(Count(1, lines, of_code))
     return by_crate
 
 
 def totals():
-    """How many definitions the page has, and how many lines they have."""
-    by_crate = counts(theorem()[1]).values()
-    return sum(number for number, _ in by_crate), sum(lines for _, lines in by_crate)
+    """What is counted of all the definitions that the page has."""
+    return functools.reduce(Count.plus, counts(theorem()[1]).values())
 
 
 def count_table():
     """The crates with what the page has of each; the lines are those without comments and blank lines."""
-    number, lines = totals()
-    rows = [f"| [{crate}](#{crate}) | {of_crate:,} | {its_lines:,} |"
-            for crate, (of_crate, its_lines) in counts(theorem()[1]).items()]
-    return "\n".join(["| Crate | Definitions | Their lines, without comments |", "|---|---|---|", *rows,
-                      f"| all | {number:,} | {lines:,} |"])
+    rows = [(f"[{crate}](#{crate})", count) for crate, count in counts(theorem()[1]).items()]
+    return "\n".join(["| Crate | Definitions | Their lines, without comments | Of these of types and traits of the code |",
+                      "|---|---|---|---|",
+                      *(f"| {name} | {count.number:,} | {count.lines:,} | {count.of_code:,} |"
+                        for name, count in [*rows, ("all", totals())])])
 
 
 def filled(text):
@@ -295,7 +306,7 @@ def page_faults(have, want):
 
 def figure_faults():
     """The figures behind a mention of the page in a document that are not its own."""
-    number, lines = totals()
+    number, lines, _ = totals()
     wanted = {"lines": f"{lines:,}", "definitions": f"{number:,}"}
     for document in ["README.md", "CONTRIBUTING.md"] + sources.listed("docs/*.md"):
         behind = read(document).split("THEOREM.md")[1:] if document != PAGE else []
@@ -327,8 +338,8 @@ def faults():
 
 def print_counts():
     root, found, _ = theorem()
-    for crate, (number, lines) in counts(found).items():
-        print(f"{crate}: {number:,} definitions, {lines:,} lines")
+    for crate, count in counts(found).items():
+        print(f"{crate}: {count.number:,} definitions, {count.lines:,} lines, {count.of_code:,} of them of code")
     print(f"the theorem: {code_lines(root)} lines")
 
 
@@ -362,8 +373,8 @@ def main():
     if len(chosen) > 1 or not set(chosen) <= set(ACTS):
         sys.exit(f"the words are none, or one of {', '.join(ACTS)}")
     ACTS.get("".join(chosen), write_page)()
-    number, lines = totals()
-    print(f"theorem: {ROOT[1]} stands on {number:,} definitions of {lines:,} lines")
+    number, lines, of_code = totals()
+    print(f"theorem: {ROOT[1]} stands on {number:,} definitions of {lines:,} lines, {of_code:,} of them of code")
     return 0
 
 
