@@ -190,8 +190,8 @@ def totals():
 def count_table():
     """The crates with what the page has of each; the lines are those without comments and blank lines."""
     rows = [(f"[{crate}](#{crate})", count) for crate, count in counts(theorem()[1]).items()]
-    return "\n".join(["| Crate | Definitions | Their lines, without comments | Of these of types and traits of the code |",
-                      "|---|---|---|---|",
+    heads = "Crate", "Definitions", "Their lines, without comments", "Of these of types and traits of the code"
+    return "\n".join([f"| {' | '.join(heads)} |", "|---|---|---|---|",
                       *(f"| {name} | {count.number:,} | {count.lines:,} | {count.of_code:,} |"
                         for name, count in [*rows, ("all", totals())])])
 
