@@ -1,6 +1,7 @@
 """The types, traits and constants of a crate's src/ that contracts name, and the terms of its contracts, for
 checks/definitions.py.
 """
+import functools
 import re
 
 import sources
@@ -8,9 +9,17 @@ from sources import read
 
 ITEM = re.compile(r"(?:pub(?:\([\w ]+\))? )?(struct|enum|trait|const|static|type) (\w+)")
 IMPL = re.compile(r"impl\b(?:<.*?>)? (\w+)(?:<.*>)? for (\w+)")
+OF_TRAIT = re.compile(r"(?:(?:pub(?:\([\w ]+\))? )?trait|impl\b(?:<.*?>)?(?= \S+ for\b)) (\w+)")
 FUNCTION = re.compile(r"( *)(pub(?:\([\w ]+\))? )?(?:const )?fn (\w+)")
 TERM = re.compile(r"^ *(?:(?:requires|ensures)\*?(?: \w+)?|ghost \w+(?::| =)) \{", re.M)
 RUST_USE = re.compile(r"^ *(?:pub(?:\([\w ]+\))? )?use ([^;]*);", re.M)
+
+
+@functools.lru_cache
+def traits_within(crate):
+    """The traits of a crate that those above it do not see."""
+    files = sources.listed(f"crates/{crate}/src/**/*.rt")
+    return {name for file in files for name in re.findall(r"^(?:pub\([\w ]+\) )?trait (\w+)", read(file), re.M)}
 
 
 def bare(line):
@@ -122,6 +131,9 @@ class RustFile:
 
     def is_public(self, at):
         """Whether a term at this line is a public contract: of a public function, or of a trait, or a ghost."""
+        trait = OF_TRAIT.match(self.lines[self.block_of(at)[0]])
+        if trait and trait[1] in traits_within(self.crate):
+            return False
         if self.lines[at].strip().startswith("ghost"):
             return True
         head = next(place for place in range(at, -1, -1) if FUNCTION.match(self.lines[place]))

@@ -1,6 +1,6 @@
 -- The texts of the fields: none has a space in it but that of a purpose, and each is of one value.
 use Rattle.std.proofs.Common.{◌≡◌, ◌≢◌, ℕ, suc, ◌<◌, ◌≤◌, ◌^◌, nat_le, Bool, true, false, ◌&&◌, ◌↔◌, inl, inr}
-use Rattle.std.proofs.Common.{List, [], ◌∷◌, length, Option, Some, None, IfSome, IfNone, IsSome}
+use Rattle.std.proofs.Common.{List, [], ◌∷◌, length, Option, Some, None, IfSome, IfNone}
 use Rattle.std.proofs.Common.{refl, sym, ap, subst, ◌∙◌, arith}
 use Rattle.std.specs.Prelude.{◌⊎◌, decimal, find, codes, not, slice_index, ◌-◌}
 use Rattle.std.specs.List.{All, list_all}
@@ -17,9 +17,8 @@ use Rattle.lifecycle_core.specs.declared.reason.Reason.{Reason}
 use Rattle.lifecycle_core.specs.declared.reason.Reason.TheVariants.{Unspecified, KeyCompromise, CaCompromise}
 use Rattle.lifecycle_core.specs.declared.reason.Reason.TheVariants.{AffiliationChanged, Superseded}
 use Rattle.lifecycle_core.specs.declared.reason.Reason.TheVariants.{CessationOfOperation, PrivilegeWithdrawn}
-use Rattle.lifecycle_core.specs.Reason.{reason_code, is_compromise}
+use Rattle.lifecycle_core.specs.Reason.{reason_code}
 use Rattle.period_core.specs.KeyType.{key_type_text}
-use Rattle.period_core.specs.Period.{max_months}
 use Rattle.period_core.proofs.Types.{types}
 use Rattle.register_requests.specs.declared.command_fields.CommandKind.{CommandKind}
 use Rattle.register_requests.specs.declared.command_fields.CommandKind.TheVariants as kinds
@@ -32,7 +31,7 @@ use Rattle.register_requests.specs.Purpose.{IsPurpose, is_purpose_byte, max_purp
 use Rattle.register_requests.specs.Quorum.{IsQuorum, min_approvals, max_approvals}
 use Rattle.register_requests.specs.Request.{IsDate, IsKeyNumber, IsEdit, StandsFor, date_text, edit_text}
 use Rattle.register_requests.specs.Request.{max_key_number}
-use Rattle.register_requests.specs.Within.FieldText.{Writes, IsAny, itself, IsMonths, reason_text, IsOccurrence}
+use Rattle.register_requests.specs.Within.FieldText.{Writes, IsAny, itself, IsShort, reason_text}
 use Rattle.register_requests.specs.Within.FieldText.{is_space, HasNoSpace}
 use Rattle.register_requests.proofs.Texts.{IsExact, IsFieldText}
 
@@ -99,8 +98,8 @@ request_numbers = number_field IsNumber 1 max_request_number (omega arith) (λ n
 pub quorums : IsFieldText (Writes IsQuorum decimal)
 quorums = number_field IsQuorum min_approvals max_approvals (omega arith) (λ n. grind arith)
 
-pub months : (least : ℕ) → IsFieldText (Writes (IsMonths least) decimal)
-months least = number_field (IsMonths least) least max_months (omega arith) (λ n. grind arith)
+pub shorts : IsFieldText (Writes IsShort decimal)
+shorts = number_field IsShort 0 65535 (omega arith) (λ n. (λ is. (omega arith, omega arith), λ is. omega arith))
 
 -- ---- dates and edits, which have signs beside moments
 
@@ -125,6 +124,11 @@ is_text field text = by (bytes_eq field text) refl
     by true e = inl ((bytes_eq-Decides field text).0 e)
     by false e = inr (λ same. absurd (cc (sym e ∙ (bytes_eq-Decides field text).1 same)))
 
+-- no date is in a field that is neither its sign nor a moment's
+no_date : (field : List ℕ) → (field ≡ codes "-" → ⊥) → StandsFor (Writes IsMoment decimal) field None
+    → StandsFor (Writes IsDate date_text) field None
+no_date field other none = λ date is. grind arith
+
 one_date : (field : List ℕ) (a b : Option ℕ) → Writes IsDate date_text field a → Writes IsDate date_text field b → a ≡ b
 one_date field None None p q = refl
 one_date field None (Some n) p q = absurd (dash_no_moment n q.0 (sym p.1 ∙ q.1))
@@ -138,13 +142,17 @@ date_has field = by (is_text field (codes "-")) (moments.exact.has field)
         → (o : Option (Option ℕ)) × StandsFor (Writes IsDate date_text) field o
     by (inl same) found = (Some None, (tt, same))
     by (inr other) (Some m, found) = (Some (Some m), found)
-    by (inr other) (None, none) = (None, λ date is. grind arith)
+    by (inr other) (None, none) = (None, no_date field other none)
 
 date_solid : (field : List ℕ) (x : Option ℕ) → Writes IsDate date_text field x → HasNoSpace field
 date_solid field x is = grind (arith, moments.solid)
 
 pub dates : IsFieldText (Writes IsDate date_text)
 dates = record { exact = record { one = one_date; has = date_has }; solid = date_solid }
+
+no_edit : (field : List ℕ) → (field ≡ codes "=" → ⊥) → (field ≡ codes "-" → ⊥)
+    → StandsFor (Writes IsMoment decimal) field None → StandsFor (Writes IsEdit edit_text) field None
+no_edit field other another none = λ edit is. grind arith
 
 one_edit : (field : List ℕ) (a b : Edit) → Writes IsEdit edit_text field a → Writes IsEdit edit_text field b → a ≡ b
 one_edit field a b p q = grind (arith, dash_no_moment, equals_no_moment, one_moment)
@@ -158,33 +166,13 @@ edit_has field = by (is_text field (codes "=")) (is_text field (codes "-")) (mom
     by (inl same) dash found = (Some Keep, (tt, same))
     by (inr other) (inl same) found = (Some Clear, (tt, same))
     by (inr other) (inr another) (Some m, found) = (Some (Set m), found)
-    by (inr other) (inr another) (None, none) = (None, λ edit is. grind arith)
+    by (inr other) (inr another) (None, none) = (None, no_edit field other another none)
 
 edit_solid : (field : List ℕ) (x : Edit) → Writes IsEdit edit_text field x → HasNoSpace field
 edit_solid field x is = grind (arith, moments.solid)
 
 pub edits : IsFieldText (Writes IsEdit edit_text)
 edits = record { exact = record { one = one_edit; has = edit_has }; solid = edit_solid }
-
--- ---- an occurrence, with its reason
-
-pub occurrences : (reason : Reason) → IsExact (Writes (IsOccurrence reason) date_text)
-occurrences reason = record {
-  one = λ field a b p q. one_date field a b (p.0.0, p.1) (q.0.0, q.1);
-  has = λ field. by field (is_compromise reason) refl (date_has field);
-}
-  where
-    by : (field : List ℕ) (check : Bool) → is_compromise reason ≡ check
-        → (o : Option (Option ℕ)) × StandsFor (Writes IsDate date_text) field o
-        → (o : Option (Option ℕ)) × StandsFor (Writes (IsOccurrence reason) date_text) field o
-    by field check e (None, none) = (None, λ date is. none date (is.0.0, is.1))
-    by field check e (Some None, found) = (Some None, ((tt, λ no. refl), found.1))
-    by field true e (Some (Some date), found) = (Some (Some date), ((found.0, λ no. absurd cc), found.1))
-    by field false e (Some (Some date), found) = (
-      None,
-      λ x is. let same = one_date field (Some date) x found (is.0.0, is.1) in
-          let unset = is.0.1 e in absurd cc,
-    )
 
 -- ---- types of keys, kinds of commands and reasons
 
@@ -239,10 +227,7 @@ reason_again Superseded = refl
 reason_again CessationOfOperation = refl
 reason_again PrivilegeWithdrawn = refl
 
-reason_code_within : (r : Reason) → (1 ≤ reason_code r) × (reason_code r ≤ 7)
-reason_code_within r = grind arith
-
-pub reason_small : (r : Reason) → reason_code r < 2 ^ 64
+reason_small : (r : Reason) → reason_code r < 2 ^ 64
 reason_small r = grind arith
 
 pub reasons : IsFieldText (Writes IsAny reason_text)
@@ -318,51 +303,7 @@ purposes = own_text IsPurpose is_purpose (λ bytes e. grind (arith, IsUtf8-from_
 
 -- ---- what a function finds is what its field stands for
 
-module _ {A : Type 0} (P : A → Type 0) (text : A → List ℕ) where
-  pub found_stands : (field : List ℕ) (o : Option A) → IfSome o (λ x. P x × (field ≡ text x))
-      → IfNone o ((x : A) → P x → field ≢ text x) → StandsFor (Writes P text) field o
-  found_stands field (Some x) found none = found
-  found_stands field None found none = λ x is. none x is.0 is.1
-
-  pub stands_found : (field : List ℕ) (o : Option A) → StandsFor (Writes P text) field o
-      → IfSome o (λ x. P x × (field ≡ text x)) × IfNone o ((x : A) → P x → field ≢ text x)
-  stands_found field (Some x) is = (is, tt)
-  stands_found field None none = (tt, λ x p e. none x (p, e))
-
 pub any_stands : {A : Type 0} (text : A → List ℕ) (field : List ℕ) (o : Option A)
     → IfSome o (λ x. field ≡ text x) → IfNone o ((x : A) → field ≢ text x) → StandsFor (Writes IsAny text) field o
 any_stands text field (Some x) found none = (tt, found)
 any_stands text field None found none = λ x is. none x is.1
-
-pub itself_stands : (P : List ℕ → Type 0) (field : List ℕ) (o : Option (List ℕ))
-    → (IsSome o ↔ P field) → IfSome o (λ x. x ≡ field) → StandsFor (Writes P itself) field o
-itself_stands P field (Some x) in_range value = (subst P (sym value) (in_range.0 refl), sym value)
-itself_stands P field None in_range value = λ x is.
-    absurd (let some = in_range.1 (subst P (sym is.1) is.0) in cc)
-
-module _ (P : ℕ → Type 0) (small : (n : ℕ) → P n → n < 2 ^ 64) (field : List ℕ) where
-  -- no number is in the field
-  pub no_number : ((n : ℕ) → n < 2 ^ 64 → field ≢ decimal n) → StandsFor (Writes P decimal) field None
-  no_number none = λ n is. none n (small n is.0) is.1
-
-  -- a number was made of the number in the field
-  pub number_stands : (n : ℕ) → n < 2 ^ 64 → field ≡ decimal n → (o : Option ℕ) → (IsSome o ↔ P n)
-      → IfSome o (λ m. m ≡ n) → StandsFor (Writes P decimal) field o
-  number_stands n lt e (Some m) in_range value = (subst P (sym value) (in_range.0 refl), e ∙ ap decimal (sym value))
-  number_stands n lt e None in_range value = λ m is.
-      let same = decimal_injective m n (small m is.0) lt (sym is.1 ∙ e) in
-      absurd (let some = in_range.1 (subst P same is.0) in cc)
-
-module _ (field : List ℕ) where
-  pub no_code : ((n : ℕ) → n < 2 ^ 64 → field ≢ decimal n) → StandsFor (Writes IsAny reason_text) field None
-  no_code none = λ reason is. none (reason_code reason) (reason_small reason) is.1
-
-  -- a reason was made of the number in the field
-  pub code_stands : (n : ℕ) → n < 2 ^ 64 → field ≡ decimal n → (o : Option Reason)
-      → IfSome o (λ reason. reason_code reason ≡ n) → IfNone o ((n < 1) ⊎ (7 < n))
-      → StandsFor (Writes IsAny reason_text) field o
-  code_stands n lt e (Some reason) found none = (tt, e ∙ ap decimal (sym found))
-  code_stands n lt e None found none = λ reason is.
-      let same = decimal_injective (reason_code reason) n (reason_small reason) lt (sym is.1 ∙ e) in
-      let within = reason_code_within reason in
-      absurd (grind arith)

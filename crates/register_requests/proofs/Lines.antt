@@ -1,11 +1,16 @@
 -- Fields of a command, commands and requests: no bytes are the text of two, and it is decided of which they are.
 use Rattle.std.proofs.Common.{◌≡◌, ℕ, nat_le, ◌≤◌, Bool, true, false, List, [], ◌∷◌, ◌++◌, length, drop, append_assoc}
 use Rattle.std.proofs.Common.{Option, Some, None, refl, sym, ap, subst, ◌∙◌, arith}
-use Rattle.std.specs.Prelude.{codes, decimal}
+use Rattle.std.specs.Prelude.{codes, decimal, ◌⊎◌}
+use Rattle.std.proofs.Common.{inl, inr, ◌&&◌, ◌↔◌, IsSome, IfSome}
 use Rattle.std.proofs.lemmas.Bool.{and_parts, leb-true, leb-false}
 use Rattle.std.proofs.lemmas.List.{append-nil}
 use Rattle.period_core.specs.KeyType.{key_type_text}
-use Rattle.period_core.specs.Period.{of_months}
+use Rattle.period_core.specs.Period.{Period, IsPeriod, of_months, max_months}
+use Rattle.lifecycle_core.specs.declared.reason.Reason.{Reason}
+use Rattle.lifecycle_core.specs.Reason.{is_compromise}
+use Rattle.period_core.specs.declared.key_type.KeyType.{KeyType}
+use Rattle.register_requests.specs.declared.request.Edit.{Edit}
 use Rattle.register_requests.specs.declared.request.Request.{Request}
 use Rattle.register_requests.specs.declared.request.Command.{Command}
 use Rattle.register_requests.specs.declared.command_fields.CommandKind.{CommandKind}
@@ -25,17 +30,17 @@ use Rattle.register_requests.specs.Number.{IsNumber}
 use Rattle.register_requests.specs.Purpose.{IsPurpose}
 use Rattle.register_requests.specs.Quorum.{IsQuorum}
 use Rattle.moment_core.specs.Moment.{IsMoment}
-use Rattle.register_requests.specs.Request.{IsDate, IsEdit, IsKeyNumber, IsLineOf, IsItem, StandsFor}
-use Rattle.register_requests.specs.Request.{date_text, edit_text, fields_text, command_text, max_line_length}
+use Rattle.register_requests.specs.Request.{IsDate, IsEdit, IsKeyNumber, IsLineOf, IsItem, IsRequest, StandsFor}
+use Rattle.register_requests.specs.Request.{date_text, edit_text, fields_text, command_text, request_text}
+use Rattle.register_requests.specs.Request.{max_line_length}
 use Rattle.register_requests.specs.Within.Fields.{shape_of}
-use Rattle.register_requests.specs.Within.FieldText.{Writes, IsAny, itself, IsMonths, reason_text, IsOccurrence}
-use Rattle.register_requests.specs.Within.FieldText.{HasNoSpace, AreKeyAndName, key_and_name_text, AreFieldsOf}
-use Rattle.register_requests.specs.Within.FieldText.{after_word, IsRequestText}
-use Rattle.register_requests.proofs.Texts.{IsExact, AreSame, Then, Ends, same_exact, ends, ends_exact, then_both}
-use Rattle.register_requests.proofs.Texts.{then_exact, one_split, split_word}
+use Rattle.register_requests.specs.Within.FieldText.{Writes, IsAny, itself, IsShort, reason_text, period_text}
+use Rattle.register_requests.specs.Within.FieldText.{HasNoSpace, AreSplit, AreFieldsOf, after_word}
+use Rattle.register_requests.proofs.Texts.{IsExact, IsFieldText, Makes, made_stands, made_exact, Only, only_none}
+use Rattle.register_requests.proofs.Texts.{only_not, only_exact, split_exact, one_split, split_word}
 use Rattle.register_requests.proofs.Commands.{made, some_made, has_shape, same_command as same_parts}
-use Rattle.register_requests.proofs.FieldTexts.{moments, key_numbers, request_numbers, quorums, months, dates, edits}
-use Rattle.register_requests.proofs.FieldTexts.{occurrences, key_types, reasons, command_kinds, names, purposes}
+use Rattle.register_requests.proofs.FieldTexts.{moments, key_numbers, request_numbers, quorums, shorts, dates, edits}
+use Rattle.register_requests.proofs.FieldTexts.{key_types, reasons, command_kinds, names, purposes}
 
 -- ---- texts, as fields with what stands after them
 
@@ -64,22 +69,79 @@ joined_named k n = simp append_assoc
 joined_pair : (k n : List ℕ) → k ++ codes " " ++ n ≡ before k n
 joined_pair k n = simp append_assoc
 
-joined_fields : (k n : List ℕ) → codes " " ++ k ++ codes " " ++ n ≡ spaced (k ++ codes " " ++ n)
-joined_fields k n = simp append_assoc
-
 joined_request : (m c n d : List ℕ) → m ++ codes " " ++ c ++ codes " " ++ n ++ codes " " ++ d
     ≡ before m (before c (before n d))
 joined_request m c n d = simp append_assoc
 
--- the text of a value, a space, and after it the text of the rest
-module _ {A B : Type 0} {P : A → Type 0} {text : A → List ℕ} {After : A → List ℕ → B → Type 0} where
-  wrote : (x : A) (rest : List ℕ) {y : B} → P x → After x rest y → Then (Writes P text) After (before (text x) rest) y
-  wrote x rest in_range after =
-      then_both (record { field = text x; is_text = (in_range, refl); split = refl }) after
+-- the text of a value, a space, and after it the text of another
+module _ {A B : Type 0} {P : A → Type 0} {text : A → List ℕ} {IsSecond : List ℕ → B → Type 0} where
+  wrote : IsFieldText (Writes P text) → (x : A) (rest : List ℕ) {y : B} → P x → IsSecond rest y
+      → AreSplit (Writes P text) IsSecond (before (text x) rest) (x, y)
+  wrote own x rest in_range second = record {
+    field = text x;
+    rest = rest;
+    solid = own.solid (text x) x (in_range, refl);
+    split = refl;
+    first = (in_range, refl);
+    second = second;
+  }
 
-  spelled : (bytes : List ℕ) (y : B) → (is : Then (Writes P text) After bytes y)
-      → bytes ≡ before (text is.first) is.rest
-  spelled bytes y is = is.before.split ∙ ap (λ (field : List ℕ). before field is.rest) is.before.is_text.1
+  spelled : (bytes : List ℕ) (x : A × B) → (is : AreSplit (Writes P text) IsSecond bytes x)
+      → bytes ≡ before (text x.0) is.rest
+  spelled bytes x is = is.split ∙ ap (λ (field : List ℕ). before field is.rest) is.first.1
+
+-- ---- a period
+
+abbrev IsShorts : List ℕ → ℕ × ℕ → Type 0
+IsShorts = AreSplit (Writes IsShort decimal) (Writes IsShort decimal)
+
+shorts_exact : IsExact IsShorts
+shorts_exact = split_exact shorts.exact shorts.exact
+
+-- months that are those of a period
+abbrev IsInPeriod : ℕ × ℕ → Type 0
+IsInPeriod x = IsPeriod (of_months x.0 x.1)
+
+period_or_not : (x : ℕ × ℕ) → IsInPeriod x ⊎ (IsInPeriod x → ⊥)
+period_or_not (a, b) = by (nat_le 1 a && nat_le a max_months && nat_le b max_months) refl
+  where
+    by : (check : Bool) → (nat_le 1 a && nat_le a max_months && nat_le b max_months) ≡ check
+        → IsInPeriod (a, b) ⊎ (IsInPeriod (a, b) → ⊥)
+    by true e = inl (grind arith)
+    by false e = inr (λ is. absurd (grind arith))
+
+period_there : (bytes : List ℕ) (x : ℕ × ℕ) → Only IsShorts IsInPeriod bytes x
+    → Writes IsPeriod period_text bytes (of_months x.0 x.1)
+period_there bytes x is = (is.1, grind (arith, spelled, joined_pair))
+
+period_back : (bytes : List ℕ) (p : Period) → Writes IsPeriod period_text bytes p
+    → (x : ℕ × ℕ) × Only IsShorts IsInPeriod bytes x × (p ≡ of_months x.0 x.1)
+period_back bytes p is =
+    let same = is.1 ∙ joined_pair (decimal p.originator) (decimal p.recipient) in
+    let split : IsShorts (before (decimal p.originator) (decimal p.recipient)) (p.originator, p.recipient) =
+    wrote shorts p.originator _ (omega (arith, is.0.originator)) (omega (arith, is.0.recipient), refl) in (
+      (p.originator, p.recipient),
+      (subst (λ (b : List ℕ). IsShorts b (p.originator, p.recipient)) (sym same) split, is.0),
+      refl,
+    )
+
+pub period : Makes (Only IsShorts IsInPeriod) (λ x. of_months x.0 x.1) (Writes IsPeriod period_text)
+period = record { there = period_there; back = period_back }
+
+pub new_period : (bytes : List ℕ) (a b : ℕ) → IsShorts bytes (a, b) → (o : Option Period)
+    → (IsSome o ↔ IsPeriod (of_months a b)) → IfSome o (λ p. p ≡ of_months a b)
+    → StandsFor (Writes IsPeriod period_text) bytes o
+new_period bytes a b is (Some p) in_range value = rw value (period_there bytes (a, b) (is, in_range.0 refl))
+new_period bytes a b is None in_range value =
+    let other = λ (holds : IsInPeriod (a, b)). absurd (let some = in_range.1 holds in cc) in
+    made_stands period bytes None (only_not IsShorts IsInPeriod shorts_exact bytes (a, b) is other)
+
+pub no_months : (bytes : List ℕ) → StandsFor IsShorts bytes None
+    → StandsFor (Writes IsPeriod period_text) bytes None
+no_months bytes none = made_stands period bytes None (only_none IsShorts IsInPeriod bytes none)
+
+periods : IsExact (Writes IsPeriod period_text)
+periods = made_exact period (only_exact _ _ shorts_exact period_or_not)
 
 -- ---- the fields of a command
 
@@ -92,165 +154,221 @@ there_after : (rest fields bytes : List ℕ) → spaced bytes ≡ fields → fie
 there_after rest fields bytes e f = cc
 
 -- a key's number alone
-abbrev IsKey : List ℕ → Fields → Type 0
-IsKey = Ends (Writes IsKeyNumber decimal) Key
-
-key_back : (bytes : List ℕ) (f : Fields) → AreAfter shapes.Key bytes f → IsKey bytes f
-key_back bytes (Key key) is = ends key (is.in_range, cc)
+key_back : (bytes : List ℕ) (f : Fields) → AreAfter shapes.Key bytes f
+    → (key : ℕ) × Writes IsKeyNumber decimal bytes key × (f ≡ Key key)
+key_back bytes (Key key) is = (key, (is.in_range, cc), refl)
 key_back bytes f is = absurd (let other = is.shape_is in cc)
 
-pub key_alone : AreSame IsKey (AreAfter shapes.Key)
-key_alone = record { there = λ bytes f is. grind arith; back = key_back }
+pub key_alone : Makes (Writes IsKeyNumber decimal) Key (AreAfter shapes.Key)
+key_alone = record { there = λ bytes key is. grind arith; back = key_back }
 
 -- a key's number and a name
-abbrev IsKeyAndName : List ℕ → ℕ × List ℕ → Type 0
-IsKeyAndName = Then (Writes IsKeyNumber decimal) (λ key. Ends (Writes IsName itself) (λ name. (key, name)))
+abbrev IsNamed : List ℕ → ℕ × List ℕ → Type 0
+IsNamed = AreSplit (Writes IsKeyNumber decimal) (Writes IsName itself)
 
-named_back : (bytes : List ℕ) (x : ℕ × List ℕ) → Writes AreKeyAndName key_and_name_text bytes x → IsKeyAndName bytes x
-named_back bytes (key, name) is =
-    subst (λ (b : List ℕ). IsKeyAndName b (key, name)) (sym (is.1 ∙ joined_pair (decimal key) name))
-    (wrote key _ is.0.0 (ends name (is.0.1, refl)))
+named : (bytes : List ℕ) (key : ℕ) (name : List ℕ) → IsKeyNumber key → IsName name
+    → codes " " ++ bytes ≡ codes " " ++ decimal key ++ codes " " ++ name → IsNamed bytes (key, name)
+named bytes key name in_range is e =
+    subst (λ (b : List ℕ). IsNamed b (key, name)) (there_after _ _ bytes e (joined_named (decimal key) name))
+    (wrote key_numbers key _ in_range (is, refl))
 
-pub key_and_name : AreSame IsKeyAndName (Writes AreKeyAndName key_and_name_text)
-key_and_name = record { there = λ bytes x is. grind (arith, spelled, joined_pair); back = named_back }
-
--- and as fields
-abbrev IsNamed : (ℕ → List ℕ → Fields) → List ℕ → Fields → Type 0
-IsNamed made = Ends (Writes AreKeyAndName key_and_name_text) (λ x. made x.0 x.1)
-
-name_back : (bytes : List ℕ) (f : Fields) → AreAfter shapes.KeyAndName bytes f → IsNamed KeyAndName bytes f
+name_back : (bytes : List ℕ) (f : Fields) → AreAfter shapes.KeyAndName bytes f
+    → (x : ℕ × List ℕ) × IsNamed bytes x × (f ≡ KeyAndName x.0 x.1)
 name_back bytes (KeyAndName key name) is =
-    ends (key, name) (is.in_range, sym (there_after _ _ bytes is.text (joined_fields (decimal key) name)))
+    ((key, name), named bytes key name is.in_range.0 is.in_range.1 is.text, refl)
 name_back bytes f is = absurd (let other = is.shape_is in cc)
 
-pub names_after : AreSame (IsNamed KeyAndName) (AreAfter shapes.KeyAndName)
-names_after = record { there = λ bytes f is. grind (arith, joined_fields); back = name_back }
+pub key_and_name : Makes IsNamed (λ x. KeyAndName x.0 x.1) (AreAfter shapes.KeyAndName)
+key_and_name = record { there = λ bytes x is. grind (arith, spelled, joined_named); back = name_back }
 
-owner_back : (bytes : List ℕ) (f : Fields) → AreAfter shapes.KeyAndOwner bytes f → IsNamed KeyAndOwner bytes f
+owner_back : (bytes : List ℕ) (f : Fields) → AreAfter shapes.KeyAndOwner bytes f
+    → (x : ℕ × List ℕ) × IsNamed bytes x × (f ≡ KeyAndOwner x.0 x.1)
 owner_back bytes (KeyAndOwner key owner) is =
-    ends (key, owner) (is.in_range, sym (there_after _ _ bytes is.text (joined_fields (decimal key) owner)))
+    ((key, owner), named bytes key owner is.in_range.0 is.in_range.1 is.text, refl)
 owner_back bytes f is = absurd (let other = is.shape_is in cc)
 
-pub owners_after : AreSame (IsNamed KeyAndOwner) (AreAfter shapes.KeyAndOwner)
-owners_after = record { there = λ bytes f is. grind (arith, joined_fields); back = owner_back }
+pub key_and_owner : Makes IsNamed (λ x. KeyAndOwner x.0 x.1) (AreAfter shapes.KeyAndOwner)
+key_and_owner = record { there = λ bytes x is. grind (arith, spelled, joined_named); back = owner_back }
 
 -- a key's number, and how many approvals its destruction needs
-abbrev IsKeyAndNeed : List ℕ → Fields → Type 0
-IsKeyAndNeed = Then (Writes IsKeyNumber decimal) (λ key. Ends (Writes IsQuorum decimal) (KeyAndNeed key))
+abbrev IsNeeding : List ℕ → ℕ × ℕ → Type 0
+IsNeeding = AreSplit (Writes IsKeyNumber decimal) (Writes IsQuorum decimal)
 
-need_back : (bytes : List ℕ) (f : Fields) → AreAfter shapes.KeyAndNeed bytes f → IsKeyAndNeed bytes f
-need_back bytes (KeyAndNeed key need) is =
-    subst (λ (b : List ℕ). IsKeyAndNeed b (KeyAndNeed key need))
-    (there_after _ _ bytes is.text (joined_named (decimal key) (decimal need)))
-    (wrote key _ is.in_range.0 (ends need (is.in_range.1, refl)))
+need_back : (bytes : List ℕ) (f : Fields) → AreAfter shapes.KeyAndNeed bytes f
+    → (x : ℕ × ℕ) × IsNeeding bytes x × (f ≡ KeyAndNeed x.0 x.1)
+need_back bytes (KeyAndNeed key need) is = (
+  (key, need),
+  subst (λ (b : List ℕ). IsNeeding b (key, need))
+      (there_after _ _ bytes is.text (joined_named (decimal key) (decimal need)))
+      (wrote key_numbers key _ is.in_range.0 (is.in_range.1, refl)),
+  refl,
+)
 need_back bytes f is = absurd (let other = is.shape_is in cc)
 
-pub key_and_need : AreSame IsKeyAndNeed (AreAfter shapes.KeyAndNeed)
-key_and_need = record { there = λ bytes f is. grind (arith, spelled, joined_named); back = need_back }
+pub key_and_need : Makes IsNeeding (λ x. KeyAndNeed x.0 x.1) (AreAfter shapes.KeyAndNeed)
+key_and_need = record { there = λ bytes x is. grind (arith, spelled, joined_named); back = need_back }
 
--- a type, and the months of its period
-abbrev IsTypeAndPeriod : List ℕ → Fields → Type 0
-IsTypeAndPeriod =
-    Then (Writes IsAny key_type_text) (λ kind. Then (Writes (IsMonths 1) decimal) (λ originator.
-    Ends (Writes (IsMonths 0) decimal) (λ recipient. TypeAndPeriod kind (of_months originator recipient))))
+-- a type, and its period
+abbrev IsTyped : List ℕ → KeyType × Period → Type 0
+IsTyped = AreSplit (Writes IsAny key_type_text) (Writes IsPeriod period_text)
 
-period_back : (bytes : List ℕ) (f : Fields) → AreAfter shapes.TypeAndPeriod bytes f → IsTypeAndPeriod bytes f
-period_back bytes (TypeAndPeriod kind p) is =
-    let months = is.in_range in
-    subst (λ (b : List ℕ). IsTypeAndPeriod b (TypeAndPeriod kind p))
-    (there_after _ _ bytes is.text
-    (joined_revoke (key_type_text kind) (decimal p.originator) (decimal p.recipient)))
-    (wrote kind _ tt
-    (wrote p.originator _ (months.some, months.originator) (ends p.recipient ((omega arith, months.recipient), refl))))
-period_back bytes f is = absurd (let other = is.shape_is in cc)
+type_back : (bytes : List ℕ) (f : Fields) → AreAfter shapes.TypeAndPeriod bytes f
+    → (x : KeyType × Period) × IsTyped bytes x × (f ≡ TypeAndPeriod x.0 x.1)
+type_back bytes (TypeAndPeriod kind p) is =
+    let months = joined_pair (decimal p.originator) (decimal p.recipient) in (
+      (kind, p),
+      subst (λ (b : List ℕ). IsTyped b (kind, p))
+          (there_after _ _ bytes is.text
+          (joined_revoke (key_type_text kind) (decimal p.originator) (decimal p.recipient)))
+          (wrote key_types kind _ tt (is.in_range, sym months)),
+      refl,
+    )
+type_back bytes f is = absurd (let other = is.shape_is in cc)
 
-pub type_and_period : AreSame IsTypeAndPeriod (AreAfter shapes.TypeAndPeriod)
-type_and_period = record { there = λ bytes f is. grind (arith, spelled, joined_revoke); back = period_back }
+pub type_and_period : Makes IsTyped (λ x. TypeAndPeriod x.0 x.1) (AreAfter shapes.TypeAndPeriod)
+type_and_period = record { there = λ bytes x is. grind (arith, spelled, joined_revoke); back = type_back }
 
 -- the fields of a registration
-abbrev IsRegistration : List ℕ → Fields → Type 0
-IsRegistration =
-    Then (Writes IsAny key_type_text) (λ kind. Then (Writes IsName itself) (λ owner.
-    Then (Writes IsDate date_text) (λ activation. Then (Writes IsDate date_text) (λ protect_stop.
-    Then (Writes IsDate date_text) (λ deactivation.
-    Ends (Writes IsPurpose itself) (Registration kind owner activation protect_stop deactivation))))))
+abbrev Registered : Type 0
+Registered = KeyType × (List ℕ × (Option ℕ × (Option ℕ × (Option ℕ × List ℕ))))
 
-register_back : (bytes : List ℕ) (f : Fields) → AreAfter shapes.Registration bytes f → IsRegistration bytes f
+abbrev pub registered : Registered → Fields
+registered (kind, (owner, (activation, (protect_stop, (deactivation, purpose))))) =
+    Registration kind owner activation protect_stop deactivation purpose
+
+abbrev IsRegistered : List ℕ → Registered → Type 0
+IsRegistered =
+    AreSplit (Writes IsAny key_type_text)
+    (AreSplit (Writes IsName itself)
+    (AreSplit (Writes IsDate date_text)
+    (AreSplit (Writes IsDate date_text)
+    (AreSplit (Writes IsDate date_text) (Writes IsPurpose itself)))))
+
+register_back : (bytes : List ℕ) (f : Fields) → AreAfter shapes.Registration bytes f
+    → (x : Registered) × IsRegistered bytes x × (f ≡ registered x)
 register_back bytes (Registration k o a p d u) is =
-    let in_range = is.in_range in
-    subst (λ (b : List ℕ). IsRegistration b (Registration k o a p d u))
-    (there_after _ _ bytes is.text
-    (joined_register (key_type_text k) o (date_text a) (date_text p) (date_text d) u))
-    (wrote k _ tt (wrote o _ in_range.0 (wrote a _ in_range.1 (wrote p _ in_range.2 (wrote d _ in_range.3
-    (ends u (in_range.4, refl)))))))
+    let in_range = is.in_range in (
+      (k, (o, (a, (p, (d, u))))),
+      subst (λ (b : List ℕ). IsRegistered b (k, (o, (a, (p, (d, u))))))
+          (there_after _ _ bytes is.text
+          (joined_register (key_type_text k) o (date_text a) (date_text p) (date_text d) u))
+          (wrote key_types k _ tt (wrote names o _ in_range.0 (wrote dates a _ in_range.1 (wrote dates p _ in_range.2
+          (wrote dates d _ in_range.3 (in_range.4, refl)))))),
+      refl,
+    )
 register_back bytes f is = absurd (let other = is.shape_is in cc)
 
-pub registration : AreSame IsRegistration (AreAfter shapes.Registration)
-registration = record { there = λ bytes f is. grind (arith, spelled, joined_register); back = register_back }
+pub registration : Makes IsRegistered registered (AreAfter shapes.Registration)
+registration = record { there = λ bytes x is. grind (arith, spelled, joined_register); back = register_back }
 
 -- the fields of a change of dates
-abbrev AreEdits : List ℕ → Fields → Type 0
-AreEdits =
-    Then (Writes IsKeyNumber decimal) (λ key. Then (Writes IsEdit edit_text) (λ activation.
-    Then (Writes IsEdit edit_text) (λ protect_stop.
-    Ends (Writes IsEdit edit_text) (DateEdits key activation protect_stop))))
+abbrev Edited : Type 0
+Edited = ℕ × (Edit × (Edit × Edit))
 
-edits_back : (bytes : List ℕ) (f : Fields) → AreAfter shapes.DateEdits bytes f → AreEdits bytes f
+abbrev pub edited : Edited → Fields
+edited (key, (activation, (protect_stop, deactivation))) = DateEdits key activation protect_stop deactivation
+
+abbrev IsEdited : List ℕ → Edited → Type 0
+IsEdited =
+    AreSplit (Writes IsKeyNumber decimal)
+    (AreSplit (Writes IsEdit edit_text) (AreSplit (Writes IsEdit edit_text) (Writes IsEdit edit_text)))
+
+edits_back : (bytes : List ℕ) (f : Fields) → AreAfter shapes.DateEdits bytes f
+    → (x : Edited) × IsEdited bytes x × (f ≡ edited x)
 edits_back bytes (DateEdits key a p d) is =
-    let in_range = is.in_range in
-    subst (λ (b : List ℕ). AreEdits b (DateEdits key a p d))
-    (there_after _ _ bytes is.text (joined_edits (decimal key) (edit_text a) (edit_text p) (edit_text d)))
-    (wrote key _ in_range.0 (wrote a _ in_range.1 (wrote p _ in_range.2 (ends d (in_range.3, refl)))))
+    let in_range = is.in_range in (
+      (key, (a, (p, d))),
+      subst (λ (b : List ℕ). IsEdited b (key, (a, (p, d))))
+          (there_after _ _ bytes is.text (joined_edits (decimal key) (edit_text a) (edit_text p) (edit_text d)))
+          (wrote key_numbers key _ in_range.0 (wrote edits a _ in_range.1
+          (wrote edits p _ in_range.2 (in_range.3, refl)))),
+      refl,
+    )
 edits_back bytes f is = absurd (let other = is.shape_is in cc)
 
-pub date_edits : AreSame AreEdits (AreAfter shapes.DateEdits)
-date_edits = record { there = λ bytes f is. grind (arith, spelled, joined_edits); back = edits_back }
+pub date_edits : Makes IsEdited edited (AreAfter shapes.DateEdits)
+date_edits = record { there = λ bytes x is. grind (arith, spelled, joined_edits); back = edits_back }
 
 -- the fields of a revocation
-abbrev IsRevocation : List ℕ → Fields → Type 0
-IsRevocation =
-    Then (Writes IsKeyNumber decimal) (λ key. Then (Writes IsAny reason_text) (λ reason.
-    Ends (Writes (IsOccurrence reason) date_text) (Revocation key reason)))
+abbrev Revoked : Type 0
+Revoked = ℕ × (Reason × Option ℕ)
 
-revoke_back : (bytes : List ℕ) (f : Fields) → AreAfter shapes.Revocation bytes f → IsRevocation bytes f
+abbrev pub revoked : Revoked → Fields
+revoked (key, (reason, occurrence)) = Revocation key reason occurrence
+
+abbrev IsRevoked : List ℕ → Revoked → Type 0
+IsRevoked =
+    AreSplit (Writes IsKeyNumber decimal) (AreSplit (Writes IsAny reason_text) (Writes IsDate date_text))
+
+-- an occurrence is that of a compromise
+abbrev HasCause : Revoked → Type 0
+HasCause (key, (reason, occurrence)) = is_compromise reason ≡ false → occurrence ≡ None
+
+cause_or_not : (x : Revoked) → HasCause x ⊎ (HasCause x → ⊥)
+cause_or_not (key, (reason, None)) = inl (λ no. refl)
+cause_or_not (key, (reason, Some date)) = by (is_compromise reason) refl
+  where
+    by : (check : Bool) → is_compromise reason ≡ check
+        → HasCause (key, (reason, Some date)) ⊎ (HasCause (key, (reason, Some date)) → ⊥)
+    by true e = inl (λ no. absurd cc)
+    by false e = inr (λ cause. let unset = cause e in absurd cc)
+
+revoked_exact : IsExact IsRevoked
+revoked_exact = split_exact key_numbers.exact (split_exact reasons.exact dates.exact)
+
+revoke_back : (bytes : List ℕ) (f : Fields) → AreAfter shapes.Revocation bytes f
+    → (x : Revoked) × Only IsRevoked HasCause bytes x × (f ≡ revoked x)
 revoke_back bytes (Revocation key r o) is =
-    let in_range = is.in_range in
-    subst (λ (b : List ℕ). IsRevocation b (Revocation key r o))
-    (there_after _ _ bytes is.text (joined_revoke (decimal key) (reason_text r) (date_text o)))
-    (wrote key _ in_range.0 (wrote r _ tt (ends o ((in_range.1, in_range.2), refl))))
+    let in_range = is.in_range in (
+      (key, (r, o)),
+      (
+        subst (λ (b : List ℕ). IsRevoked b (key, (r, o)))
+            (there_after _ _ bytes is.text (joined_revoke (decimal key) (reason_text r) (date_text o)))
+            (wrote key_numbers key _ in_range.0 (wrote reasons r _ tt (in_range.1, refl))),
+        in_range.2,
+      ),
+      refl,
+    )
 revoke_back bytes f is = absurd (let other = is.shape_is in cc)
 
-pub revocation : AreSame IsRevocation (AreAfter shapes.Revocation)
-revocation = record { there = λ bytes f is. grind (arith, spelled, joined_revoke); back = revoke_back }
+pub revocation : Makes (Only IsRevoked HasCause) revoked (AreAfter shapes.Revocation)
+revocation = record { there = λ bytes x is. grind (arith, spelled, joined_revoke); back = revoke_back }
+
+pub no_cause : (bytes : List ℕ) (x : Revoked) → IsRevoked bytes x → (HasCause x → ⊥)
+    → StandsFor (AreAfter shapes.Revocation) bytes None
+no_cause bytes x is other =
+    made_stands revocation bytes None (only_not IsRevoked HasCause revoked_exact bytes x is other)
+
+pub no_revocation : (bytes : List ℕ) → StandsFor IsRevoked bytes None
+    → StandsFor (AreAfter shapes.Revocation) bytes None
+no_revocation bytes none = made_stands revocation bytes None (only_none IsRevoked HasCause bytes none)
 
 -- no space stands after a word that has no fields
 nothing_after : (bytes : List ℕ) (f : Fields) → AreAfter shapes.Nothing bytes f → ⊥
 nothing_after bytes Nothing is = absurd (let other = is.text in cc)
 nothing_after bytes f is = absurd (let other = is.shape_is in cc)
 
-keys_and_names : IsExact (Writes AreKeyAndName key_and_name_text)
-keys_and_names = same_exact key_and_name (then_exact key_numbers (λ _. ends_exact names.exact))
+named_exact : IsExact IsNamed
+named_exact = split_exact key_numbers.exact names.exact
 
--- the texts of each shape, field after field
+-- the texts of each shape
 shaped : (shape : Shape) → IsExact (AreAfter shape)
 shaped shapes.Nothing = record {
   one = λ bytes f g p q. absurd (nothing_after bytes f p);
   has = λ bytes. (None, nothing_after bytes);
 }
-shaped shapes.Key = same_exact key_alone (ends_exact key_numbers.exact)
-shaped shapes.KeyAndName = same_exact names_after (ends_exact keys_and_names)
-shaped shapes.KeyAndOwner = same_exact owners_after (ends_exact keys_and_names)
-shaped shapes.KeyAndNeed = same_exact key_and_need (then_exact key_numbers (λ _. ends_exact quorums.exact))
-shaped shapes.TypeAndPeriod =
-    same_exact type_and_period (then_exact key_types (λ _. then_exact (months 1) (λ _. ends_exact (months 0).exact)))
+shaped shapes.Key = made_exact key_alone key_numbers.exact
+shaped shapes.KeyAndName = made_exact key_and_name named_exact
+shaped shapes.KeyAndOwner = made_exact key_and_owner named_exact
+shaped shapes.KeyAndNeed = made_exact key_and_need (split_exact key_numbers.exact quorums.exact)
+shaped shapes.TypeAndPeriod = made_exact type_and_period (split_exact key_types.exact periods)
 shaped shapes.Registration =
-    same_exact registration (then_exact key_types (λ _. then_exact names (λ _. then_exact dates (λ _. then_exact dates
-    (λ _. then_exact dates (λ _. ends_exact purposes))))))
+    made_exact registration (split_exact key_types.exact (split_exact names.exact
+    (split_exact dates.exact (split_exact dates.exact (split_exact dates.exact purposes)))))
 shaped shapes.DateEdits =
-    same_exact date_edits
-    (then_exact key_numbers (λ _. then_exact edits (λ _. then_exact edits (λ _. ends_exact edits.exact))))
-shaped shapes.Revocation =
-    same_exact revocation (then_exact key_numbers (λ _. then_exact reasons (λ reason. ends_exact (occurrences reason))))
+    made_exact date_edits
+    (split_exact key_numbers.exact (split_exact edits.exact (split_exact edits.exact edits.exact)))
+shaped shapes.Revocation = made_exact revocation (only_exact _ _ revoked_exact cause_or_not)
 
 -- fields whose text is empty
 only_nothing : (f : Fields) → [] ≡ fields_text f → f ≡ Nothing
@@ -370,44 +488,52 @@ commands = record { one = same_command; has = command_has }
 
 -- ---- lines
 
-abbrev request_by : ℕ → List ℕ → ℕ → Command → Request
-request_by moment caller number command =
+abbrev Requested : Type 0
+Requested = ℕ × (List ℕ × (ℕ × Command))
+
+abbrev pub requested : Requested → Request
+requested (moment, (caller, (number, command))) =
     record { moment = moment; caller = caller; number = number; command = command }
 
 -- the fields of a line
-abbrev IsRequested : List ℕ → Request → Type 0
+abbrev IsRequested : List ℕ → Requested → Type 0
 IsRequested =
-    Then (Writes IsMoment decimal) (λ moment. Then (Writes IsName itself) (λ caller.
-    Then (Writes IsNumber decimal) (λ number. Ends IsCommandText (request_by moment caller number))))
+    AreSplit (Writes IsMoment decimal)
+    (AreSplit (Writes IsName itself) (AreSplit (Writes IsNumber decimal) IsCommandText))
 
-request_back : (bytes : List ℕ) (q : Request) → IsRequestText bytes q → IsRequested bytes q
+request_back : (bytes : List ℕ) (q : Request) → Writes IsRequest request_text bytes q
+    → (x : Requested) × IsRequested bytes x × (q ≡ requested x)
 request_back bytes q is =
-    let in_range = is.request in
-    let same = is.text ∙ joined_request (decimal q.moment) q.caller (decimal q.number) (command_text q.command) in
-    subst (λ (b : List ℕ). IsRequested b q) (sym same)
-    (wrote q.moment _ in_range.moment (wrote q.caller _ in_range.caller (wrote q.number _ in_range.number
-    (ends q.command (in_range.command, refl)))))
+    let in_range = is.0 in
+    let x : Requested = (q.moment, (q.caller, (q.number, q.command))) in
+    let same = is.1 ∙ joined_request (decimal q.moment) q.caller (decimal q.number) (command_text q.command) in (
+      x,
+      subst (λ (b : List ℕ). IsRequested b x) (sym same)
+          (wrote moments q.moment _ in_range.moment (wrote names q.caller _ in_range.caller
+          (wrote request_numbers q.number _ in_range.number (in_range.command, refl)))),
+      refl,
+    )
 
-pub request : AreSame IsRequested IsRequestText
-request = record { there = λ bytes q is. grind (arith, spelled, joined_request); back = request_back }
+pub request : Makes IsRequested requested (Writes IsRequest request_text)
+request = record { there = λ bytes x is. grind (arith, spelled, joined_request); back = request_back }
 
-requests : IsExact IsRequestText
+requests : IsExact (Writes IsRequest request_text)
 requests =
-    same_exact request
-    (then_exact moments (λ _. then_exact names (λ _. then_exact request_numbers (λ _. ends_exact commands))))
+    made_exact request
+    (split_exact moments.exact (split_exact names.exact (split_exact request_numbers.exact commands)))
 
 -- a line that is not too long stands for the request whose text it is
 pub within_stands : (line : List ℕ) → length line ≤ max_line_length → (o : Option Request)
-    → StandsFor IsRequestText line o → IsItem line o
-within_stands line within None none = λ q is. none q (record { request = is.request; text = is.text })
-within_stands line within (Some q) is = record { request = is.request; within = within; text = is.text }
+    → StandsFor (Writes IsRequest request_text) line o → IsItem line o
+within_stands line within None none = λ q is. none q (is.request, is.text)
+within_stands line within (Some q) is = record { request = is.0; within = within; text = is.1 }
 
 -- Each line stands for an item.
 pub item_has : (line : List ℕ) → (o : Option Request) × IsItem line o
 item_has line = by (nat_le (length line) max_line_length) refl (requests.has line)
   where
     by : (check : Bool) → nat_le (length line) max_line_length ≡ check
-        → (o : Option Request) × StandsFor IsRequestText line o → (o : Option Request) × IsItem line o
+        → (o : Option Request) × StandsFor (Writes IsRequest request_text) line o → (o : Option Request) × IsItem line o
     by true e found = (found.0, within_stands line (leb-true _ _ e) found.0 found.1)
     by false e found = (
       None,
@@ -418,5 +544,4 @@ item_has line = by (nat_le (length line) max_line_length) refl (requests.has lin
 -- No bytes are the line of two requests.
 pub same_request : (line : List ℕ) (p q : Request) → IsLineOf line p → IsLineOf line q → p ≡ q
 same_request line p q is other =
-    requests.one line p q (record { request = is.request; text = is.text })
-    (record { request = other.request; text = other.text })
+    requests.one line p q (is.request, is.text) (other.request, other.text)

@@ -10,6 +10,7 @@
 mod command_fields;
 mod command_format;
 mod command_rule;
+mod field_values;
 mod request;
 mod request_line;
 mod request_reading;
@@ -19,9 +20,10 @@ mod version;
 pub use command_fields::{CommandKind, Fields, MAX_WORD_LENGTH, Shape};
 pub use command_format::{CommandText, MAX_COMMAND_LENGTH, command_text, put_number};
 pub use command_rule::{Giver, KeyPart, OFFICE, Rule};
+pub use field_values::{read_decimal, read_key_number, read_request_number};
 pub use request::{Command, Edit, Request};
 pub use request_line::{MAX_LINE_LENGTH, read_request};
-pub use request_reading::{read_command, read_decimal, read_key_number, read_request_number};
+pub use request_reading::read_command;
 pub use values::{
     MAX_APPROVALS, MAX_NAME_LENGTH, MAX_PURPOSE_LENGTH, MAX_REQUEST_NUMBER, MIN_APPROVALS, Name,
     Purpose, Quorum, RequestNumber,

@@ -1,16 +1,13 @@
 -- What functions within the crate say of the fields that they read.
-use Rattle.std.specs.Prelude.{◌≡◌, ℕ, ◌≤◌, ◌==◌, Bool, true, false, not, List, [], ◌∷◌, ◌++◌, codes, decimal}
+use Rattle.std.specs.Prelude.{◌≡◌, ℕ, ◌<◌, ◌^◌, ◌==◌, Bool, true, not, List, [], ◌∷◌, ◌++◌, codes, decimal}
 use Rattle.std.specs.Prelude.{Option, None, Some}
 use Rattle.std.specs.List.{list_all}
 use Rattle.lifecycle_core.specs.declared.reason.Reason.{Reason}
-use Rattle.lifecycle_core.specs.Reason.{reason_code, is_compromise}
-use Rattle.period_core.specs.Period.{max_months}
+use Rattle.lifecycle_core.specs.Reason.{reason_code}
+use Rattle.period_core.specs.Period.{Period}
 use Rattle.register_requests.specs.declared.command_fields.Fields.{Fields}
 use Rattle.register_requests.specs.declared.command_fields.Shape.{Shape}
-use Rattle.register_requests.specs.declared.request.Request.{Request}
-use Rattle.register_requests.specs.Name.{IsName}
-use Rattle.register_requests.specs.Request.{AreFieldsInRange, IsDate, IsKeyNumber, IsRequest}
-use Rattle.register_requests.specs.Request.{fields_text, request_text}
+use Rattle.register_requests.specs.Request.{AreFieldsInRange, fields_text}
 use Rattle.register_requests.specs.Within.Fields.{shape_of}
 
 -- ---- the text of one field
@@ -27,17 +24,13 @@ IsAny x = Unit {0}
 abbrev pub itself : List ℕ → List ℕ
 itself bytes = bytes
 
--- a number of months, from the least on
-abbrev pub IsMonths : ℕ → ℕ → Type 0
-IsMonths least months = (least ≤ months) × (months ≤ max_months)
+-- a number of two bytes
+abbrev pub IsShort : ℕ → Type 0
+IsShort n = n < 2 ^ 16
 
 -- a reason is written by its code
 abbrev pub reason_text : Reason → List ℕ
 reason_text reason = decimal (reason_code reason)
-
--- an occurrence with its reason
-abbrev pub IsOccurrence : Reason → Option ℕ → Type 0
-IsOccurrence reason occurrence = IsDate occurrence × (is_compromise reason ≡ false → occurrence ≡ None)
 
 -- ---- a field, and what stands after its space
 
@@ -47,20 +40,25 @@ is_space byte = byte == 32
 abbrev pub HasNoSpace : List ℕ → Type 0
 HasNoSpace bytes = list_all (λ byte. not (is_space byte)) bytes ≡ true
 
--- the bytes begin with the text of a value and a space, after which stands what is left
-pub record Before {A : Type 0} (IsText : List ℕ → A → Type 0) (bytes : List ℕ) (taken : A × List ℕ) : Type 0 where
+-- the bytes are the text of a value, which has no space in it, a space, and the text of another value
+pub record AreSplit {A B : Type 0} (IsFirst : List ℕ → A → Type 0) (IsSecond : List ℕ → B → Type 0) (bytes : List ℕ)
+    (both : A × B) : Type 0 where
   pub field : List ℕ
-  pub is_text : IsText field taken.0
-  pub split : bytes ≡ field ++ (32 ∷ taken.1)
+  pub rest : List ℕ
+  pub solid : HasNoSpace field
+  pub split : bytes ≡ field ++ (32 ∷ rest)
+  pub first : IsFirst field both.0
+  pub second : IsSecond rest both.1
+
+-- the text of whatever it is
+abbrev pub IsItself : List ℕ → List ℕ → Type 0
+IsItself = Writes IsAny itself
 
 -- ---- the fields of a command, and of a line
 
--- a key's number and a name after it
-abbrev pub key_and_name_text : ℕ × List ℕ → List ℕ
-key_and_name_text (key, name) = decimal key ++ codes " " ++ name
-
-abbrev pub AreKeyAndName : ℕ × List ℕ → Type 0
-AreKeyAndName (key, name) = IsKeyNumber key × IsName name
+-- a period is written by its months, with a space between
+abbrev pub period_text : Period → List ℕ
+period_text p = decimal p.originator ++ codes " " ++ decimal p.recipient
 
 -- the bytes are the text of fields of this shape
 pub record AreFieldsOf (shape : Shape) (bytes : List ℕ) (fields : Fields) : Type 0 where
@@ -72,8 +70,3 @@ pub record AreFieldsOf (shape : Shape) (bytes : List ℕ) (fields : Fields) : Ty
 abbrev pub after_word : Option (List ℕ) → List ℕ
 after_word None = []
 after_word (Some fields) = codes " " ++ fields
-
--- the bytes are the text of the request, however long it is
-pub record IsRequestText (bytes : List ℕ) (q : Request) : Type 0 where
-  pub request : IsRequest q
-  pub text : bytes ≡ request_text q

@@ -5,7 +5,7 @@ use Rattle.std.specs.Str.{bytes_eq}
 use Rattle.std.proofs.lemmas.Str.{IsUtf8-from_ascii}
 use Rattle.std.proofs.lemmas.Fmt.{IsAscii-decimal, parse-decimal}
 use Rattle.std.proofs.lemmas.Slice.Eq.{bytes_eq-Decides}
-use Rattle.register_requests.proofs.request_reading.read_decimal.Goals as goal
+use Rattle.register_requests.proofs.field_values.read_decimal.Goals as goal
 
 utf8_from_decimal : (n : ℕ) (field : List ℕ) → n < 2 ^ 64 → field ≡ decimal n → IsUtf8 field
 utf8_from_decimal n field lt e = rw e (IsUtf8-from_ascii (decimal n) (IsAscii-decimal n lt))

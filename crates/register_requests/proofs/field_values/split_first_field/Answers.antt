@@ -1,7 +1,7 @@
 use Rattle.std.proofs.Common.{arith}
 use Rattle.std.proofs.lemmas.Grind.{common_steps}
 use Rattle.register_requests.proofs.Texts.{no_field, split_there}
-use Rattle.register_requests.proofs.request_reading.split_first_field.Goals as goal
+use Rattle.register_requests.proofs.field_values.split_first_field.Goals as goal
 
 pub returns : goal.returns
 returns c =
