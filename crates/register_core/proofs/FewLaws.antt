@@ -27,7 +27,7 @@ use Rattle.register_core.specs.Fold.{IsLawful, IsLawfulIn}
 use Rattle.register_core.proofs.Histories.{count_grows}
 use Rattle.register_core.proofs.Refusals.{passes}
 use Rattle.register_core.proofs.Decisions.{standing, there}
-use Rattle.register_core.proofs.CustodyLeads.{not_refused, kept_custodians, custody_lead}
+use Rattle.register_core.proofs.CustodyLeads.{kept_custodians, custody_lead}
 use Rattle.register_core.proofs.CustodyStay.{custody_made, custody_other}
 use Rattle.register_core.proofs.CustodyLaws.{nobody_yet}
 use Rattle.register_core.proofs.Walks.{names_joined}

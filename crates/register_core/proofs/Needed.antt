@@ -71,8 +71,9 @@ changed_so h q accepted = grind (arith, nat_tests)
 -- its judgement is the history's
 pub judged_by : (h : List Request) (view : View) (q : Request) → Suffices view h q → judge_view view q ≡ judgement h q
 judged_by h view q is =
+    let period_is = so_for _ view.period (set_period h) is.period_is in
     cc (
-      judge_by view.latest view.keys (period_or_default view.period) (period h) view.key q (so_for _ view.period (set_period h) is.period_is),
+      judge_by view.latest view.keys (period_or_default view.period) (period h) view.key q period_is,
       is.latest_is,
       is.keys_are,
       is.key_is,
@@ -84,9 +85,10 @@ pub needed_agrees : (h : List Request) (view : View) (q : Request) → Suffices 
     (reply_of_view view q ≡ reply h q) × LeadsTo h q (change_by_request (period_or_default view.period) view.key q)
 needed_agrees h view q is accepted =
     let judged : judgement h q ≡ None = sym (judged_by h view q is) ∙ accepted in
+    let period_is = so_for _ view.period (set_period h) is.period_is in
     agrees_as h q view.keys (change_by_request (period_or_default view.period) view.key q) is.keys_are
     (cc (
-      changed_by (period_or_default view.period) (period h) view.key q (so_for _ view.period (set_period h) is.period_is),
+      changed_by (period_or_default view.period) (period h) view.key q period_is,
       is.key_is,
       changed_so h q judged,
     ))

@@ -24,7 +24,6 @@ use Rattle.register_core.proofs.Histories.{count_grows, dates_made}
 use Rattle.register_core.proofs.CustodyLeads.{IsNew}
 use Rattle.register_core.proofs.Refusals.{passes}
 use Rattle.register_core.proofs.Decisions.{standing, is_there, unknown_named, new_names}
-use Rattle.std.proofs.lemmas.Bool.Decides.{nat_tests}
 
 -- ---- an accepted request that names key k
 

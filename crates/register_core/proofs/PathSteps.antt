@@ -135,7 +135,8 @@ revoked_path d t true occurrence fits_state = compromised_by (state_at d t) d t 
 revoked_path d t false occurrence fits_state = deactivated_path d t (is_active (state_at d t) fits_state)
 
 pub path_named : (period : Period) (d : Dates) (t k : ℕ) (c : Command) → named c ≡ Some k
-    → is_one_of (rule c).states (state_at d t) ≡ true → MovesOnly d t (dates_after period d t c) → Goes d t (dates_after period d t c)
+    → is_one_of (rule c).states (state_at d t) ≡ true → MovesOnly d t (dates_after period d t c)
+    → Goes d t (dates_after period d t c)
 path_named period d t k (Registers of_kind owner activation protect_stop deactivation purpose) names fits_state moves
     = cc
 path_named period d t k (Activate n) names fits_state moves = grind (arith, activated_path)

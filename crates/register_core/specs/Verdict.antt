@@ -73,7 +73,7 @@ key_refusal (Some held) c = None
 abbrev pub office : List ℕ
 office = codes "office"
 
--- the caller is another than the one who may give the command; of a key that is not there nobody is
+-- the caller is another than the one who may give the command (of a key that is not there key_refusal speaks)
 abbrev pub giver_refusal : Giver → Option Held → List ℕ → Option Refusal
 giver_refusal Office key caller = if bytes_eq caller office then None else Some NotOffice
 giver_refusal Owner (Some held) caller = if bytes_eq caller held.owner then None else Some NotOwner

@@ -100,32 +100,8 @@ query_of search = select_plain (search_text search) (due_select search)
 
 pub search_is : (search : DueSearch) → IsDueSearch (search_text search) (passes_of search)
 unfolding everything first
-search_is SameStop l = record {
-  p = _;
-  select = _;
-  d = _;
-  by = _;
-  parsed = refl;
-  untimed = refl;
-  is = refl;
-  drafted = refl;
-  same = refl;
-  from = refl;
-  accepted = refl;
-}
-search_is search l = record {
-  p = _;
-  select = _;
-  d = _;
-  by = _;
-  parsed = refl;
-  untimed = refl;
-  is = refl;
-  drafted = refl;
-  same = refl;
-  from = refl;
-  accepted = refl;
-}
+search_is SameStop l = record { p = _; select = _; d = _; by = _; parsed = refl; untimed = refl; is = refl; drafted = refl; same = refl; from = refl; accepted = refl }
+search_is search l = record { p = _; select = _; d = _; by = _; parsed = refl; untimed = refl; is = refl; drafted = refl; same = refl; from = refl; accepted = refl }
 
 -- ---- places
 

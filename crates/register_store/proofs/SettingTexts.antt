@@ -47,39 +47,11 @@ needs = record {
 
 clears_periods : Clears periods
 unfolding everything first
-clears_periods l = record {
-  p = _;
-  name = _;
-  check = _;
-  d = _;
-  parsed = refl;
-  untimed = refl;
-  is = refl;
-  named = refl;
-  there = refl;
-  drafted = refl;
-  same = refl;
-  from = refl;
-  accepted = refl;
-}
+clears_periods l = record { p = _; name = _; check = _; d = _; parsed = refl; untimed = refl; is = refl; named = refl; there = refl; drafted = refl; same = refl; from = refl; accepted = refl }
 
 clears_needs : Clears needs
 unfolding everything first
-clears_needs l = record {
-  p = _;
-  name = _;
-  check = _;
-  d = _;
-  parsed = refl;
-  untimed = refl;
-  is = refl;
-  named = refl;
-  there = refl;
-  drafted = refl;
-  same = refl;
-  from = refl;
-  accepted = refl;
-}
+clears_needs l = record { p = _; name = _; check = _; d = _; parsed = refl; untimed = refl; is = refl; named = refl; there = refl; drafted = refl; same = refl; from = refl; accepted = refl }
 
 puts_periods : Puts periods
 unfolding understood everything
@@ -91,35 +63,11 @@ puts_needs l = (refl, (refl, refl))
 
 finds_periods : Finds periods
 unfolding everything first
-finds_periods l = record {
-  p = _;
-  select = _;
-  d = _;
-  by = _;
-  parsed = refl;
-  untimed = refl;
-  is = refl;
-  drafted = refl;
-  same = refl;
-  from = refl;
-  accepted = refl;
-}
+finds_periods l = record { p = _; select = _; d = _; by = _; parsed = refl; untimed = refl; is = refl; drafted = refl; same = refl; from = refl; accepted = refl }
 
 finds_needs : Finds needs
 unfolding everything first
-finds_needs l = record {
-  p = _;
-  select = _;
-  d = _;
-  by = _;
-  parsed = refl;
-  untimed = refl;
-  is = refl;
-  drafted = refl;
-  same = refl;
-  from = refl;
-  accepted = refl;
-}
+finds_needs l = record { p = _; select = _; d = _; by = _; parsed = refl; untimed = refl; is = refl; drafted = refl; same = refl; from = refl; accepted = refl }
 
 -- ---- what is proved of them
 

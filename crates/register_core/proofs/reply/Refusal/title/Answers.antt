@@ -1,5 +1,5 @@
 use Rattle.std.proofs.Common.{sym, ap}
-use Rattle.register_core.specs.Reply.{Title, refusal_title}
+use Rattle.register_core.specs.Reply.{refusal_title}
 use Rattle.register_core.specs.declared.reply.Refusal.{Refusal}
 use Rattle.register_core.proofs.reply.Refusal.title.Goals as goal
 
