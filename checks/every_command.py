@@ -11,8 +11,10 @@
   count from 1. So are the rows of docs/FAULTS.md. The steps of the database that a test expects of each line are those
   of the rule that stands there in words.
 
-Each difference is told, with what should stand there. Build the program first: ./keyreg </dev/null
+Each difference is told, with what should stand there. Where the program is not built it is not asked, which is a fault
+too: ./keyreg </dev/null builds it.
 """
+import os
 import re
 import sys
 from difflib import SequenceMatcher
@@ -20,13 +22,17 @@ from typing import Iterator
 
 from answers import reply_line
 from day import DAY, SHORT, Asked, alone
-from registers import TOP, keyreg
+from registers import PROGRAM, TOP, keyreg
 from register_rules import COMPROMISES, FORMS, Key, Refused, Register
 
+HAS_PROGRAM = os.access(PROGRAM, os.X_OK)
 REPEATS, STEPS, TRIALS = (f"crates/test_{name}.rt" for name in (
     "desk_trials/src/repeats", "desk_trials/src/steps", "fault_trials/src/requests"))
-# The commands whose refusals look at a key's custodians and approvals, and those that change one of these lists.
+# The commands whose refusals look at a key's custodians and approvals.
 LOOKS = {"assign", "add-custodian", "remove-custodian", "approve", "withdraw", "destroy"}
+# Of the former those that look at how many approvals are needed too.
+NEEDS = {"destroy"}
+# Those that change one of these lists.
 CHANGES = {"add-custodian", "remove-custodian", "approve", "withdraw"}
 
 
@@ -52,9 +58,11 @@ def document_kinds() -> set[str]:
 def reply_faults(name: str, day: list[Asked]) -> Iterator[str]:
     """Where the rules or the program answer otherwise than stands there, or otherwise when the day is sent again."""
     day = day * 2
-    register, replies = Register(), keyreg([], [asked.text for asked in day])
-    for asked, told in zip(day, replies, strict=True):
-        for who, reply in (("the rules", reply_line(register, *asked.request[:4])), ("the program", told)):
+    register = Register()
+    by_rules = [reply_line(register, *asked.request[:4]) for asked in day]
+    by_program = keyreg([], [asked.text for asked in day]) if HAS_PROGRAM else by_rules
+    for asked, *replies in zip(day, by_rules, by_program, strict=True):
+        for who, reply in zip(("the rules", "the program"), replies):
             if reply != asked.reply:
                 yield f"{name}: {asked.text}: {asked.reply!r} stands beside it, and {who} say {reply!r}"
 
@@ -103,18 +111,22 @@ def stands_fault(day: list[Asked]) -> Iterator[str]:
 
 # ---- the steps of each line
 
-def steps_of(asked: Asked, key: Key | None) -> int:
-    """How many steps of the database an accepted line takes, by the key before it. No period of a type is set."""
+def steps_of(asked: Asked, key: Key | None, latest: int) -> int:
+    """How many steps of the database an accepted line takes, by the key and the latest moment before it. No period of a
+    type is set."""
     word = asked.request.word
-    # A search for what is kept, a transaction, the updates of due keys, the rows of the request and of meta.
-    steps = 1 + 2 + 2 + 2
+    # A search for what is kept, a transaction, the updates of due keys where time has passed, the rows of the request
+    # and of meta.
+    steps = 1 + 2 + 2 * (asked.request.moment > latest) + 2
     if key:
         steps += 2 + 1
     if key and word in LOOKS:
         steps += 1 + len(key.custodians) + 1 + len(key.approvals)
+    if key and word in NEEDS:
+        steps += 1 + key.has_set_need
     steps += (word in CHANGES) + (word == "register")
     # What is looked up in the tables of needs and periods, or written there.
-    return steps + {"destroy": 2, "set-quorum": 2, "set-period": 2, "register": 1, "activate": 1, "set": 1}.get(word, 0)
+    return steps + {"set-quorum": 2, "set-period": 2, "register": 1, "activate": 1, "set": 1}.get(word, 0)
 
 
 def step_faults(day: list[Asked]) -> Iterator[str]:
@@ -123,7 +135,7 @@ def step_faults(day: list[Asked]) -> Iterator[str]:
     if len(found) != len(day):
         yield f"{STEPS}: STEPS has {len(found)} numbers, and the table {len(day)} lines"
     for place, asked in enumerate(day):
-        wanted = steps_of(asked, register.keys.get(asked.request.named))
+        wanted = steps_of(asked, register.keys.get(asked.request.named), register.latest)
         try:
             register.answer(asked.request)
         except Refused:
@@ -147,6 +159,7 @@ def main() -> int:
     faults += table_faults(REPEATS, rows_in(REPEATS, "DAY"), list(map(repeats_row, repeats)))
     faults += table_faults(TRIALS, rows_in(TRIALS, "DAY"), [(asked.text, asked.reply) for asked in trials])
     faults += [*stands_fault(repeats), *step_faults(repeats), *document_faults(trials)]
+    faults += [] if HAS_PROGRAM else [f"no program at {PROGRAM}, so it was not asked: ./keyreg </dev/null builds it"]
     print(*faults, sep="\n", end="\n" if faults else "")
     print(f"{len(DAY)} lines with {len(document_kinds())} kinds of request, of which tables of crates have "
           f"{len(repeats)} and {len(trials)}: {len(faults)} faults")
