@@ -386,26 +386,32 @@ def is_ours(key):
 
 
 def in_order(root):
-    """The definitions that this one stands on, crate by crate from the top, in each by first use; and the kit's."""
-    named, kit, seen = {}, {}, set()
+    """The definitions that this one stands on, crate by crate from the top, each with those of its crate that it names
+    first right below it; and the kit's."""
+    named, found, kit = {}, {}, {}
 
-    def mention(names):
-        for key in names:
-            if not is_ours(key):
-                kit[key] = None
-            elif key not in seen:
-                seen.add(key)
-                named.setdefault(key.crate, []).append(key)
+    def mention(key):
+        of = named.setdefault(key.crate, {}) if is_ours(key) else kit
+        of.setdefault(key)
 
-    mention(root.names)
-    found = []
+    def stand(key):
+        if key in found:
+            return
+        found[key] = definition(key)
+        for name in found[key].names:
+            if name.crate == key.crate:
+                stand(name)
+            else:
+                mention(name)
+
+    for key in root.names:
+        mention(key)
     for crate in reversed(list(sources.stands_on())):
-        for key in named.get(crate, []):
-            found.append(definition(key))
-            mention(found[-1].names)
-    if len(found) != len(seen):
+        for key in named.get(crate, ()):
+            stand(key)
+    if any(key not in found for keys in named.values() for key in keys):
         raise ValueError("a definition names one of a crate above its own")
-    return found, list(kit)
+    return list(found.values()), list(kit)
 
 
 # ---- what no public contract reaches

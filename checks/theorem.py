@@ -24,6 +24,9 @@ from sources import read
 
 # The law whose contract is the theorem: its file, and its name.
 ROOT = ("crates/register_program/src/laws.rt", "register_is_found_again")
+# The contracts that tie it to the code, which the page shows as they stand.
+STEP = (("crates/register_program/src/acting.rt", "perform_task"),
+        ("crates/register_program/src/laws.rt", "tasks_are_lives"))
 PAGE = "docs/THEOREM.md"
 # How a comment begins that goes on from the one above it.
 GOES_ON = re.compile(r"(?:and|or|nor|then|such|the same(?! day)|that of|two (?:that|of)|at the (?:least|most)|any of"
@@ -37,17 +40,23 @@ HEAD = """\
 {says}
 
 The theorem below says so, of any runs of the program over one register's files: request lines, imports, exports,
-reports, served exchanges, creations, refusals, and words that are none. It takes of each run that its task leads so
-(`LeadsFrom`). The law `performed_runs_are_found_again` is the same theorem of runs whose tasks were done as the
-contract of `perform_task` has it (`Performs`), whatever the files held; it stands on half as many definitions again,
-of exports, reports, refusals and what an opening checks, which this page leaves out. `act` calls `perform_task` once
-with the files handed over. Those of each run are a `Files` of its own, whose `start` is what the run found. What an
-opening does (`OpensRegister`) is a part of the contract of `open_file` (`OpensFile`), which each command calls that
-needs the register. To be read is `act`, of a few lines, and `main`, which hand on the files and the words.
+reports, served exchanges, creations, refusals, and words that are none. It is an induction over the runs. Of each it
+takes one step as known, `LeadsFrom`: from files that hold the register of a history the task leaves files that hold
+that register after one life. That the code takes this step is proved by two contracts:
+
+```
+{step}
+```
+
+`Performs` says all that a task does, so of exports, reports, refusals and what an opening checks too. It stands on half
+as many definitions again, which this page leaves out: the step needs none of them, since both contracts name it. What
+an opening does (`OpensRegister`) is a part of the contract of `open_file` (`OpensFile`), which each command calls that
+needs the register. `act` calls `perform_task` once with the files handed over. To be read is `act`, of a few lines, and
+`main`, which hand on the files and the words.
 
 | Of the sentence | In the theorem |
 |---|---|
-| on an honest disk | `Leaves`: the store is clean as each call ends |
+| on an honest disk | `LeftBy`: the store is clean as each call ends |
 | that nobody else writes | `Follow`: each run finds what the one before left |
 | after any request lines | any words and an input of any bytes (`ProgramRun`), and its items (`AreItemsOf`) |
 | a stop before or within any write | a disk that fails from then on: `LeftBy` has all that may be found |
@@ -63,23 +72,28 @@ log was copied is numbered still (`LeftIn`, part `numbered`), of which the kit s
 trusted is trusted here too.
 
 What it does not say: that an opening succeeds, since memory may give out or the disk refuse; of exchanges any reply,
-since no contract knows the bytes of a connection; of an input or an output whose bytes nobody knows what its items or
-its lines are; of an import that its items are those of its rows, which the contract of `import` has; and that the empty
-register of an `init` is found, and no file without one, before a request is accepted. That a stop within a write is a
-disk that fails from that write on is how `may_leave` is read.
+since no contract knows the bytes of a connection; of an import that its items are those of its rows, which the contract
+of `import` has; and that the empty register of an `init` is found, and no file without one, before a request is
+accepted. Of an input or an output whose bytes nobody knows it says neither what its items nor what its lines are. The
+standard input and output of a process are such: that they are as any others is since `perform_task` is proved for every
+reader and every writer. In the same way it is proved for every `Files`, whose `start` is what a run found; the law has
+one `Files` for all runs, and that the runs of a list may each have another is to be read. That a stop within a write is
+a disk that fails from that write on is how `may_leave` is read.
 
-First stands the theorem, and then each definition on which it stands, once, below the first that names it. The crates
-come from the top down: the large words first, and what they are made of further on. Above each definition stands its
-name, its file in the crate's `specs/`, or its path in `src/`, and what it says in plain words. At the words of the kit,
-Rattle's standard library and the crates of others, the page ends; it lists them [at its end](#words-of-the-kit).
+First stands the theorem, and then each definition on which it stands, once. The crates come from the top down; in
+each a definition comes right below the first that names it, before what that one names next. Above each definition
+stands its name, its file in the crate's `specs/`, or its path in `src/`, and what it says in plain words; where these
+say *own*, the rule is this register's own. At the words of the kit, Rattle's standard library and the crates of others,
+the page ends; it lists them [at its end](#words-of-the-kit).
 
 {counts}
 
-`abbrev` and `unfoldable` define a word, case by case. A `record` has fields: it is a value with these parts, or the
-statement that all of them hold. A `data` has cases. A `struct` or an `enum` is one of the code, with its parts or
-cases; where `impl Model` follows, contracts see it as the `Value` that `view` gives, of which the `invariant` holds.
-`Type 0` is what a word gives that is a statement, or a type. Where definitions share parameters, these come before
-their own, and are left out where one of them names another.
+`abbrev` and `unfoldable` define a word, case by case, of which the first that fits holds. A `record` has fields: it is
+a value with these parts, or the statement that all of them hold. A `data` has cases. A `struct` or an `enum` is one of
+the code, with its parts or cases; where `impl Model` follows, contracts see it as the `Value` that `view` gives, of
+which the `invariant` holds. `Type 0` is what a word gives that is a statement, or a type. Where definitions share
+parameters, these come before their own, and are left out where one of them names another. `F.Opened.Store` is what the
+kit says of the store that `F` opens, its `Ghosts`.
 
 | Sign | It says |
 |---|---|
@@ -91,8 +105,12 @@ their own, and are left out where one of them names another.
 | `x ≡ y`, `x ≢ y` | they are equal; they are not |
 | `f x y`, `λ x. y` | f of x and y; the function that gives y for x |
 | `x.part`, `x.0`, `x.1` | a part of x; the first and the second of a pair |
-| `record t {{ part = x }}` | t with another part |
+| `record {{ part = x }}`, `record t {{ part = x }}` | the value with these parts; t with another part |
 | `[]`, `x ∷ more`, `a ++ b` | the empty list; x and then more; one list after another |
+| `fold f x list` | f of x and the first, of that and the second, and so on |
+| `codes "text"`, `decimal n` | the bytes of a text; of a number's digits |
+| `zero`, `suc n` | 0; n + 1 |
+| `IsTrue b`, `if b then x else y` | b is true; x where it is, and else y |
 | `{{x : A}}`, `_` | x is left out where it is clear; any value |
 | `let x = y in z`, `elim x [ \| A y ↦ z ]` | z with y for x; by cases of x, z where it is A of y |
 """
@@ -101,7 +119,25 @@ their own, and are left out where one of them names another.
 KIT = """\
 ## Words of the kit
 
-Each with its file. `rt lemma HoldsDatabase`, in the folder of a crate that names it, shows the definition of that word.
+What those say that the sentence rests on:
+
+| Word | It says |
+|---|---|
+| `Image` | the bytes of the database file and those of its log |
+| `Trees`, `Database` | the rows of each table and index; these with the schema that they list |
+| `IsDatabase` | the trees list the schema, and obey it |
+| `HoldsDatabase` | the pages of the file, those of the log in their places, are the pages of these trees |
+| `IsEmpty` | no tree has a row |
+| `IsClean`, `HasCleanDisk` | no wrong answer of the disk was taken for true. A call that failed leaves it so |
+| `recovers`, `may_leave` | as which trees a store, and a connection, may come back after a stop now |
+| `AreDatabases` | each of these trees obeys some schema |
+| `is_numbered`, `is_broken` | each tree has the number under which it is listed; a call failed |
+| `FindsIn` | the connection's committed trees are those that the files hold |
+| `IsTable` | the rowids rise |
+| `Appends` | these bytes were appended. Where the bytes before are not known it says nothing |
+
+Each word with its file. `rt lemma HoldsDatabase`, in the folder of a crate that names it, shows the definition of that
+word.
 
 | Crate | Words |
 |---|---|"""
@@ -119,35 +155,35 @@ def theorem():
 
 @functools.lru_cache
 def model_rows():
-    """The rows of MODEL: the names in each, where they stand, the plain name, and what it says of each name: what stands
-    at its place, where as many parts stand there as names, and else all."""
+    """The rows of MODEL: what it says of each name in one, and where they stand. Of a name it says what stands at its
+    place, where as many parts stand there as names, and else all."""
     rows = []
     for line in read("docs/MODEL.md").split("\n"):
         cells = [cell.strip() for cell in line.strip().strip("|").split("|")]
         if line.startswith("|") and len(cells) > 3:
             names, parts = re.findall(r"`([^`]+)`", cells[1]), cells[3].split("; ")
             told = parts if len(parts) == len(names) else [cells[3]] * len(names)
-            rows.append((dict(zip(names, told)), cells[2], cells[0]))
+            rows.append((dict(zip(names, told)), cells[2]))
     return rows
 
 
-def model_row(key):
-    """The plain name that MODEL has for a definition, and what it says, by its name and its file."""
+def model_words(key):
+    """What MODEL says of a definition, by its name and its file, if it says anything."""
     place = key.place.split("/")[-1].removesuffix(".rt")
-    return next(((name, told[key.name]) for told, where, name in model_rows()
-                 if key.name in told and re.search(rf"\b{place}\b", where)), None)
+    return next((told[key.name] for told, where in model_rows()
+                 if key.name in told and re.search(rf"\b{place}\b", where)), "")
 
 
 def words_of(definition):
     """A definition's plain words: where its own go on from others, those of MODEL, or with the others before them."""
     key, words = definition.key, definition.words
-    row = model_row(key)
+    told = model_words(key)
     if not words:
-        return ": ".join(row) if row else ""
+        return told
     if not GOES_ON.match(words) or key.place.startswith("src/"):
         return words
-    if row:
-        return ": ".join(row)
+    if told:
+        return told
     for above in definitions.words_above(key):
         words = f"{above.rstrip('.')}; {words}" if above else words
         if above and not GOES_ON.match(above):
@@ -231,15 +267,27 @@ def kit_place(path):
                     [part for part in parts if part != "TheVariants"])
 
 
-def kit_table(kit):
-    """The kit's words, by crate and file, in order of their names."""
-    by_crate = {}
+def other_names(found):
+    """The words that the page's definitions call by another name than their own, with that."""
+    names = {}
+    for key, text in ((definition.key, " ".join(definition.text)) for definition in found):
+        if not key.place.startswith("src/"):
+            for word, meant in definitions.spec_file(key.crate, key.place).imports.words.items():
+                if word != meant[2] and re.search(rf"\b{word}\b", text):
+                    names[definitions.key_of(*meant)] = word
+    return names
+
+
+def kit_table(found, kit):
+    """The kit's words, by crate and file, in order of their names; behind one the name that the page has for it."""
+    others, by_crate = other_names(found), {}
     for key in kit:
-        by_crate.setdefault(key.crate, {}).setdefault(kit_place(key.place), set()).add(key.name.replace("|", "\\|"))
+        name = key.name.replace("|", "\\|")
+        told = f"`{name}`" + (f" (here `{others[key]}`)" if key in others else "")
+        by_crate.setdefault(key.crate, {}).setdefault(kit_place(key.place), set()).add(told)
     rows = []
     for crate, files in sorted(by_crate.items()):
-        told = [f"{place}: " * bool(place) + ", ".join(f"`{name}`" for name in sorted(names))
-                for place, names in sorted(files.items())]
+        told = [f"{place}: " * bool(place) + ", ".join(sorted(names)) for place, names in sorted(files.items())]
         rows.append(f"| `{crate}` | {'; '.join(told)} |")
     return "\n".join([KIT, *rows]) + "\n"
 
@@ -247,11 +295,13 @@ def kit_table(kit):
 def page():
     root, found, kit = theorem()
     shared = {}
-    parts = [HEAD.format(says=readme_sentence(), counts=count_table()), "## The theorem\n", entry(root, shared)]
+    step = "\n\n".join("\n".join(definitions.law(*place).text) for place in STEP)
+    head = HEAD.format(says=readme_sentence(), step=step, counts=count_table())
+    parts = [head, "## The theorem\n", entry(root, shared)]
     for crate, group in grouped(found):
         parts += [f"## {crate}\n", filled(does(crate)) + "\n"]
         parts += [entry(definition, shared) for definition in group]
-    return "\n".join(parts + [kit_table(kit)])
+    return "\n".join(parts + [kit_table(found, kit)])
 
 
 def grouped(found):
