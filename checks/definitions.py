@@ -385,9 +385,9 @@ def is_ours(key):
     return key.crate in ours()
 
 
-def in_order(root):
-    """The definitions that this one stands on, crate by crate from the top, each with those of its crate that it names
-    first right below it; and the kit's."""
+def in_order(names):
+    """These definitions and those that they stand on, crate by crate from the top, each with those of its crate that it
+    names first right below it; and the kit's."""
     named, found, kit = {}, {}, {}
 
     def mention(key):
@@ -404,7 +404,7 @@ def in_order(root):
             else:
                 mention(name)
 
-    for key in root.names:
+    for key in names:
         mention(key)
     for crate in reversed(list(sources.stands_on())):
         for key in named.get(crate, ()):

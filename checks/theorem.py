@@ -24,9 +24,14 @@ from sources import read
 
 # The law whose contract is the theorem: its file, and its name.
 ROOT = ("crates/register_program/src/laws.rt", "register_is_found_again")
-# The contracts that tie it to the code, which the page shows as they stand.
+# The contracts that tie it to the code, which the page shows as they stand: those of its step, and that of an opening.
 STEP = (("crates/register_program/src/acting.rt", "perform_task"),
         ("crates/register_program/src/laws.rt", "tasks_are_lives"))
+OPENING = (("crates/register_program/src/register_file.rt", "open_file"),)
+# Of what these name, what the page has too: what leads on, what an opening finds, and what the machine's files are.
+TIES = (definitions.Key("register_program", "Sentence", "LeadsFrom"),
+        definitions.Key("register_program", "Opening", "OpensRegister"),
+        definitions.Key("disk_files", "src/disk_files.rt", "DiskFilesFiles"))
 PAGE = "docs/THEOREM.md"
 # How a comment begins that goes on from the one above it.
 GOES_ON = re.compile(r"(?:and|or|nor|then|such|the same(?! day)|that of|two (?:that|of)|at the (?:least|most)|any of"
@@ -41,18 +46,28 @@ HEAD = """\
 
 The theorem below says so, of any runs of the program over one register's files: request lines, imports, exports,
 reports, served exchanges, creations, refusals, and words that are none. It is an induction over the runs. Of each it
-takes one step as known, `LeadsFrom`: from files that hold the register of a history the task leaves files that hold
-that register after one life. That the code takes this step is proved by two contracts:
+takes one step as known, `Leads`: from files that hold the register of a history the run leads to files that hold that
+register after one life. That the program's runs take this step is proved by two contracts, of any task, and of any
+files, whatever they held:
 
 ```
 {step}
 ```
 
 `Performs` says all that a task does, so of exports, reports, refusals and what an opening checks too. It stands on half
-as many definitions again, which this page leaves out: the step needs none of them, since both contracts name it. What
-an opening does (`OpensRegister`) is a part of the contract of `open_file` (`OpensFile`), which each command calls that
-needs the register. `act` calls `perform_task` once with the files handed over. To be read is `act`, of a few lines, and
-`main`, which hand on the files and the words.
+as many definitions again, which this page leaves out: the step needs none of them, since both contracts name it. A run
+names no `Files`, since each has its own: `start` is what it found. The machine's are `DiskFiles`. That a run whose words
+are none leads on is the law `idle_runs_lead_on`. `act` calls `perform_task` once with the files handed over. To be read
+is `act`, of a few lines, and `main`, which hand on the files and the words.
+
+What an opening finds in files that hold a register is a part of the contract of `open_file`, which each command calls
+that needs it:
+
+```
+{opening}
+```
+
+`OpensFile` has it in its part `stands`, by `OpensRegister`; its part `whole` says that the desk is not broken.
 
 | Of the sentence | In the theorem |
 |---|---|
@@ -60,10 +75,10 @@ needs the register. `act` calls `perform_task` once with the files handed over. 
 | that nobody else writes | `Follow`: each run finds what the one before left |
 | after any request lines | any words and an input of any bytes (`ProgramRun`), and its items (`AreItemsOf`) |
 | a stop before or within any write | a disk that fails from then on: `LeftBy` has all that may be found |
-| opening the file again finds exactly the register | `opens`, where it succeeds; `holds`: these tables, no others |
+| opening the file again finds exactly the register | `holds`: these tables, no others; and so `OpensRegister` |
 | of a prefix of the accepted requests | the first items of each run (`applied`), in a history that is `lawful` |
-| every accepted request whose reply line was written | the `replies` of a life: lines written whole (`Answered`) |
-| and at most one more | `one_more` of each life |
+| every accepted request whose reply line was written | the `replies` of a life: so many lines stand whole (`Answered`) |
+| and at most one more | `one_more` of each life: nothing stands past the line of what was applied |
 | every key's state is the one its dates and the latest accepted moment give | so `tables` have it, by `key_of` |
 
 Its premises beside the sentence's own: a run that opened no file leaves the files as they are; what an opening leaves
@@ -76,9 +91,8 @@ since no contract knows the bytes of a connection; of an import that its items a
 of `import` has; and that the empty register of an `init` is found, and no file without one, before a request is
 accepted. Of an input or an output whose bytes nobody knows it says neither what its items nor what its lines are. The
 standard input and output of a process are such: that they are as any others is since `perform_task` is proved for every
-reader and every writer. In the same way it is proved for every `Files`, whose `start` is what a run found; the law has
-one `Files` for all runs, and that the runs of a list may each have another is to be read. That a stop within a write is
-a disk that fails from that write on is how `may_leave` is read.
+reader and every writer. So it is for every `Start`, which tells what files hold; the program hands over one that tells
+nothing (`Wary`). That a stop within a write is a disk that fails from that write on is how `may_leave` is read.
 
 First stands the theorem, and then each definition on which it stands, once. The crates come from the top down; in
 each a definition comes right below the first that names it, before what that one names next. Above each definition
@@ -147,7 +161,7 @@ word.
 def theorem():
     """The law, the definitions in order, and the kit's words."""
     root = definitions.law(*ROOT)
-    return (root, *definitions.in_order(root))
+    return (root, *definitions.in_order((*root.names, *TIES)))
 
 
 # ---- plain words
@@ -295,8 +309,9 @@ def kit_table(found, kit):
 def page():
     root, found, kit = theorem()
     shared = {}
-    step = "\n\n".join("\n".join(definitions.law(*place).text) for place in STEP)
-    head = HEAD.format(says=readme_sentence(), step=step, counts=count_table())
+    step, opening = ("\n\n".join("\n".join(definitions.law(*place).text) for place in places)
+                     for places in (STEP, OPENING))
+    head = HEAD.format(says=readme_sentence(), step=step, opening=opening, counts=count_table())
     parts = [head, "## The theorem\n", entry(root, shared)]
     for crate, group in grouped(found):
         parts += [f"## {crate}\n", filled(does(crate)) + "\n"]

@@ -21,13 +21,13 @@ use Rattle.register_desk.specs.declared.runs.Finish.{Finish}
 use Rattle.register_desk.specs.declared.runs.Finish.TheVariants.{AtEnd, Ended}
 use Rattle.register_desk.specs.DatabaseFiles.{HoldsNothing, HoldsOneOf, HoldsRegister}
 use Rattle.register_desk.specs.Input.{HasItems}
-use Rattle.register_desk.specs.Lives.{AreInRange, Life, MayApplyOneMore, after, after_lives, applied, life_of}
+use Rattle.register_desk.specs.Lives.{AreInRange, Life, MayApplyOneMore, after, applied, life_of}
 use Rattle.register_desk.specs.Run.{Answered as AnsweredWhole, AnsweredInPart, IsPrefixOf, RunsOver, answer_line}
 use Rattle.register_desk.specs.Run.{answer_lines}
 use Rattle.register_desk.proofs.Answering.{appends_none}
 use Rattle.register_desk.proofs.Cutting.{items_in}
 use Rattle.register_desk.proofs.Lived.{items_in_range}
-use Rattle.register_desk.proofs.Lives.{empty_lawful, lawful_on}
+use Rattle.register_desk.proofs.Lives.{lawful_on}
 use Rattle.register_program.specs.declared.files.Closed.{Closed}
 use Rattle.register_program.specs.declared.register_file.Life.{Life as Lived_}
 use Rattle.register_program.specs.declared.register_file.Refused.{Refused}
@@ -37,48 +37,46 @@ use Rattle.register_program.specs.Closing.{LeftIn}
 use Rattle.register_program.specs.Life.{LeavesInFiles, LeavesNoRequest, LeavesNothing, LivesOver, SparesRegister}
 use Rattle.register_program.specs.declared.acting.Done.{Done}
 use Rattle.register_program.specs.declared.acting.Done.TheVariants.{BadValue, Lived, Made}
-use Rattle.register_program.specs.Sentence.{Answered, AreItemsOf, Follow, FoundAgain, HoldsHistory, IsLifeOf}
-use Rattle.register_program.specs.Sentence.{LeadsFrom, LeftBy, LeftByClosed, LeftByRefused, Leaves, ProgramRun, RunsBy}
-use Rattle.register_program.specs.Sentence.{Did, DidNothing, StandsAs, Was, WasLife, Were, left_after, no_life}
+use Rattle.register_program.specs.Sentence.{Answered, AreItemsOf, Follow, FoundAgain, HoldsHistory, IsLifeOf, Leads}
+use Rattle.register_program.specs.Sentence.{LeadsFrom, LeftBy, LeftByClosed, LeftByRefused, ProgramRun, StandsAs}
+use Rattle.register_program.specs.Sentence.{WasLife, no_life, outcome_of}
 use Rattle.register_program.specs.Task.{Performs}
 use Rattle.register_words.specs.declared.words.Task.{Task}
 use Rattle.register_words.specs.declared.words.Task.TheVariants.{Export, Import, Init, Report, Run, RunInMemory, Serve}
 
 -- ---- the lines that were written
 
--- the lines of some answers begin those of one more
-lines_begin : (n : ℕ) (given : List (Result Reply Refusal))
-    → IsPrefixOf (answer_lines (take n given) ++ []) (answer_lines (take (n + 1) given))
-lines_begin n given =
-    let next = take (n + 1) given in
-    let same : take n next ≡ take n given = take-take n (n + 1) given (omega arith) in
-    let rest = answer_lines (drop n next) in (
-      rest,
-      ap (λ lines. lines ++ rest) (append-nil (answer_lines (take n given)))
-          ∙ ap (λ xs. answer_lines xs ++ rest) (sym same)
-          ∙ sym (flat_map-append answer_line (take n next) (drop n next))
-          ∙ ap answer_lines (take-append-drop n next),
+-- the lines of some answers begin those of no fewer
+lines_begin : (n m : ℕ) (given : List (Result Reply Refusal)) → n ≤ m
+    → IsPrefixOf (answer_lines (take n given)) (answer_lines (take m given))
+lines_begin n m given less =
+    let some = take m given in (
+      answer_lines (drop n some),
+      ap (λ xs. answer_lines xs ++ answer_lines (drop n some)) (sym (take-take n m given less))
+          ∙ sym (flat_map-append answer_line (take n some) (drop n some))
+          ∙ ap answer_lines (take-append-drop n some),
     )
 
 module _ {S : Type 0} (g : Ghosts S) (h : List Request) (items : List (Option Request)) (replies : ℕ)
     (old new : Option (List ℕ)) (desk : Desk S g) (one_more : Bool) where
   told : AnsweredWhole g h items replies old new desk → Answered h (life_of items replies one_more) old new
   told it = record {
-    part = [];
-    written = subst (λ lines. Appends old new lines) (sym (append-nil (answer_lines (take replies (answers h items)))))
-        it.written;
-    at_most_one_more = lines_begin replies (answers h items);
-    applied = inl refl;
+    text = answer_lines (take replies (answers h items));
+    written = it.written;
+    answered = ([], append-nil (answer_lines (take replies (answers h items))));
+    at_most_applied = lines_begin replies (applied (life_of items replies one_more)) (answers h items) (omega arith);
   }
 
   told_in_part : one_more ≡ true → AnsweredInPart g h items replies old new desk
       → Answered h (life_of items replies one_more) old new
-  told_in_part applied it = record {
-    part = it.part;
+  told_in_part more it = record {
+    text = answer_lines (take replies (answers h items)) ++ it.part;
     written = subst (λ lines. Appends old new (lines ++ it.part)) it.lines it.written;
-    at_most_one_more = subst (λ lines. IsPrefixOf (lines ++ it.part)
-        (answer_lines (take (replies + 1) (answers h items)))) it.lines it.prefix;
-    applied = inr applied;
+    answered = (it.part, refl);
+    at_most_applied = subst (λ (is : Bool). IsPrefixOf (answer_lines (take replies (answers h items)) ++ it.part)
+        (answer_lines (take (applied (life_of items replies is)) (answers h items)))) (sym more)
+        (subst (λ lines. IsPrefixOf (lines ++ it.part)
+        (answer_lines (take (replies + 1) (answers h items)))) it.lines it.prefix);
   }
 
   told_over : (rest : List ℕ) (end : Finish) → (end ≡ Ended WriteFault → one_more ≡ true)
@@ -92,16 +90,12 @@ module _ {S : Type 0} (g : Ghosts S) (h : List Request) (items : List (Option Re
   told_over rest (Ended BadHeader) applied over = absurd over
 
   told_none : new ≡ old → replies ≡ 0 → Answered h (life_of items replies one_more) old new
-  told_none same none =
-      let lines : answer_lines (take replies (answers h items)) ≡ [] =
-      ap (λ (n : ℕ). answer_lines (take n (answers h items))) none in
-      record {
-        part = [];
-        written = subst (λ (now : Option (List ℕ)). Appends old now (answer_lines (take replies (answers h items))
-            ++ [])) (sym same) (subst (λ text. Appends old old (text ++ [])) (sym lines) (appends_none old));
-        at_most_one_more = lines_begin replies (answers h items);
-        applied = inl refl;
-      }
+  told_none same none = record {
+    text = [];
+    written = subst (λ (now : Option (List ℕ)). Appends old now []) (sym same) (appends_none old);
+    answered = ([], ap (λ (n : ℕ). answer_lines (take n (answers h items)) ++ []) none);
+    at_most_applied = (answer_lines (take (applied (life_of items replies one_more)) (answers h items)), refl);
+  }
 
   told_some : (rest : List ℕ) (end : Finish) → MayApplyOneMore end one_more
       → (end ≢ Ended BadHeader → RunsOver g h items rest end replies old new desk)
@@ -187,13 +181,28 @@ module _ {S : Type 0} (g : Ghosts S) (may_leave : S → Image → Type 0) (h : L
   -- ---- the life that a task was
 
   module _ (lawful : IsLawful h) (old new : Option (List ℕ)) where
-    -- this task over this input, which came to this, was a life after which the register is left
+    -- the run of this task over this input, which came to this
+    abbrev run_of : Option (List ℕ) → Task → Done S → ProgramRun
+    run_of input task done = record {
+      found = found;
+      task = Some task;
+      input = input;
+      old = old;
+      new = new;
+      outcome = outcome_of done;
+      left = left;
+    }
+
+    abbrev Fits : Option (List ℕ) → Task → Done S → Life → Type 0
+    Fits input task done life = IsLifeOf h (Some task) (outcome_of done) (run_of input task done) life
+
+    -- was a life after which the register is left
     abbrev WasOne : Option (List ℕ) → Task → Done S → Type 0
     WasOne input task done =
-        ∥ ((life : Life) × WasLife g may_leave h task done input old new life × HoldsHistory (after h life) left) ∥₁
+        ∥ ((life : Life) × WasLife h (run_of input task done) life × HoldsHistory (after h life) left) ∥₁
 
     was_none : (input : Option (List ℕ)) (task : Task) (done : Done S)
-        → IsLifeOf h task done input old new no_life → ∥ HoldsHistory h left ∥₁ → WasOne input task done
+        → Fits input task done no_life → ∥ HoldsHistory h left ∥₁ → WasOne input task done
     was_none input task done is some =
         ∥∥₁_map some (λ it. (no_life, record { in_range = tt; enough = omega arith; is = is }, it))
 
@@ -207,17 +216,18 @@ module _ {S : Type 0} (g : Ghosts S) (may_leave : S → Image → Type 0) (h : L
     opened_none (Err refused) leaves opens keeps from =
         unopened_as refused.store refused.refusal leaves opens.refuses.nothing (opens.refuses.spares h lawful) from
 
-    -- a life over the items of an input
-    abbrev LifeOver : Option (List ℕ) → Type 0
-    LifeOver input =
+    -- a life over the items of an input, with so many replies
+    abbrev LifeOver : Option (List ℕ) → ℕ → Type 0
+    LifeOver input replies =
         (life : Life) × AreInRange life.items × (applied life ≤ length life.items)
-        × (AreItemsOf input life.items × Answered h life old new) × HoldsHistory (after h life) left
+        × ((life.replies ≡ replies) × AreItemsOf input life.items × Answered h life old new)
+        × HoldsHistory (after h life) left
 
     -- a life over some items, and what was written of it
     some_life : (input : Option (List ℕ)) (lived : Lived_ S) → LeftByClosed g may_leave lived.files left
         → LivesAnyway g may_leave found old new (Ok lived) → HoldsRegister h found
-        → ∥ ((life : Life) × AreInRange life.items × (applied life ≤ length life.items) × Answered h life old new
-        × HoldsRegister (after h life) left) ∥₁
+        → ∥ ((life : Life) × AreInRange life.items × (applied life ≤ length life.items)
+        × ((life.replies ≡ lived.outcome.replies) × Answered h life old new) × HoldsRegister (after h life) left) ∥₁
     some_life input lived leaves anyway holds =
         let of = anyway.some h lawful holds leaves.0 in
         let some = of.1.from in
@@ -225,8 +235,11 @@ module _ {S : Type 0} (g : Ghosts S) (may_leave : S → Image → Type 0) (h : L
           life_of some.items lived.outcome.replies one.0,
           one.1.in_range,
           one.1.enough,
-          told_some g h some.items lived.outcome.replies old new of.0 one.0 some.rest lived.outcome.end
-              one.1.one_more_is some.over anyway.unbegun,
+          (
+            refl,
+            told_some g h some.items lived.outcome.replies old new of.0 one.0 some.rest lived.outcome.end
+                one.1.one_more_is some.over anyway.unbegun,
+          ),
           one.2,
         ))
 
@@ -246,7 +259,7 @@ module _ {S : Type 0} (g : Ghosts S) (may_leave : S → Image → Type 0) (h : L
         (lives : LivesOver g h items rest lived.outcome old new desk may) where
       -- of so many, and no more
       no_more : lived.outcome.end ≢ Ended WriteFault → HoldsRegister (history h (take lived.outcome.replies items)) left
-          → LifeOver (Some bytes)
+          → LifeOver (Some bytes) lived.outcome.replies
       no_more whole holds =
           let some = within g h items lived.outcome.replies old new desk false rest lived.outcome.end lives.over in
           let still : lived.outcome.replies ≡ lived.outcome.replies + 0 = omega arith in (
@@ -254,6 +267,7 @@ module _ {S : Type 0} (g : Ghosts S) (may_leave : S → Image → Type 0) (h : L
             items_in_range has.0 items has.2,
             omega (arith, some),
             (
+              refl,
               (rest, has),
               told_over g h items lived.outcome.replies old new desk false rest lived.outcome.end
                   (λ is. absurd (whole is)) lives.over,
@@ -263,12 +277,13 @@ module _ {S : Type 0} (g : Ghosts S) (may_leave : S → Image → Type 0) (h : L
 
       -- or of one more
       more : lived.outcome.replies < length items
-          → HoldsRegister (history h (take (lived.outcome.replies + 1) items)) left → LifeOver (Some bytes)
+          → HoldsRegister (history h (take (lived.outcome.replies + 1) items)) left → LifeOver (Some bytes) lived.outcome.replies
       more within_items holds = (
         life_of items lived.outcome.replies true,
         items_in_range has.0 items has.2,
         omega (arith, within_items),
         (
+          refl,
           (rest, has),
           told_over g h items lived.outcome.replies old new desk true rest lived.outcome.end
               (λ is. refl) lives.over,
@@ -277,7 +292,7 @@ module _ {S : Type 0} (g : Ghosts S) (may_leave : S → Image → Type 0) (h : L
       )
 
       one_or_none : lived.outcome.end ≢ Ended WriteFault
-          → HoldsRegister (history h (take (lived.outcome.replies + 1) items)) left → LifeOver (Some bytes)
+          → HoldsRegister (history h (take (lived.outcome.replies + 1) items)) left → LifeOver (Some bytes) lived.outcome.replies
       one_or_none whole holds = elim (cases_lt lived.outcome.replies (length items)) [
         | inl less ↦ more less holds
         | inr all ↦ no_more whole (subst (λ (taken : List (Option Request)). HoldsRegister (history h taken) left)
@@ -285,7 +300,7 @@ module _ {S : Type 0} (g : Ghosts S) (may_leave : S → Image → Type 0) (h : L
             ∙ sym (take_all lived.outcome.replies items all)) holds)
       ]
 
-      known_life : ∥ LifeOver (Some bytes) ∥₁
+      known_life : ∥ LifeOver (Some bytes) lived.outcome.replies ∥₁
       known_life = elim (is_part lived.outcome.end) [
         | inl is ↦
             let part = subst (λ (end : Finish). RunsOver g h items rest end lived.outcome.replies old new desk) is
@@ -301,10 +316,10 @@ module _ {S : Type 0} (g : Ghosts S) (may_leave : S → Image → Type 0) (h : L
     -- of request lines
     ran : (input : Option (List ℕ)) (lived : Lived_ S) → LeftByClosed g may_leave lived.files left
         → RunsLines g may_leave found input old new (Ok lived) → HoldsRegister h found
-        → ∥ LifeOver input ∥₁
+        → ∥ LifeOver input lived.outcome.replies ∥₁
     ran None lived leaves runs holds =
         ∥∥₁_map (some_life None lived leaves runs.anyway holds)
-        (λ one. (one.0, one.1, one.2, (tt, one.3), inr one.4))
+        (λ one. (one.0, one.1, one.2, (one.3.0, tt, one.3.1), inr one.4))
     ran (Some bytes) lived leaves runs holds =
         let cut = items_in bytes in
         let of = runs.lives h bytes cut.0 cut.1 lawful holds refl cut.2 leaves.0 in
@@ -313,9 +328,10 @@ module _ {S : Type 0} (g : Ghosts S) (may_leave : S → Image → Type 0) (h : L
     -- ---- each task
 
     ran_as : (input : Option (List ℕ)) (task : Task) (came : Result (Lived_ S) (Refused S))
-        → ((lived : Lived_ S) (life : Life) → AreItemsOf input life.items × Answered h life old new
-        → IsLifeOf h task (Lived (Ok lived)) input old new life)
-        → ((refused : Refused S) → IsLifeOf h task (Lived (Err refused)) input old new no_life)
+        → ((lived : Lived_ S) (life : Life)
+        → (life.replies ≡ lived.outcome.replies) × AreItemsOf input life.items × Answered h life old new
+        → Fits input task (Lived (Ok lived)) life)
+        → ((refused : Refused S) → Fits input task (Lived (Err refused)) no_life)
         → LeftBy g may_leave found (Lived came) left → RunsLines g may_leave found input old new came
         → (from : HoldsHistory h found) → WasOne input task (Lived came)
     ran_as input task (Ok lived) is none leaves runs (inl nothing) =
@@ -328,9 +344,9 @@ module _ {S : Type 0} (g : Ghosts S) (may_leave : S → Image → Type 0) (h : L
         (opened_none (Err refused) leaves runs.anyway.opens (λ lived same holds. absurd (cc same)) from)
 
     imported_as : (input : Option (List ℕ)) (task : Task) (came : Result (Lived_ S) (Refused S))
-        → ((lived : Lived_ S) (life : Life) → Answered h life old new
-        → IsLifeOf h task (Lived (Ok lived)) input old new life)
-        → ((refused : Refused S) → IsLifeOf h task (Lived (Err refused)) input old new no_life)
+        → ((lived : Lived_ S) (life : Life) → (life.replies ≡ lived.outcome.replies) × Answered h life old new
+        → Fits input task (Lived (Ok lived)) life)
+        → ((refused : Refused S) → Fits input task (Lived (Err refused)) no_life)
         → LeftBy g may_leave found (Lived came) left → LivesAnyway g may_leave found old new came
         → (from : HoldsHistory h found) → WasOne input task (Lived came)
     imported_as input task (Ok lived) is none leaves anyway (inl nothing) =
@@ -343,8 +359,8 @@ module _ {S : Type 0} (g : Ghosts S) (may_leave : S → Image → Type 0) (h : L
         (opened_none (Err refused) leaves anyway.opens (λ lived same holds. absurd (cc same)) from)
 
     served_as : (input : Option (List ℕ)) (task : Task) (most : ℕ) (came : Result (Lived_ S) (Refused S))
-        → ((lived : Lived_ S) (life : Life) → IsLifeOf h task (Lived (Ok lived)) input old new life)
-        → ((refused : Refused S) → IsLifeOf h task (Lived (Err refused)) input old new no_life)
+        → ((lived : Lived_ S) (life : Life) → Fits input task (Lived (Ok lived)) life)
+        → ((refused : Refused S) → Fits input task (Lived (Err refused)) no_life)
         → LeftBy g may_leave found (Lived came) left → ServesExchanges g may_leave found most came
         → (from : HoldsHistory h found) → WasOne input task (Lived came)
     served_as input task most (Ok lived) is none leaves serves (inl nothing) =
@@ -419,59 +435,39 @@ module _ {S : Type 0} (g : Ghosts S) (may_leave : S → Image → Type 0) (h : L
         (was_none input (Serve file bounds) BadValue refl
         (untouched (subst (λ (d : Done S). LeftBy g may_leave found d left) none.1 leaves)))
 
--- ---- the runs, one after the other
-
 module _ {S : Type 0} (g : Ghosts S) (may_leave : S → Image → Type 0) where
   pub leads_from : (found : Image) (task : Task) (input old new : Option (List ℕ)) (done : Done S)
       → Performs g may_leave found task input old new done
       → LeadsFrom g may_leave found task input old new done
-  leads_from found task input old new done performs h left lawful start leaves =
+  leads_from found task input old new done performs left leaves h lawful start =
       by_task g may_leave h found left start lawful old new input task done performs leaves
 
-module _ {S : Type 0} (g : Ghosts S) (may_leave : S → Image → Type 0)
-    (Does : Image → Task → Option (List ℕ) → Option (List ℕ) → Option (List ℕ) → Done S → Type 0)
-    (leads : (found : Image) (task : Task) (input old new : Option (List ℕ)) (done : Done S)
-    → Does found task input old new done → LeadsFrom g may_leave found task input old new done) where
-  by_runs_of : (h : List Request) (found left : Image) (input old new : Option (List ℕ))
-      (runs : RunsBy g may_leave Does found input old new) → IsLawful h → HoldsHistory h found
-      → Leaves g may_leave Does
-      (record { found = found; input = input; old = old; new = new; runs = runs; left = left })
-      → ∥ ((life : Life) × AreInRange life.items × Was g may_leave Does h
-      (record { found = found; input = input; old = old; new = new; runs = runs; left = left }) life
-      × HoldsHistory (after h life) left) ∥₁
-  by_runs_of h found left input old new (Did task done does) lawful start leaves =
-      let led = leads found task input old new done does h left lawful start leaves in
-      ∥∥₁_map led (λ one. (one.0, one.1.in_range, one.1, one.2))
-  by_runs_of h found left input old new (DidNothing same) lawful start leaves =
-      ∣ (no_life, tt, refl, subst (HoldsHistory h) (sym leaves) start) ∣₁
+-- a run of no task
+pub leads_idle : (found : Image) (input old new : Option (List ℕ)) → Leads (record {
+  found = found;
+  task = None;
+  input = input;
+  old = old;
+  new = new;
+  outcome = None;
+  left = found;
+})
+leads_idle found input old new h lawful start =
+    ∣ (no_life, record { in_range = tt; enough = omega arith; is = refl }, start) ∣₁
 
-  by_run : (h : List Request) (run : ProgramRun g may_leave Does) → IsLawful h → HoldsHistory h run.found
-      → Leaves g may_leave Does run
-      → ∥ ((life : Life) × AreInRange life.items × Was g may_leave Does h run life
-      × HoldsHistory (after h life) run.left) ∥₁
-  by_run h run lawful start leaves =
-      by_runs_of h run.found run.left run.input run.old run.new run.runs lawful start leaves
+-- ---- the runs, one after the other
 
-  by_runs : (runs : List (ProgramRun g may_leave Does)) (h : List Request) (found : Image) → IsLawful h
-      → HoldsHistory h found → Follow g may_leave Does found runs
-      → ∥ ((lives : List Life) × Were g may_leave Does h runs lives × IsLawful (after_lives h lives)
-      × HoldsHistory (after_lives h lives) (left_after g may_leave Does found runs)) ∥₁
-  by_runs [] h found lawful start follow = ∣ ([], tt, lawful, start) ∣₁
-  by_runs (run ∷ runs) h found lawful start follow =
-      let begun = subst (HoldsHistory h) (sym follow.0) start in
-      ∥∥₁_elim (by_run h run lawful begun follow.1) squash₁ (λ one.
-      let next = lawful_on one.0.items h (applied one.0) lawful one.1 in
-      ∥∥₁_map (by_runs runs (after h one.0) run.left next one.3 follow.2)
-      (λ rest. (one.0 ∷ rest.0, (one.2, rest.1), rest.2, rest.3)))
-
-  pub found_again : (first : Image) (runs : List (ProgramRun g may_leave Does)) → HoldsNothing first
-      → Follow g may_leave Does first runs
-      → ∥ FoundAgain g may_leave Does runs (left_after g may_leave Does first runs) ∥₁
-  found_again first runs none follow = ∥∥₁_map (by_runs runs [] first empty_lawful (inl (none, refl)) follow)
-      (λ all. record {
-        lives = all.0;
-        were = all.1;
-        lawful = all.2;
-        holds = all.3;
-        opens = λ result opens. opens (after_lives [] all.0) all.2;
-      })
+pub found_again : (h : List Request) (first left : Image) (runs : List ProgramRun) → IsLawful h → HoldsHistory h first
+    → Follow first runs left → ∥ FoundAgain h runs left ∥₁
+found_again h first left [] lawful start same =
+    ∣ record { lives = []; were = tt; lawful = lawful; holds = subst (HoldsHistory h) (sym same) start } ∣₁
+found_again h first left (run ∷ runs) lawful start follow =
+    let begun = subst (HoldsHistory h) (sym follow.0) start in
+    ∥∥₁_elim (follow.1 h lawful begun) squash₁ (λ one.
+    let next = lawful_on one.0.items h (applied one.0) lawful one.1.in_range in
+    ∥∥₁_map (found_again (after h one.0) run.left left runs next one.2 follow.2) (λ rest. record {
+      lives = one.0 ∷ rest.lives;
+      were = (one.1, rest.were);
+      lawful = rest.lawful;
+      holds = rest.holds;
+    }))

@@ -1,13 +1,13 @@
 //! Laws about files that were closed, and about runs of the program. A function's contract is the
 //! law; it does nothing.
-ghost use Rattle.std.specs.Prelude.{◌≡◌, ℕ, List, Option};
+ghost use Rattle.std.specs.Prelude.{◌≡◌, ℕ, List, Option, None};
 ghost use Rattle.sqlite.specs.Recovery.{Image};
 ghost use Rattle.register_requests.specs.declared.request.Request.{Request};
 ghost use Rattle.register_desk.specs.DatabaseFiles.{HoldsOneOf};
 ghost use Rattle.register_program.specs.declared.acting.Done.{Done};
 ghost use Rattle.register_program.specs.Closing.{LeftIn, alone};
 ghost use Rattle.register_program.specs.Life.{LeavesInFiles};
-ghost use Rattle.register_program.specs.Sentence.{AreFoundAgain, LeadsFrom};
+ghost use Rattle.register_program.specs.Sentence.{AreFoundAgain, Leads, LeadsFrom};
 ghost use Rattle.register_program.specs.Task.{Performs};
 ghost use Rattle.register_words.specs.declared.words.Task.{Task};
 
@@ -32,14 +32,16 @@ pub fn tasks_are_lives<F: Files>()
         LeadsFrom F.Opened.Store F.may_leave found task input old new done }
 {}
 
-/// Whatever the program is run for, as often as one likes, each run over what the one before left,
-/// at its end or at a stop, and the first over files that hold nothing: the files hold nothing
-/// still, or exactly the register of lives that the runs were, and an opening finds it.
-pub fn register_is_found_again<F: Files>()
-    ensures { AreFoundAgain F.Opened.Store F.may_leave (LeadsFrom F.Opened.Store F.may_leave) }
+/// A run whose words are none, which leaves the files as they are, leads on too.
+pub fn idle_runs_lead_on()
+    ensures { (found : Image) (input : Option (List ℕ)) (old : Option (List ℕ))
+        (new : Option (List ℕ)) → Leads (record { found = found; task = None; input = input;
+        old = old; new = new; outcome = None; left = found }) }
 {}
 
-/// So it is of runs whose tasks are done as [`perform_task`](crate::perform_task) does them.
-pub fn performed_runs_are_found_again<F: Files>()
-    ensures { AreFoundAgain F.Opened.Store F.may_leave (Performs F.Opened.Store F.may_leave) }
+/// Whatever the program is run for, as often as one likes, each run over what the one before left,
+/// at its end or at a stop, and the first over files that hold nothing or a register: the files
+/// hold nothing still, or exactly the register of lives that the runs were.
+pub fn register_is_found_again()
+    ensures { AreFoundAgain }
 {}
