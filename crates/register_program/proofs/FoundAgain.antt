@@ -39,7 +39,7 @@ use Rattle.register_program.specs.declared.acting.Done.{Done}
 use Rattle.register_program.specs.declared.acting.Done.TheVariants.{BadValue, Lived, Made}
 use Rattle.register_program.specs.Sentence.{Answered, AreItemsOf, Follow, FoundAgain, HoldsHistory, IsLifeOf, Leads}
 use Rattle.register_program.specs.Sentence.{LeadsFrom, LeftBy, LeftByClosed, LeftByRefused, ProgramRun, StandsAs}
-use Rattle.register_program.specs.Sentence.{WasLife, no_life, outcome_of}
+use Rattle.register_program.specs.Sentence.{WasLife, no_life, outcome_of, run_of}
 use Rattle.register_program.specs.Task.{Performs}
 use Rattle.register_words.specs.declared.words.Task.{Task}
 use Rattle.register_words.specs.declared.words.Task.TheVariants.{Export, Import, Init, Report, Run, RunInMemory, Serve}
@@ -182,24 +182,16 @@ module _ {S : Type 0} (g : Ghosts S) (may_leave : S → Image → Type 0) (h : L
 
   module _ (lawful : IsLawful h) (old new : Option (List ℕ)) where
     -- the run of this task over this input, which came to this
-    abbrev run_of : Option (List ℕ) → Task → Done S → ProgramRun
-    run_of input task done = record {
-      found = found;
-      task = Some task;
-      input = input;
-      old = old;
-      new = new;
-      outcome = outcome_of done;
-      left = left;
-    }
+    abbrev the_run : Option (List ℕ) → Task → Done S → ProgramRun
+    the_run input task done = run_of found task input old new done left
 
     abbrev Fits : Option (List ℕ) → Task → Done S → Life → Type 0
-    Fits input task done life = IsLifeOf h (Some task) (outcome_of done) (run_of input task done) life
+    Fits input task done life = IsLifeOf h (Some task) (outcome_of done) (the_run input task done) life
 
     -- was a life after which the register is left
     abbrev WasOne : Option (List ℕ) → Task → Done S → Type 0
     WasOne input task done =
-        ∥ ((life : Life) × WasLife h (run_of input task done) life × HoldsHistory (after h life) left) ∥₁
+        ∥ ((life : Life) × WasLife h (the_run input task done) life × HoldsHistory (after h life) left) ∥₁
 
     was_none : (input : Option (List ℕ)) (task : Task) (done : Done S)
         → Fits input task done no_life → ∥ HoldsHistory h left ∥₁ → WasOne input task done
@@ -257,6 +249,15 @@ module _ {S : Type 0} (g : Ghosts S) (may_leave : S → Image → Type 0) (h : L
     module _ (bytes : List ℕ) (items : List (Option Request)) (rest : List ℕ) (has : HasItems bytes items rest)
         (lived : Lived_ S) (desk : Desk S g) (may : Image → Type 0) (may_be : may left)
         (lives : LivesOver g h items rest lived.outcome old new desk may) where
+      fitting : (one_more : Bool) → (lived.outcome.end ≡ Ended WriteFault → one_more ≡ true)
+          → (lived.outcome.replies ≡ lived.outcome.replies) × AreItemsOf (Some bytes) items
+          × Answered h (life_of items lived.outcome.replies one_more) old new
+      fitting one_more applied = (
+        refl,
+        (rest, has),
+        told_over g h items lived.outcome.replies old new desk one_more rest lived.outcome.end applied lives.over,
+      )
+
       -- of so many, and no more
       no_more : lived.outcome.end ≢ Ended WriteFault → HoldsRegister (history h (take lived.outcome.replies items)) left
           → LifeOver (Some bytes) lived.outcome.replies
@@ -266,12 +267,7 @@ module _ {S : Type 0} (g : Ghosts S) (may_leave : S → Image → Type 0) (h : L
             life_of items lived.outcome.replies false,
             items_in_range has.0 items has.2,
             omega (arith, some),
-            (
-              refl,
-              (rest, has),
-              told_over g h items lived.outcome.replies old new desk false rest lived.outcome.end
-                  (λ is. absurd (whole is)) lives.over,
-            ),
+            fitting false (λ is. absurd (whole is)),
             inr (subst (λ (k : ℕ). HoldsRegister (history h (take k items)) left) still holds),
           )
 
@@ -282,12 +278,7 @@ module _ {S : Type 0} (g : Ghosts S) (may_leave : S → Image → Type 0) (h : L
         life_of items lived.outcome.replies true,
         items_in_range has.0 items has.2,
         omega (arith, within_items),
-        (
-          refl,
-          (rest, has),
-          told_over g h items lived.outcome.replies old new desk true rest lived.outcome.end
-              (λ is. refl) lives.over,
-        ),
+        fitting true (λ is. refl),
         inr holds,
       )
 
@@ -443,17 +434,16 @@ module _ {S : Type 0} (g : Ghosts S) (may_leave : S → Image → Type 0) where
       by_task g may_leave h found left start lawful old new input task done performs leaves
 
 -- a run of no task
-pub leads_idle : (found : Image) (input old new : Option (List ℕ)) → Leads (record {
-  found = found;
-  task = None;
-  input = input;
-  old = old;
-  new = new;
-  outcome = None;
-  left = found;
-})
-leads_idle found input old new h lawful start =
-    ∣ (no_life, record { in_range = tt; enough = omega arith; is = refl }, start) ∣₁
+pub leads_idle : (run : ProgramRun) → run.task ≡ None → run.left ≡ run.found → Leads run
+leads_idle run none same h lawful start = ∣ (
+  no_life,
+  record {
+    in_range = tt;
+    enough = omega arith;
+    is = subst (λ (task : Option Task). IsLifeOf h task run.outcome run no_life) (sym none) refl;
+  },
+  subst (HoldsHistory h) (sym same) start,
+) ∣₁
 
 -- ---- the runs, one after the other
 

@@ -122,6 +122,19 @@ abbrev pub outcome_of : {S : Type 0} → Done S → Option Outcome
 outcome_of (Lived (Ok lived)) = Some lived.outcome
 outcome_of _ = None
 
+-- the run of a task that came to this, and left that
+abbrev pub run_of : {S : Type 0} → Image → Task → Option (List ℕ) → Option (List ℕ) → Option (List ℕ) → Done S → Image
+    → ProgramRun
+run_of found task input old new done left = record {
+  found = found;
+  task = Some task;
+  input = input;
+  old = old;
+  new = new;
+  outcome = outcome_of done;
+  left = left;
+}
+
 module _ {S : Type 0} (g : Ghosts S) (may_leave : S → Image → Type 0) where
   -- in files that were closed, on a disk that gave back what was written
   abbrev pub LeftByClosed : Closed S → Image → Type 0
@@ -144,13 +157,4 @@ module _ {S : Type 0} (g : Ghosts S) (may_leave : S → Image → Type 0) where
   -- The run of a task that came to this leads on, whatever of what it may have left is found.
   abbrev pub LeadsFrom : Image → Task → Option (List ℕ) → Option (List ℕ) → Option (List ℕ) → Done S → Type 0
   LeadsFrom found task input old new done =
-      (left : Image) → LeftBy found done left
-      → Leads (record {
-        found = found;
-        task = Some task;
-        input = input;
-        old = old;
-        new = new;
-        outcome = outcome_of done;
-        left = left;
-      })
+      (left : Image) → LeftBy found done left → Leads (run_of found task input old new done left)

@@ -7,7 +7,7 @@ ghost use Rattle.register_desk.specs.DatabaseFiles.{HoldsOneOf};
 ghost use Rattle.register_program.specs.declared.acting.Done.{Done};
 ghost use Rattle.register_program.specs.Closing.{LeftIn, alone};
 ghost use Rattle.register_program.specs.Life.{LeavesInFiles};
-ghost use Rattle.register_program.specs.Sentence.{AreFoundAgain, Leads, LeadsFrom};
+ghost use Rattle.register_program.specs.Sentence.{AreFoundAgain, Leads, LeadsFrom, ProgramRun};
 ghost use Rattle.register_program.specs.Task.{Performs};
 ghost use Rattle.register_words.specs.declared.words.Task.{Task};
 
@@ -34,9 +34,7 @@ pub fn tasks_are_lives<F: Files>()
 
 /// A run whose words are none, which leaves the files as they are, leads on too.
 pub fn idle_runs_lead_on()
-    ensures { (found : Image) (input : Option (List ℕ)) (old : Option (List ℕ))
-        (new : Option (List ℕ)) → Leads (record { found = found; task = None; input = input;
-        old = old; new = new; outcome = None; left = found }) }
+    ensures { (run : ProgramRun) → run.task ≡ None → run.left ≡ run.found → Leads run }
 {}
 
 /// Whatever the program is run for, as often as one likes, each run over what the one before left,
