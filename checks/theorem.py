@@ -27,7 +27,8 @@ ROOT = ("crates/register_program/src/laws.rt", "register_is_found_again")
 # The contracts that tie it to the code, which the page shows as they stand: those of its step, and that of an opening.
 STEP = (("crates/register_program/src/acting.rt", "perform_task"),
         ("crates/register_program/src/laws.rt", "tasks_are_lives"))
-OPENING = (("crates/register_program/src/register_file.rt", "open_file"),)
+OPENING = (("crates/register_program/src/register_file.rt", "open_file"),
+           ("crates/register_program/src/laws.rt", "openings_find_lives"))
 # Of what these name, what the page has too: what leads on, what an opening finds, and what the machine's files are.
 TIES = (definitions.Key("register_program", "Sentence", "LeadsFrom"),
         definitions.Key("register_program", "Opening", "OpensRegister"),
@@ -61,7 +62,7 @@ are none leads on is the law `idle_runs_lead_on`. `act` calls `perform_task` onc
 is `act`, of a few lines, and `main`, which hand on the files and the words.
 
 What an opening finds in files that hold a register is a part of the contract of `open_file`, which each command calls
-that needs it:
+that needs it; so an opening of what runs left finds what they come to:
 
 ```
 {opening}
@@ -75,7 +76,7 @@ that needs it:
 | that nobody else writes | `Follow`: each run finds what the one before left |
 | after any request lines | any words and an input of any bytes (`ProgramRun`), and its items (`AreItemsOf`) |
 | a stop before or within any write | a disk that fails from then on: `LeftBy` has all that may be found |
-| opening the file again finds exactly the register | `holds`: these tables, no others; and so `OpensRegister` |
+| opening the file again finds exactly the register | `holds`: these tables, no others; `openings_find_lives` |
 | of a prefix of the accepted requests | the first items of each run (`applied`), in a history that is `lawful` |
 | every accepted request whose reply line was written | the `replies` of a life: so many lines stand whole (`Answered`) |
 | and at most one more | `one_more` of each life: nothing stands past the line of what was applied |

@@ -3,11 +3,15 @@
 ghost use Rattle.std.specs.Prelude.{◌≡◌, ℕ, List, Option, None};
 ghost use Rattle.sqlite.specs.Recovery.{Image};
 ghost use Rattle.register_requests.specs.declared.request.Request.{Request};
-ghost use Rattle.register_desk.specs.DatabaseFiles.{HoldsOneOf};
+ghost use Rattle.register_desk.specs.DatabaseFiles.{HoldsOneOf, HoldsRegister};
+ghost use Rattle.register_desk.specs.Lives.{after_lives};
 ghost use Rattle.register_program.specs.declared.acting.Done.{Done};
 ghost use Rattle.register_program.specs.Closing.{LeftIn, alone};
+ghost use Rattle.register_program.specs.FileCalls.{OpensFile};
 ghost use Rattle.register_program.specs.Life.{LeavesInFiles};
-ghost use Rattle.register_program.specs.Sentence.{AreFoundAgain, Leads, LeadsFrom, ProgramRun};
+ghost use Rattle.register_program.specs.Opening.{OpensAs};
+ghost use Rattle.register_program.specs.Sentence.{AreFoundAgain, FoundAgain, Leads};
+ghost use Rattle.register_program.specs.Sentence.{LeadsFrom, ProgramRun};
 ghost use Rattle.register_program.specs.Task.{Performs};
 ghost use Rattle.register_words.specs.declared.words.Task.{Task};
 
@@ -42,4 +46,14 @@ pub fn idle_runs_lead_on()
 /// hold nothing still, or exactly the register of lives that the runs were.
 pub fn register_is_found_again()
     ensures { AreFoundAgain }
+{}
+
+/// An opening of what such runs left, as [`open_file`](crate::open_file) does it, stands where it
+/// succeeds for what they come to, and blames no table where it does not.
+pub fn openings_find_lives<F: Files>()
+    ensures { (h : List Request) (runs : List ProgramRun) (left : Image) →
+        (again : FoundAgain h runs left) → (result : _) →
+        OpensFile F.Opened.Store F.may_leave left result →
+        HoldsRegister (after_lives h again.lives) left →
+        OpensAs F.Opened.Store (after_lives h again.lives) result }
 {}
