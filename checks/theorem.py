@@ -57,9 +57,9 @@ files, whatever they held:
 
 `Performs` says all that a task does, so of exports, reports, refusals and what an opening checks too. It stands on half
 as many definitions again, which this page leaves out: the step needs none of them, since both contracts name it. A run
-names no `Files`, since each has its own: `start` is what it found. The machine's are `DiskFiles`. That a run whose words
-are none leads on is the law `idle_runs_lead_on`. `act` calls `perform_task` once with the files handed over. To be read
-is `act`, of a few lines, and `main`, which hand on the files and the words.
+names no `Files`, since each has its own: `start` is what it found. The machine's are `DiskFiles`. That a run whose
+words are none leads on is the law `idle_runs_lead_on`. `act` calls `perform_task` once with the files handed over. To
+be read is `act`, of a few lines, and `main`, which hand on the files and the words.
 
 What an opening finds in files that hold a register is a part of the contract of `open_file`, which each command calls
 that needs it; so an opening of what runs left finds what they come to:
@@ -78,7 +78,7 @@ that needs it; so an opening of what runs left finds what they come to:
 | a stop before or within any write | a disk that fails from then on: `LeftBy` has all that may be found |
 | opening the file again finds exactly the register | `holds`: these tables, no others; `openings_find_lives` |
 | of a prefix of the accepted requests | the first items of each run (`applied`), in a history that is `lawful` |
-| every accepted request whose reply line was written | the `replies` of a life: so many lines stand whole (`Answered`) |
+| every accepted request whose reply line was written | the `replies` of a life: so many lines are whole (`Answered`) |
 | and at most one more | `one_more` of each life: nothing stands past the line of what was applied |
 | every key's state is the one its dates and the latest accepted moment give | so `tables` have it, by `key_of` |
 
