@@ -49,18 +49,18 @@ impl KeptReply {
     }
 
     /// Whether this is the command of the request: each command has one text.
-    fn has_same_command(&self, command: &Command) -> bool
-        ensures { result ≡ is_same_command self.now.command command.now }
+    fn has_command_of(&self, request: &Request) -> bool
+        ensures { result ≡ is_same_command self.now.command request.now.command }
     {
-        command_text(&self.command).as_bytes() == command_text(command).as_bytes()
+        command_text(&self.command).as_bytes() == command_text(&request.command).as_bytes()
     }
 
-    /// What a request with this command is answered that has the caller and the number of this one:
+    /// What this request is answered, which has the caller and the number of the one that is kept:
     /// the first reply where the commands are the same, and else [`Refusal::RequestReused`].
-    pub fn answer_to_repeat(&self, command: &Command) -> Answer
-        ensures { (new : Reply) → result ≡ answer_by (repeated self.now command.now) new }
+    pub fn answer_to_repeat(&self, request: &Request) -> Answer
+        ensures { (new : Reply) → result ≡ answer_by (repeated self.now request.now.command) new }
     {
-        if self.has_same_command(command) {
+        if self.has_command_of(request) {
             Answer::Repeated(self.reply)
         } else {
             Answer::Refused(Refusal::RequestReused)

@@ -1,5 +1,5 @@
 -- Calls of a desk that only read, and calls that do nothing.
-use Rattle.std.proofs.Common.{◌≡◌, ℕ, ◌≢◌, ◌≤◌, List, Result, Ok, Err}
+use Rattle.std.proofs.Common.{◌≡◌, ℕ, ◌+◌, ◌≢◌, ◌≤◌, List, Result, Ok, Err, arith}
 use Rattle.std.proofs.Common.{IsTrue, inl, inr, refl, sym, ap, subst, ◌∙◌}
 use Rattle.std.specs.Prelude.{IfErr, IfOk}
 use Rattle.sqlite_trees.specs.declared.store.Store as store
@@ -20,7 +20,7 @@ use Rattle.register_store.specs.Schema.{Holds}
 use Rattle.register_desk.specs.declared.desk.Desk.{Desk}
 use Rattle.register_desk.specs.declared.end.End.{End}
 use Rattle.register_desk.specs.declared.end.End.TheVariants as ends
-use Rattle.register_desk.specs.Desk.{IsWhole, IsBroken, IsClean, EndsBy, ChangesNothing, KeepsCounts}
+use Rattle.register_desk.specs.Desk.{IsWhole, IsBroken, IsClean, EndsBy, ChangesNothing, KeepsCounts, KeepsToSteps}
 use Rattle.register_desk.specs.Within.DeskCalls.{KeepsAll, LooksUp}
 use Rattle.register_store.specs.TableChanges.{AreRightAt}
 use Rattle.register_desk.specs.Register.{tables, HasCommitted, IsOver, StandsFor, Sees, Keeps, Leaves}
@@ -95,6 +95,14 @@ module _ {S : Type 0} (g : store.Ghosts S) where
     lawful = stands.lawful;
     over = over_still old new nothing (tables h) stands.over;
   }
+
+  -- after a call that changes nothing, another takes its own steps more
+  pub steps_then : (old mid new : Desk S g) (first second : ℕ) → ChangesNothing g old mid → KeepsToSteps g first old mid
+      → (IsClean g new → IsClean g mid) → KeepsToSteps g second mid new → KeepsToSteps g (first + second) old new
+  steps_then old mid new first second nothing kept was then_kept h stands clean =
+      let one = kept h stands (was clean) in
+      let two = then_kept h (stands_still old mid nothing h stands) clean in
+      record { risen = omega (arith, one.risen, two.risen); within = omega (arith, one.within, two.within) }
 
   pub nothing_done : (desk : Desk S g) → ChangesNothing g desk desk
   nothing_done desk = record {

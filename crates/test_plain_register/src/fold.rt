@@ -23,7 +23,7 @@ fn answer_to(
         return Ok(Err(Refusal::BadLine));
     };
     if let Some(before) = first_kept(history, &request.caller, request.number) {
-        return Ok(before.answer_to_repeat(&request.command).outcome());
+        return Ok(before.answer_to_repeat(request).outcome());
     }
     if let Some(refusal) = judgement(alloc, history, request)? {
         return Ok(Err(refusal));

@@ -70,7 +70,7 @@ impl<S: Alter> Desk<S> {
             return Ok(Answer::Refused(Refusal::BadLine));
         }
         match self.look_up_kept_reply(&request.caller, request.number)? {
-            Some(before) => Ok(before.answer_to_repeat(&request.command)),
+            Some(before) => Ok(before.answer_to_repeat(request)),
             None => self.apply_new(request),
         }
     }

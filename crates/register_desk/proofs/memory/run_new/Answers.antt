@@ -1,4 +1,4 @@
-use Rattle.std.proofs.Common.{[]}
+use Rattle.std.proofs.Common.{[], refl}
 use Rattle.register_desk.proofs.memory.run_new.Goals as goal
 
 pub returns-clause-runs : goal.returns-clause-runs
@@ -10,3 +10,6 @@ returns-clause-runs g c nothing honest bytes items rest known cut = record {
       let whole = c.in-Ok.ensures.whole in
       absurd (cc);
 }
+
+pub returns-in_default-clause-refused : goal.returns-in_default-clause-refused
+returns-in_default-clause-refused g c = refl

@@ -17,3 +17,9 @@ returns-in-Ok-clause-kept g c t sees clean =
 
 pub returns-in-Ok-clause-within : goal.returns-in-Ok-clause-within
 returns-in-Ok-clause-within g c = search rules fits 100
+
+pub returns-in-Ok-Some-clause-no_memory : goal.returns-in-Ok-Some-clause-no_memory
+returns-in-Ok-Some-clause-no_memory g c = search rules
+
+pub returns-in-Ok-Some-clause-looks : goal.returns-in-Ok-Some-clause-looks
+returns-in-Ok-Some-clause-looks g c = search rules

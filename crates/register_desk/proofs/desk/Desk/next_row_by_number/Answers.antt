@@ -1,4 +1,4 @@
-use Rattle.std.proofs.Common.{arith}
+use Rattle.std.proofs.Common.{arith, rules}
 use Rattle.register_desk.specs.Register.{tables}
 use Rattle.register_desk.proofs.Readings.{sees_nothing}
 use Rattle.register_desk.proofs.RowScan.{none_after}
@@ -17,3 +17,9 @@ returns-in-Some-clause-reads g c = sees_nothing g.S.Store _ _ _ _ _ c.each_key.e
 
 pub returns-in-None-clause-reads : goal.returns-in-None-clause-reads
 returns-in-None-clause-reads g c = sees_nothing g.S.Store _ _ _ _ _ c.each_key.ensures.reads c.each_key.ensures.sight
+
+pub returns-in-None-clause-next : goal.returns-in-None-clause-next
+returns-in-None-clause-next g c = search rules
+
+pub returns-in-None-clause-counts_on : goal.returns-in-None-clause-counts_on
+returns-in-None-clause-counts_on g c = search rules

@@ -1,4 +1,4 @@
-use Rattle.std.proofs.Common.{◌≡◌, subst}
+use Rattle.std.proofs.Common.{◌≡◌, subst, rules}
 use Rattle.register_requests.specs.Request.{IsItem}
 use Rattle.register_desk.proofs.LinesCut.{lines_more}
 use Rattle.register_desk.proofs.runs.LinesMAX_LINE_LENGTHItemsWatched.next_item.Goals as goal
@@ -16,3 +16,6 @@ returns-in-Ok-Line-clause-came g c item is start items came =
       counted = taken.1.counted;
       bounded = c.next.ensures.bounded;
     })
+
+pub returns-in-Err-clause-ends : goal.returns-in-Err-clause-ends
+returns-in-Err-clause-ends g c = search rules
