@@ -4,15 +4,16 @@ ghost use Rattle.std.specs.Prelude.{◌≤◌};
 ghost use Rattle.register_core.specs.Verdict.{max_keys};
 ghost use Rattle.register_core.specs.Decision.{IsRightKey};
 
+use super::is_printed;
 use super::keys::{answer_by, change_by_request, dates_in, outcome_by, view_in, view_with};
 use lifecycle_core::{Dates, State};
 use moment_core::Moment;
-use register_core::{Change, CustodyChange, Name, Quorum, Refusal, View, read_request};
+use register_core::{Change, CustodyChange, Refusal, View, read_request, reply_line};
 use std::alloc::Global;
 use std::test::Fail;
 
-/// The state of bob's key at 1000, a line, and the key's state after it or the refusal.
-type Asked = (State, &'static str, Result<State, Refusal>);
+/// The state of bob's key at 1000, a line, and the line of its reply.
+type Asked = (State, &'static str, &'static str);
 
 const PRE: State = State::PreActive;
 
@@ -24,90 +25,112 @@ const DESTROYED: State = State::Destroyed;
 
 /// As many custodians as a key may have.
 #[rattlefmt::skip]
-const SIXTEEN: [&str; 16] = [
+const SIXTEEN: &[&str] = &[
     "c1", "c2", "c3", "c4", "c5", "c6", "c7", "c8",
     "c9", "c10", "c11", "c12", "c13", "c14", "c15", "c16",
 ];
 
 /// One fewer.
 #[rattlefmt::skip]
-const FIFTEEN: [&str; 15] = [
+const FIFTEEN: &[&str] = &[
     "c1", "c2", "c3", "c4", "c5", "c6", "c7", "c8",
     "c9", "c10", "c11", "c12", "c13", "c14", "c15",
 ];
 
-const TOO_MANY: Refusal = Refusal::TooManyCustodians;
-
-const BOTH: Refusal = Refusal::OwnerCustodian;
-
 /// cat, dan and eve are custodians, and the approvals of cat and dan stand. A refusal of a lower
 /// number comes first.
 #[rattlefmt::skip]
-const OF_THREE: [Asked; 17] = [
-    (PRE, "1000 bob 1 add-custodian 1 dan", Err(Refusal::AlreadyCustodian)),
-    (PRE, "1000 zed 1 add-custodian 1 dan", Err(Refusal::NotOwner)),
-    (PRE, "1000 bob 1 remove-custodian 1 fay", Err(Refusal::NoSuchCustodian)),
-    (PRE, "1000 bob 1 remove-custodian 1 bob", Err(Refusal::NoSuchCustodian)),
-    (DESTROYED, "1000 bob 1 remove-custodian 1 fay", Err(Refusal::WrongState { state: DESTROYED })),
-    (PRE, "1000 bob 1 add-custodian 1 bob", Err(BOTH)),
-    (PRE, "1000 bob 1 assign 1 cat", Err(BOTH)),
-    (PRE, "1000 bob 1 assign 1 bob", Ok(PRE)),
-    (PRE, "1000 cat 1 approve 1", Err(Refusal::AlreadyApproved)),
-    (ACTIVE, "1000 cat 1 approve 1", Err(Refusal::WrongState { state: ACTIVE })),
-    (PRE, "1000 eve 1 withdraw 1", Err(Refusal::NoApproval)),
-    (DESTROYED, "1000 eve 1 withdraw 1", Err(Refusal::WrongState { state: DESTROYED })),
-    (PRE, "1000 zed 1 revoke 1 2 1001", Err(Refusal::OccurrenceLater)),
-    (DESTROYED, "1000 zed 1 revoke 1 3 1001", Err(Refusal::OccurrenceLater)),
-    (COMPROMISED, "1000 zed 1 revoke 1 2 1001", Err(Refusal::WrongState { state: COMPROMISED })),
-    (PRE, "1000 zed 1 revoke 1 2 1000", Ok(COMPROMISED)),
-    (DESTROYED, "1000 zed 1 revoke 1 3 1000", Ok(State::DestroyedCompromised)),
+const OF_THREE: &[Asked] = &[
+    (PRE, "1000 bob 1 add-custodian 1 dan", "refused 12 AlreadyCustodian\n"),
+    (PRE, "1000 zed 1 add-custodian 1 dan", "refused 5 NotOwner\n"),
+    (PRE, "1000 bob 1 remove-custodian 1 fay", "refused 13 NoSuchCustodian\n"),
+    (PRE, "1000 bob 1 remove-custodian 1 bob", "refused 13 NoSuchCustodian\n"),
+    (DESTROYED, "1000 bob 1 remove-custodian 1 fay", "refused 7 WrongState state=Destroyed\n"),
+    (PRE, "1000 bob 1 add-custodian 1 bob", "refused 15 OwnerCustodian\n"),
+    (PRE, "1000 bob 1 assign 1 cat", "refused 15 OwnerCustodian\n"),
+    (PRE, "1000 bob 1 assign 1 bob", "ok 1 Pre-Active 1000\n"),
+    (PRE, "1000 cat 1 approve 1", "refused 16 AlreadyApproved\n"),
+    (ACTIVE, "1000 cat 1 approve 1", "refused 7 WrongState state=Active\n"),
+    (PRE, "1000 eve 1 withdraw 1", "refused 17 NoApproval\n"),
+    (DESTROYED, "1000 eve 1 withdraw 1", "refused 7 WrongState state=Destroyed\n"),
+    (PRE, "1000 zed 1 revoke 1 2 1001", "refused 19 OccurrenceLater\n"),
+    (DESTROYED, "1000 zed 1 revoke 1 3 1001", "refused 19 OccurrenceLater\n"),
+    (COMPROMISED, "1000 zed 1 revoke 1 2 1001", "refused 7 WrongState state=Compromised\n"),
+    (PRE, "1000 zed 1 revoke 1 2 1000", "ok 1 Compromised 1000\n"),
+    (DESTROYED, "1000 zed 1 revoke 1 3 1000", "ok 1 Destroyed-Compromised 1000\n"),
 ];
 
 /// The same where there are sixteen custodians, and no approvals.
 #[rattlefmt::skip]
-const OF_SIXTEEN: [Asked; 5] = [
-    (PRE, "1000 bob 1 add-custodian 1 fay", Err(TOO_MANY)),
-    (PRE, "1000 bob 1 add-custodian 1 bob", Err(TOO_MANY)),
-    (PRE, "1000 bob 1 add-custodian 1 c8", Err(Refusal::AlreadyCustodian)),
-    (PRE, "1000 bob 1 remove-custodian 1 c8", Ok(PRE)),
-    (PRE, "1000 bob 1 destroy 1", Err(Refusal::ApprovalsMissing { have: 0, need: Quorum::LEAST })),
+const OF_SIXTEEN: &[Asked] = &[
+    (PRE, "1000 bob 1 add-custodian 1 fay", "refused 14 TooManyCustodians\n"),
+    (PRE, "1000 bob 1 add-custodian 1 bob", "refused 14 TooManyCustodians\n"),
+    (PRE, "1000 bob 1 add-custodian 1 c8", "refused 12 AlreadyCustodian\n"),
+    (PRE, "1000 bob 1 remove-custodian 1 c8", "ok 1 Pre-Active 1000\n"),
+    (PRE, "1000 bob 1 destroy 1", "refused 18 ApprovalsMissing have=0 need=2\n"),
 ];
 
 /// The same where there are fifteen, and the first has approved.
 #[rattlefmt::skip]
-const OF_FIFTEEN: [Asked; 6] = [
-    (PRE, "1000 bob 1 add-custodian 1 fay", Ok(PRE)),
-    (PRE, "1000 bob 1 add-custodian 1 bob", Err(BOTH)),
-    (PRE, "1000 bob 1 destroy 1", Err(Refusal::ApprovalsMissing { have: 1, need: Quorum::LEAST })),
-    (COMPROMISED, "1000 bob 1 destroy 1", Err(Refusal::ApprovalsMissing { have: 1, need: Quorum::LEAST })),
-    (ACTIVE, "1000 bob 1 destroy 1", Err(Refusal::WrongState { state: ACTIVE })),
-    (PRE, "1000 c1 1 destroy 1", Err(Refusal::NotOwner)),
+const OF_FIFTEEN: &[Asked] = &[
+    (PRE, "1000 bob 1 add-custodian 1 fay", "ok 1 Pre-Active 1000\n"),
+    (PRE, "1000 bob 1 add-custodian 1 bob", "refused 15 OwnerCustodian\n"),
+    (PRE, "1000 bob 1 destroy 1", "refused 18 ApprovalsMissing have=1 need=2\n"),
+    (COMPROMISED, "1000 bob 1 destroy 1", "refused 18 ApprovalsMissing have=1 need=2\n"),
+    (ACTIVE, "1000 bob 1 destroy 1", "refused 7 WrongState state=Active\n"),
+    (PRE, "1000 c1 1 destroy 1", "refused 5 NotOwner\n"),
 ];
 
-/// Whether the line has this outcome, where the key is in this state at 1000 and has these
-/// custodians and approvals.
+/// Whether this is replied to the line, and where it is accepted the key then is in the state of
+/// the reply; where the key is in this state at 1000 and has these custodians and approvals.
 fn is_outcome(
     alloc: Global,
     custodians: &[&str],
     approvals: &[&str],
     asked: &Asked,
 ) -> Result<bool, Fail> {
-    let (state, line, expected) = asked;
+    let (state, line, reply) = asked;
     let view = view_with(alloc, dates_in(*state)?, custodians, approvals)?;
     let request = read_request(line.as_bytes()).ok_or("a request")?;
-    Ok(outcome_by(&view, &request) == Some(*expected))
+    Ok(
+        outcome_by(&view, &request).is_some()
+            && reply_line(&answer_by(&view, &request)).as_str() == *reply,
+    )
 }
 
-/// The first of the lines that has another outcome.
+/// The first line that has another outcome.
 fn first_wrong(
     alloc: Global,
     custodians: &[&str],
     approvals: &[&str],
     lines: &[Asked],
-) -> Result<Option<usize>, Fail> {
-    for (index, asked) in lines.iter().enumerate() {
+) -> Result<Option<&'static str>, Fail> {
+    for asked in lines {
         if !is_outcome(alloc, custodians, approvals, asked)? {
-            return Ok(Some(index));
+            return Ok(Some(asked.1));
+        }
+    }
+    Ok(None)
+}
+
+/// Custodians of the key, those who have approved, and what is asked of it.
+type Group = (
+    &'static [&'static str],
+    &'static [&'static str],
+    &'static [Asked],
+);
+
+static GROUPS: [Group; 3] = [
+    (&["cat", "dan", "eve"], &["cat", "dan"], OF_THREE),
+    (SIXTEEN, &[], OF_SIXTEEN),
+    (FIFTEEN, &["c1"], OF_FIFTEEN),
+];
+
+/// The first line of any group that has another outcome.
+fn first_wrong_of_all(alloc: Global) -> Result<Option<&'static str>, Fail> {
+    for (custodians, approvals, lines) in &GROUPS {
+        if let Some(line) = first_wrong(alloc, custodians, approvals, lines)? {
+            return Ok(Some(line));
         }
     }
     Ok(None)
@@ -115,18 +138,7 @@ fn first_wrong(
 
 #[test]
 fn refusals_of_custody(rt: HostRuntime) -> Result<(), Fail> {
-    let of_three = first_wrong(
-        rt.alloc(),
-        &["cat", "dan", "eve"],
-        &["cat", "dan"],
-        &OF_THREE,
-    )?;
-    assert_eq!(rt; of_three, None);
-    assert_eq!(rt; first_wrong(rt.alloc(), &SIXTEEN, &[], &OF_SIXTEEN)?, None);
-    assert_eq!(rt;
-        first_wrong(rt.alloc(), &FIFTEEN, &["c1"], &OF_FIFTEEN)?,
-        None
-    );
+    assert_eq!(rt; first_wrong_of_all(rt.alloc())?, None);
     Ok(())
 }
 
@@ -175,58 +187,48 @@ fn early_and_unknown(rt: HostRuntime) -> Result<(), Fail> {
     Ok(())
 }
 
-fn name(text: &str) -> Result<Name, Fail> {
-    Ok(Name::new(text.as_bytes()).ok_or("a name")?)
-}
+/// A line, and what becomes by it of the people of bob's key in this state at 1000, as that is
+/// printed.
+type Becomes = (State, &'static str, &'static str);
 
-/// Whether the change is one of these people.
-fn is_of(change: &Option<Change>, expected: &CustodyChange) -> bool {
+/// A compromise ends the approvals of a key that is not destroyed yet.
+#[rattlefmt::skip]
+static CUSTODY_AFTER: [Becomes; 12] = [
+    (DESTROYED, "1000 zed 1 revoke 1 2 -", "Kept"),
+    (DESTROYED, "1000 zed 1 revoke 1 3 50", "Kept"),
+    (PRE, "1000 zed 1 revoke 1 2 -", "ApprovalsEnded"),
+    (ACTIVE, "1000 bob 1 revoke 1 3 50", "ApprovalsEnded"),
+    (State::Deactivated, "1000 cat 1 revoke 1 2 -", "ApprovalsEnded"),
+    (PRE, "1000 bob 1 add-custodian 1 fay", "CustodianAdded(\"fay\")"),
+    (PRE, "1000 bob 1 remove-custodian 1 dan", "CustodianRemoved(\"dan\")"),
+    (PRE, "1000 eve 1 approve 1", "Approved(\"eve\")"),
+    (PRE, "1000 cat 1 withdraw 1", "Withdrawn(\"cat\")"),
+    (PRE, "1000 bob 1 set-quorum 1 3", "NeedSet(Quorum { approvals: 3 })"),
+    (DESTROYED, "1000 bob 1 set-quorum 1 3", "NeedSet(Quorum { approvals: 3 })"),
+    (PRE, "1000 bob 1 destroy 1", "Kept"),
+];
+
+/// What becomes of the people of the change's key.
+fn custody_of(change: Option<Change>) -> Option<CustodyChange> {
     match change {
-        Some(Change::Held { custody, .. }) => custody == expected,
-        _ => false,
+        Some(Change::Held { custody, .. }) => Some(custody),
+        _ => None,
     }
 }
 
-/// Whether this becomes of the people of bob's key in this state at 1000, by the line.
-fn custody_becomes(
-    alloc: Global,
-    state: State,
-    line: &str,
-    expected: &CustodyChange,
-) -> Result<bool, Fail> {
-    let view = view_in(alloc, state)?;
+/// Whether this becomes of the people of bob's key by the line.
+fn custody_becomes(alloc: Global, becomes: &Becomes) -> Result<bool, Fail> {
+    let (state, line, printed) = becomes;
+    let view = view_in(alloc, *state)?;
     let request = read_request(line.as_bytes()).ok_or("a request")?;
-    Ok(is_of(&change_by_request(&view, &request), expected))
+    let custody = custody_of(change_by_request(&view, &request));
+    Ok(is_printed(alloc, custody, printed))
 }
 
-/// A compromise ends the approvals of a key that is not destroyed yet.
 #[test]
 fn custody_after_commands(rt: HostRuntime) -> Result<(), Fail> {
-    let (kept, ended) = (CustodyChange::Kept, CustodyChange::ApprovalsEnded);
-    let added = CustodyChange::CustodianAdded(name("fay")?);
-    let removed = CustodyChange::CustodianRemoved(name("dan")?);
-    let approved = CustodyChange::Approved(name("eve")?);
-    let withdrawn = CustodyChange::Withdrawn(name("cat")?);
-    let set = CustodyChange::NeedSet(Quorum::new(3).ok_or("a quorum")?);
-    let rows = [
-        (DESTROYED, "1000 zed 1 revoke 1 2 -", kept),
-        (DESTROYED, "1000 zed 1 revoke 1 3 50", kept),
-        (PRE, "1000 zed 1 revoke 1 2 -", ended),
-        (ACTIVE, "1000 bob 1 revoke 1 3 50", ended),
-        (State::Deactivated, "1000 cat 1 revoke 1 2 -", ended),
-        (PRE, "1000 bob 1 add-custodian 1 fay", added),
-        (PRE, "1000 bob 1 remove-custodian 1 dan", removed),
-        (PRE, "1000 eve 1 approve 1", approved),
-        (PRE, "1000 cat 1 withdraw 1", withdrawn),
-        (PRE, "1000 bob 1 set-quorum 1 3", set),
-        (DESTROYED, "1000 bob 1 set-quorum 1 3", set),
-        (PRE, "1000 bob 1 destroy 1", kept),
-    ];
-    for (state, line, expected) in rows {
-        assert!(rt;
-            custody_becomes(rt.alloc(), state, line, &expected)?,
-            "{state:?}, {line}"
-        );
+    for becomes in &CUSTODY_AFTER {
+        assert!(rt; custody_becomes(rt.alloc(), becomes)?, "{becomes:?}");
     }
     Ok(())
 }

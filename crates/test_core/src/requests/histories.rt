@@ -7,7 +7,6 @@ use register_core::{
     Answer, Held, Name, Names, Quorum, Refusal, Reply, Request, read_request, reply_line,
 };
 use std::alloc::{AllocError, Global};
-use std::process::Abort;
 use std::test::Fail;
 
 /// A line and the line of its reply.
@@ -57,9 +56,14 @@ const PERIODS_SET: [Row; 5] = [
     ("400 ann 2 register authentication bob 0 63072000 - x", "ok 2 Active 400\n"),
 ];
 
-/// The first row whose reply is another.
-fn first_wrong(answers: &[Result<Reply, Refusal>], rows: &[Row]) -> Option<usize> {
-    answers.iter().zip(rows).position(|(answer, (_, reply))| reply_line(answer).as_str() != *reply)
+/// The line of the first row whose reply is another.
+fn first_wrong(answers: &[Result<Reply, Refusal>], rows: &[Row]) -> Option<&'static str> {
+    for (answer, (line, reply)) in answers.iter().zip(rows) {
+        if reply_line(answer).as_str() != *reply {
+            return Some(line);
+        }
+    }
+    None
 }
 
 /// The requests that were accepted.
@@ -75,27 +79,40 @@ fn accepted_of(
         .collect(alloc)
 }
 
-/// Compares the answers to the lines with the replies beside them. Key 1 as it stands after those
-/// that are accepted.
-fn key_after(rt: &impl Abort, alloc: Global, rows: &[Row]) -> Result<Option<Held>, AllocError> {
+/// The requests of the lines that are accepted, where each is answered by the reply beside it. A
+/// test fails with the line of one that is not.
+fn history_of(alloc: Global, rows: &[Row]) -> Result<Vec<Request>, Fail> {
     let items: Vec<Option<Request>> = rows
         .iter()
         .map(|(line, _)| read_request(line.as_bytes()))
         .collect(alloc)?;
-    assert!(rt; items.len() < 100);
+    if items.len() > 100 {
+        return Err(Fail::from("more lines than the plain program is given"));
+    }
     let answers = test_plain_register::answers(alloc, &items)?;
-    assert_eq!(rt; answers.len(), rows.len());
-    assert_eq!(rt; first_wrong(&answers, rows), None);
-    let accepted = accepted_of(alloc, &items, &answers)?;
-    assert!(rt; accepted.len() < 100);
-    test_plain_register::held(alloc, &accepted, 1)
+    if answers.len() != rows.len() {
+        return Err(Fail::from("another number of answers than of lines"));
+    }
+    match first_wrong(&answers, rows) {
+        Some(line) => Err(Fail::from(line)),
+        None => Ok(accepted_of(alloc, &items, &answers)?),
+    }
 }
 
-/// The same of the lines of [`APPROVED`] and of those that follow.
-fn held_after(rt: &impl Abort, alloc: Global, following: &[Row]) -> Result<Held, Fail> {
+/// Key 1 as it stands after those requests.
+fn key_after(alloc: Global, rows: &[Row]) -> Result<Held, Fail> {
+    let history = history_of(alloc, rows)?;
+    if history.len() > 100 {
+        return Err(Fail::from("more requests than the plain program is given"));
+    }
+    Ok(test_plain_register::held(alloc, &history, 1)?.ok_or("a key")?)
+}
+
+/// The same after the lines of [`APPROVED`] and those that follow.
+fn held_after(alloc: Global, following: &[Row]) -> Result<Held, Fail> {
     let mut rows = APPROVED.to_vec(alloc)?;
     rows.extend_from_slice(following)?;
-    Ok(key_after(rt, alloc, &rows)?.ok_or("a key")?)
+    key_after(alloc, &rows)
 }
 
 /// Whether the list is that of these names, in this order.
@@ -126,41 +143,53 @@ fn is_key(
 
 #[test]
 fn destruction(rt: HostRuntime) -> Result<(), Fail> {
-    let key = held_after(&rt, rt.alloc(), &DESTROYED)?;
+    let key = held_after(rt.alloc(), &DESTROYED)?;
     let after = State::DestroyedCompromised;
     assert!(rt; is_key(&key, after, Some(108), Some(109), &["cat", "dan"]));
     Ok(())
 }
 
+/// Whether the key was compromised at 105, with an occurrence at 50, and its approvals ended.
+fn is_compromised(key: &Held) -> bool {
+    is_key(key, State::Compromised, None, Some(105), &[])
+        && key.row.dates.compromise_occurrence == Moment::new(50)
+}
+
 #[test]
 fn compromise(rt: HostRuntime) -> Result<(), Fail> {
-    let key = held_after(&rt, rt.alloc(), &COMPROMISED)?;
-    assert!(rt; is_key(&key, State::Compromised, None, Some(105), &[]));
-    assert_eq!(rt; key.row.dates.compromise_occurrence, Moment::new(50));
+    assert!(rt; is_compromised(&held_after(rt.alloc(), &COMPROMISED)?));
     Ok(())
+}
+
+/// How many approvals the destruction of the key needs after those lines.
+fn need_after(alloc: Global, following: &[Row]) -> Result<u8, Fail> {
+    Ok(held_after(alloc, following)?.need.get())
+}
+
+/// Whether the key is destroyed at 107 by the approvals of both, who are as many as it needs.
+fn is_destroyed_by_both(key: &Held) -> bool {
+    is_key(key, State::Destroyed, Some(107), None, &["cat", "dan"]) && key.need == Quorum::LEAST
 }
 
 /// What was asked for last counts, and two where nothing was.
 #[test]
 fn needs(rt: HostRuntime) -> Result<(), Fail> {
-    assert_eq!(rt;
-        held_after(&rt, rt.alloc(), &COMPROMISED)?.need,
-        Quorum::LEAST
-    );
-    let asked = held_after(&rt, rt.alloc(), NEEDING.get(..1).ok_or("a row")?)?;
-    assert_eq!(rt; asked.need.get(), 3);
-    let key = held_after(&rt, rt.alloc(), &NEEDING)?;
-    assert_eq!(rt; key.need, Quorum::LEAST);
-    assert!(rt; is_key(&key, State::Destroyed, Some(107), None, &["cat", "dan"]));
+    assert_eq!(rt; need_after(rt.alloc(), &COMPROMISED)?, 2);
+    assert_eq!(rt; need_after(rt.alloc(), &NEEDING[..1])?, 3);
+    assert!(rt; is_destroyed_by_both(&held_after(rt.alloc(), &NEEDING)?));
     Ok(())
+}
+
+/// Whether the key's dates are a year and four years after moment 0.
+fn has_dates_of_first_period(key: &Held) -> bool {
+    key.row.dates.protect_stop == Moment::new(31_536_000)
+        && key.row.dates.deactivation == Moment::new(126_230_400)
 }
 
 /// The dates that a key has stay, whatever period is set after them.
 #[test]
 fn periods(rt: HostRuntime) -> Result<(), Fail> {
-    let key = key_after(&rt, rt.alloc(), &PERIODS_SET)?.ok_or("a key")?;
-    assert_eq!(rt; key.row.dates.protect_stop, Moment::new(31_536_000));
-    assert_eq!(rt; key.row.dates.deactivation, Moment::new(126_230_400));
+    assert!(rt; has_dates_of_first_period(&key_after(rt.alloc(), &PERIODS_SET)?));
     Ok(())
 }
 
@@ -173,6 +202,21 @@ const HANDED_ON: [&str; 5] = [
     "104 eve 1 remove-custodian 1 cat",
 ];
 
+/// Whether key 1 is a master key of eve's with dan as its custodian, after these five requests.
+fn is_handed_on(alloc: Global, history: &[Request]) -> Result<bool, AllocError> {
+    if history.len() != 5 {
+        return Ok(false);
+    }
+    match test_plain_register::held(alloc, history, 1)? {
+        Some(key) => Ok(
+            are_names(&key.custodians, &["dan"])
+                && test_plain_register::kind_of_key(history, 1) == KeyType::Master
+                && test_plain_register::owner(history, 1) == Name::new(b"eve"),
+        ),
+        None => Ok(false),
+    }
+}
+
 /// A key's type, owner and custodians, read off the accepted requests.
 #[test]
 fn a_key_is_told_by_its_history(rt: HostRuntime) -> Result<(), Fail> {
@@ -180,15 +224,13 @@ fn a_key_is_told_by_its_history(rt: HostRuntime) -> Result<(), Fail> {
         .iter()
         .filter_map(|line| read_request(line.as_bytes()))
         .collect(rt.alloc())?;
-    assert_eq!(rt; history.len(), 5);
-    assert_eq!(rt;
-        test_plain_register::kind_of_key(&history, 1),
-        KeyType::Master
-    );
-    assert_eq!(rt; test_plain_register::owner(&history, 1), Name::new(b"eve"));
-    let key = test_plain_register::held(rt.alloc(), &history, 1)?.ok_or("a key")?;
-    assert!(rt; are_names(&key.custodians, &["dan"]));
+    assert!(rt; is_handed_on(rt.alloc(), &history)?);
     Ok(())
+}
+
+/// Whether the answer tells of this outcome, by this line.
+fn tells(answer: Answer, outcome: Result<Reply, Refusal>, line: &str) -> bool {
+    answer.outcome() == outcome && answer.reply_line().as_str() == line
 }
 
 /// A repeat is answered as the request was.
@@ -199,17 +241,15 @@ fn outcomes(rt: HostRuntime) -> Result<(), Fail> {
         state: Some(State::Active),
         moment: Moment::new(100).ok_or("a moment")?,
     };
-    assert_eq!(rt; Answer::Accepted(reply).outcome(), Ok(reply));
-    assert_eq!(rt; Answer::Repeated(reply).outcome(), Ok(reply));
     let refusal = Refusal::UnknownKey;
-    assert_eq!(rt; Answer::Refused(refusal).outcome(), Err(refusal));
-    assert_eq!(rt;
-        Answer::Repeated(reply).reply_line().as_str(),
-        "ok 1 Active 100\n"
-    );
-    assert_eq!(rt;
-        Answer::Refused(refusal).reply_line().as_str(),
-        "refused 4 UnknownKey\n"
+    assert!(rt; tells(Answer::Accepted(reply), Ok(reply), "ok 1 Active 100\n"));
+    assert!(rt; tells(Answer::Repeated(reply), Ok(reply), "ok 1 Active 100\n"));
+    assert!(rt;
+        tells(
+            Answer::Refused(refusal),
+            Err(refusal),
+            "refused 4 UnknownKey\n"
+        )
     );
     Ok(())
 }
