@@ -1,6 +1,6 @@
 //! Heads: routes, methods, hosts, lengths and senders, in the order of the steps.
 use super::inputs::{asked_by, asked_of};
-use http_messages::{Asked, Rejection, Route, Routes};
+use http_messages::{Asked, Rejection, Routes};
 use std::alloc::Global;
 
 const BAD: Rejection = Rejection::BadRequest;
@@ -14,10 +14,21 @@ const OTHER_TARGETS: [&str; 22] = [
     "GET /", "POST /requests/", "POST /requests?x", "DELETE /nothing",
 ];
 
+/// Whether this is asked for, as it is printed.
+fn is_asked(alloc: Global, asked: Option<Asked>, text: &str) -> bool {
+    let Some(asked) = asked else {
+        return false;
+    };
+    match format!(in alloc; "{asked:?}") {
+        Ok(printed) => printed.as_str() == text,
+        Err(_) => false,
+    }
+}
+
 /// Whether the head of this request line and a host asks for this.
-fn asks(alloc: Global, routes: &mut Routes, line: &str, asked: Asked) -> bool {
+fn asks(alloc: Global, routes: &mut Routes, line: &str, asked: &str) -> bool {
     match format!(in alloc; "{line} HTTP/1.1\r\nHost: localhost\r\n\r\n") {
-        Ok(input) => asked_by(alloc, routes, input.as_bytes()) == Some(asked),
+        Ok(input) => is_asked(alloc, asked_by(alloc, routes, input.as_bytes()), asked),
         Err(_) => false,
     }
 }
@@ -27,75 +38,68 @@ fn other_targets_have_no_route(rt: HostRuntime) {
     let mut routes = Routes::new();
     for line in &OTHER_TARGETS {
         assert!(rt;
-            asks(
-                rt.alloc(),
-                &mut routes,
-                line,
-                Asked::Reject(Rejection::NoRoute)
-            ),
+            asks(rt.alloc(), &mut routes, line, "Reject(NoRoute)"),
             "{line}"
         );
     }
 }
 
-/// A request line, and what it asks for with a host.
+/// A request line, and what it asks for with a host, as that is printed.
 #[rattlefmt::skip]
-const ROUTES: [(&str, Asked); 14] = [
-    ("GET /keys/1", Asked::ShowKey(1)),
-    ("GET /keys/4294967295", Asked::ShowKey(4_294_967_295)),
-    ("GET /keys/1/usage", Asked::ShowUsage(1)),
-    ("GET /keys/4294967295/usage", Asked::ShowUsage(4_294_967_295)),
-    ("HEAD /keys/1", Asked::Reject(Rejection::MethodNotAllowed(Route::Show(1)))),
-    ("get /keys/1", Asked::Reject(Rejection::MethodNotAllowed(Route::Show(1)))),
-    ("POST /keys/1", Asked::Reject(Rejection::MethodNotAllowed(Route::Show(1)))),
-    ("DELETE /keys/1/usage", Asked::Reject(Rejection::MethodNotAllowed(Route::Usage(1)))),
-    ("OPTIONS /keys/1/usage", Asked::Reject(Rejection::MethodNotAllowed(Route::Usage(1)))),
-    ("GET /requests", Asked::Reject(Rejection::MethodNotAllowed(Route::Requests))),
-    ("HEAD /requests", Asked::Reject(Rejection::MethodNotAllowed(Route::Requests))),
-    ("PUT /requests", Asked::Reject(Rejection::MethodNotAllowed(Route::Requests))),
-    ("post /requests", Asked::Reject(Rejection::MethodNotAllowed(Route::Requests))),
-    ("POST /requests", Asked::Reject(Rejection::LengthRequired)),
+static ROUTES: [(&str, &str); 14] = [
+    ("GET /keys/1", "ShowKey(1)"),
+    ("GET /keys/4294967295", "ShowKey(4294967295)"),
+    ("GET /keys/1/usage", "ShowUsage(1)"),
+    ("GET /keys/4294967295/usage", "ShowUsage(4294967295)"),
+    ("HEAD /keys/1", "Reject(MethodNotAllowed(Show(1)))"),
+    ("get /keys/1", "Reject(MethodNotAllowed(Show(1)))"),
+    ("POST /keys/1", "Reject(MethodNotAllowed(Show(1)))"),
+    ("DELETE /keys/1/usage", "Reject(MethodNotAllowed(Usage(1)))"),
+    ("OPTIONS /keys/1/usage", "Reject(MethodNotAllowed(Usage(1)))"),
+    ("GET /requests", "Reject(MethodNotAllowed(Requests))"),
+    ("HEAD /requests", "Reject(MethodNotAllowed(Requests))"),
+    ("PUT /requests", "Reject(MethodNotAllowed(Requests))"),
+    ("post /requests", "Reject(MethodNotAllowed(Requests))"),
+    ("POST /requests", "Reject(LengthRequired)"),
 ];
 
 #[test]
 fn each_route_takes_its_method(rt: HostRuntime) {
     let mut routes = Routes::new();
     for (line, asked) in &ROUTES {
-        assert!(rt; asks(rt.alloc(), &mut routes, line, *asked), "{line}");
+        assert!(rt; asks(rt.alloc(), &mut routes, line, asked), "{line}");
     }
 }
 
 /// Inputs that are whole but for what their heads say, and what they ask for.
 #[rattlefmt::skip]
-const HEADS: [(&str, Asked); 15] = [
+static HEADS: [(&str, &str); 15] = [
     // Of HTTP/1.0 no host is asked; of HTTP/1.1 one, of any value and before the route.
-    ("GET /keys/1 HTTP/1.0\r\n\r\n", Asked::ShowKey(1)),
-    ("GET /keys/1 HTTP/1.0\r\nHost: a\r\nHost: b\r\n\r\n", Asked::ShowKey(1)),
-    ("GET /keys/1 HTTP/1.1\r\nhOST:\r\n\r\n", Asked::ShowKey(1)),
-    ("GET /keys/1 HTTP/1.1\r\n\r\n", Asked::Reject(BAD)),
-    ("GET /keys/1 HTTP/1.1\r\nHost: a\r\nHost: a\r\n\r\n", Asked::Reject(BAD)),
-    ("GET /nothing HTTP/1.1\r\nHost: a\r\nhost: b\r\n\r\n", Asked::Reject(BAD)),
+    ("GET /keys/1 HTTP/1.0\r\n\r\n", "ShowKey(1)"),
+    ("GET /keys/1 HTTP/1.0\r\nHost: a\r\nHost: b\r\n\r\n", "ShowKey(1)"),
+    ("GET /keys/1 HTTP/1.1\r\nhOST:\r\n\r\n", "ShowKey(1)"),
+    ("GET /keys/1 HTTP/1.1\r\n\r\n", "Reject(BadRequest)"),
+    ("GET /keys/1 HTTP/1.1\r\nHost: a\r\nHost: a\r\n\r\n", "Reject(BadRequest)"),
+    ("GET /nothing HTTP/1.1\r\nHost: a\r\nhost: b\r\n\r\n", "Reject(BadRequest)"),
     // Empty lines before it, and lines that end with LF alone.
-    ("\r\n\r\nGET /keys/1 HTTP/1.1\nHost: localhost\n\n", Asked::ShowKey(1)),
+    ("\r\n\r\nGET /keys/1 HTTP/1.1\nHost: localhost\n\n", "ShowKey(1)"),
     // A body of a GET is not read.
-    ("GET /keys/1 HTTP/1.1\r\nHost: localhost\r\nContent-Length: 2\r\nContent-Length: x\r\n\r\n{}", Asked::ShowKey(1)),
+    ("GET /keys/1 HTTP/1.1\r\nHost: localhost\r\nContent-Length: 2\r\nContent-Length: x\r\n\r\n{}", "ShowKey(1)"),
     // No heads.
-    ("GET /keys/1 HTTP/2.0\r\nHost: localhost\r\n\r\n", Asked::Reject(BAD)),
-    ("GET /keys/1\r\nHost: localhost\r\n\r\n", Asked::Reject(BAD)),
-    ("GET  /keys/1 HTTP/1.1\r\nHost: localhost\r\n\r\n", Asked::Reject(BAD)),
-    ("GET /keys/1 HTTP/1.1\r\nHost : localhost\r\n\r\n", Asked::Reject(BAD)),
-    ("GET /keys/1 HTTP/1.1\r\nHost: localhost\r\n folded\r\n\r\n", Asked::Reject(BAD)),
-    ("100 ann 1 advance\n", Asked::Reject(BAD)),
-    ("\u{0}", Asked::Reject(BAD)),
+    ("GET /keys/1 HTTP/2.0\r\nHost: localhost\r\n\r\n", "Reject(BadRequest)"),
+    ("GET /keys/1\r\nHost: localhost\r\n\r\n", "Reject(BadRequest)"),
+    ("GET  /keys/1 HTTP/1.1\r\nHost: localhost\r\n\r\n", "Reject(BadRequest)"),
+    ("GET /keys/1 HTTP/1.1\r\nHost : localhost\r\n\r\n", "Reject(BadRequest)"),
+    ("GET /keys/1 HTTP/1.1\r\nHost: localhost\r\n folded\r\n\r\n", "Reject(BadRequest)"),
+    ("100 ann 1 advance\n", "Reject(BadRequest)"),
+    ("\u{0}", "Reject(BadRequest)"),
 ];
 
 #[test]
 fn heads_are_told_from_none(rt: HostRuntime) {
     for (input, asked) in &HEADS {
-        assert!(rt;
-            asked_of(rt.alloc(), input.as_bytes()) == Some(*asked),
-            "{input}"
-        );
+        let is = asked_of(rt.alloc(), input.as_bytes());
+        assert!(rt; is_asked(rt.alloc(), is, asked), "{input}");
     }
     assert!(rt; asked_of(rt.alloc(), b"".as_slice()).is_none());
 }
