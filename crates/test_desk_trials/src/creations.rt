@@ -1,5 +1,4 @@
 //! The making of a register where something is.
-use crate::cases::first_wrong;
 use crate::fresh_run::make_desk;
 use register_desk::{Desk, OpenRefusal};
 use sqlite::{Connection, MemStore};
@@ -100,8 +99,10 @@ fn is_refused(
 
 /// What makes a table beside which a register is made, if there is one.
 pub fn table_not_enough_to_refuse(alloc: Global) -> Result<Option<&'static str>, Fail> {
-    let wrong = first_wrong(&TABLES, |(create, insert, kept, other)| {
-        is_refused(alloc, create, insert, kept, other)
-    })?;
-    Ok(wrong.map(|(create, ..)| *create))
+    for (create, insert, kept, other) in &TABLES {
+        if !is_refused(alloc, create, insert, kept, other)? {
+            return Ok(Some(create));
+        }
+    }
+    Ok(None)
 }

@@ -1,6 +1,5 @@
 //! Rows that no register holds, which came into its tables after an opening: each call that reads
 //! one tells so, and not that memory gave out.
-use crate::cases::first_wrong;
 use crate::fresh_run::desk_of;
 use period_core::KeyType;
 use register_core::Quorum;
@@ -103,13 +102,32 @@ fn is_told(alloc: Global, edit: &str, look: Look) -> Result<bool, Fail> {
     Ok(before == Some(Ok(true)) && after == Some(Err(StoreError::NoRegister)))
 }
 
-/// An edit of a row that is not told by what reads it, if there is one.
-pub fn edited_row_not_told(alloc: Global) -> Result<Option<&'static str>, Fail> {
-    for look in &OF_KEYS {
-        if let Some(edit) = first_wrong(&KEY_EDITS, |edit| is_told(alloc, edit, *look))? {
+/// An edit of a row of `keys` that is not told by this look, if there is one.
+fn key_edit_not_told(alloc: Global, look: Look) -> Result<Option<&'static str>, Fail> {
+    for edit in &KEY_EDITS {
+        if !is_told(alloc, edit, look)? {
             return Ok(Some(edit));
         }
     }
-    let wrong = first_wrong(&OTHER_EDITS, |(edit, look)| is_told(alloc, edit, *look))?;
-    Ok(wrong.map(|(edit, _)| *edit))
+    Ok(None)
+}
+
+/// An edit of another row that is not told by what reads it, if there is one.
+fn other_edit_not_told(alloc: Global) -> Result<Option<&'static str>, Fail> {
+    for (edit, look) in &OTHER_EDITS {
+        if !is_told(alloc, edit, *look)? {
+            return Ok(Some(edit));
+        }
+    }
+    Ok(None)
+}
+
+/// An edit of a row that is not told by what reads it, if there is one.
+pub fn edited_row_not_told(alloc: Global) -> Result<Option<&'static str>, Fail> {
+    for look in &OF_KEYS {
+        if let Some(edit) = key_edit_not_told(alloc, *look)? {
+            return Ok(Some(edit));
+        }
+    }
+    other_edit_not_told(alloc)
 }

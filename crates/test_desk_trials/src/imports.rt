@@ -1,5 +1,4 @@
 //! Imports of tables, over a register in memory.
-use crate::cases::first_wrong;
 use crate::fresh_run::make_desk;
 use moment_core::Moment;
 use register_core::Name;
@@ -131,10 +130,12 @@ static WITHOUT_HEADER: [&str; 6] = [
 /// A table without its header of which something is registered, if there is one.
 pub fn headless_table_imported(alloc: Global) -> Result<Option<&'static str>, Fail> {
     let end = Finish::Ended(End::BadHeader);
-    let wrong = first_wrong(&WITHOUT_HEADER, |table| {
-        is_answered(alloc, table.as_bytes(), "", end, 0)
-    })?;
-    Ok(wrong.copied())
+    for table in &WITHOUT_HEADER {
+        if !is_answered(alloc, table.as_bytes(), "", end, 0)? {
+            return Ok(Some(table));
+        }
+    }
+    Ok(None)
 }
 
 /// Tables, the replies to them, and how many keys they leave: the header alone; odd ends of lines,
@@ -161,10 +162,12 @@ static TABLES: [(&str, &str, u32); 4] = [
 
 /// An odd table that is not answered as it should be, if there is one.
 pub fn odd_table_at_fault(alloc: Global) -> Result<Option<&'static str>, Fail> {
-    let wrong = first_wrong(&TABLES, |(table, replies, keys)| {
-        is_answered(alloc, table.as_bytes(), replies, AT_END, *keys)
-    })?;
-    Ok(wrong.map(|(table, ..)| *table))
+    for (table, replies, keys) in &TABLES {
+        if !is_answered(alloc, table.as_bytes(), replies, AT_END, *keys)? {
+            return Ok(Some(table));
+        }
+    }
+    Ok(None)
 }
 
 const READ_FAULT: Finish = Finish::Ended(End::ReadFault);

@@ -59,7 +59,11 @@ fn is_exchanged(alloc: Global, desk: &mut Desk<MemStore>) -> bool {
     let mut reader = Watched::new(SHOW.as_bytes());
     let mut writer = Watched::new(Vec::new(alloc));
     let outcome = run_exchange(alloc, desk, 100, &mut reader, &mut writer);
-    outcome.is_some_and(|outcome| outcome.end == AT_END && outcome.replies == 1)
+    let is_replied = match outcome {
+        Some(outcome) => outcome.end == AT_END && outcome.replies == 1,
+        None => false,
+    };
+    is_replied
         && writer
             .into_inner()
             .as_slice()

@@ -1,6 +1,5 @@
 //! Registers of the first version of the tables: as they are opened they are taken to this
 //! program's, or are refused.
-use crate::cases::first_wrong;
 use crate::fresh_run::run_over;
 use register_desk::{Desk, OpenRefusal};
 use sqlite::{Connection, MemStore};
@@ -105,11 +104,12 @@ fn is_left(alloc: Global, edit: &str, refusal: OpenRefusal) -> Result<bool, Fail
 /// A statement after which the register of the first version is not refused as none, if there is
 /// one.
 pub fn first_version_not_refused(alloc: Global) -> Result<Option<&'static str>, Fail> {
-    let wrong = first_wrong(
-        &WRONG,
-        |edit| is_left(alloc, edit, OpenRefusal::NotARegister),
-    )?;
-    Ok(wrong.copied())
+    for edit in &WRONG {
+        if !is_left(alloc, edit, OpenRefusal::NotARegister)? {
+            return Ok(Some(edit));
+        }
+    }
+    Ok(None)
 }
 
 /// Whether an index that has the name of a table to be made is met by the database's refusal, and
@@ -166,6 +166,10 @@ pub fn first_version_not_taken_on(alloc: Global) -> Result<Option<&'static str>,
     if !is_taken_on(alloc, None)? {
         return Ok(Some(""));
     }
-    let wrong = first_wrong(&RIGHT, |edit| is_taken_on(alloc, Some(edit)))?;
-    Ok(wrong.copied())
+    for edit in &RIGHT {
+        if !is_taken_on(alloc, Some(edit))? {
+            return Ok(Some(edit));
+        }
+    }
+    Ok(None)
 }

@@ -1,5 +1,4 @@
 //! Registers that are opened again: good ones go on, and ones with a wrong edit are refused.
-use crate::cases::first_wrong;
 use crate::fresh_run::{desk_after, run_over};
 use register_desk::{Desk, OpenRefusal};
 use sqlite::{Connection, MemStore};
@@ -65,10 +64,12 @@ fn first_not_refused(
     alloc: Global,
     edits: &'static [&'static str],
 ) -> Result<Option<&'static str>, Fail> {
-    let is_refused = |edit: &&str| {
-        Ok(refusal_after(alloc, edit)? == Some(OpenRefusal::NotARegister))
-    };
-    Ok(first_wrong(edits, is_refused)?.copied())
+    for edit in edits {
+        if refusal_after(alloc, edit)? != Some(OpenRefusal::NotARegister) {
+            return Ok(Some(edit));
+        }
+    }
+    Ok(None)
 }
 
 /// A wrong edit after which a register is not refused, if there is one.

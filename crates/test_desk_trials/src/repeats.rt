@@ -83,10 +83,10 @@ fn day_again(alloc: Global) -> Result<Lines, AllocError> {
 
 /// What the plain program answers the request lines.
 fn plain_replies(alloc: Global, requests: &[u8]) -> Result<Vec<u8>, AllocError> {
-    let items: Vec<Option<Request>> = requests
-        .split(|byte| *byte == b'\n')
-        .map(|line| read_request(line))
-        .collect(alloc)?;
+    let mut items: Vec<Option<Request>> = Vec::new(alloc);
+    for line in requests.split(|byte| *byte == b'\n') {
+        items.push(read_request(line))?;
+    }
     let Some((_, lines)) = items.as_slice().split_last() else {
         return Ok(Vec::new(alloc));
     };

@@ -1,8 +1,8 @@
 //! The worked rows: what a run writes, against the rows, the plain program and what is shown of a
 //! key.
-use crate::cases::first_wrong;
 use crate::fresh_run::{desk_after, fresh_run};
 use lifecycle_core::Dates;
+use moment_core::Moment;
 use register_core::{Name, Refusal, Reply, Request, read_request, reply_line};
 use register_desk::{Finish, Outcome, Watched, run_in_memory};
 use std::alloc::{AllocError, Global};
@@ -33,7 +33,12 @@ pub fn lines_of(alloc: Global, answers: &[Result<Reply, Refusal>]) -> Result<Vec
 
 /// Whether one of the requests has the caller and the number of this one.
 fn has_number_of(history: &[Request], request: &Request) -> bool {
-    history.iter().any(|other| other.caller == request.caller && other.number == request.number)
+    for other in history {
+        if other.caller == request.caller && other.number == request.number {
+            return true;
+        }
+    }
+    false
 }
 
 /// The requests that were accepted: of each caller and number the first that was answered with a
@@ -97,15 +102,14 @@ fn is_run(alloc: Global, row: &WorkedRow) -> Result<bool, Fail> {
 
 /// The dates after the Initial Date, in seconds.
 fn seconds(dates: &Dates) -> [Option<u64>; 6] {
-    let dates = [
-        dates.activation,
-        dates.protect_stop,
-        dates.deactivation,
-        dates.destroy,
-        dates.compromise,
-        dates.compromise_occurrence,
-    ];
-    dates.map(|date| date.map(|moment| moment.seconds()))
+    [
+        dates.activation.map(Moment::seconds),
+        dates.protect_stop.map(Moment::seconds),
+        dates.deactivation.map(Moment::seconds),
+        dates.destroy.map(Moment::seconds),
+        dates.compromise.map(Moment::seconds),
+        dates.compromise_occurrence.map(Moment::seconds),
+    ]
 }
 
 /// The names, each with a space after it.
@@ -150,11 +154,21 @@ fn is_good(alloc: Global, row: &WorkedRow) -> Result<bool, Fail> {
     }
 }
 
+/// Which of these rows does not go as it should, if one does not.
+fn fault_in(alloc: Global, rows: &'static [WorkedRow]) -> Result<Option<&'static str>, Fail> {
+    for row in rows {
+        if !is_good(alloc, row)? {
+            return Ok(Some(row.name));
+        }
+    }
+    Ok(None)
+}
+
 /// Which of all worked rows does not go as it should, if one does not.
 pub fn worked_row_at_fault(alloc: Global) -> Result<Option<&'static str>, Fail> {
     for rows in tables() {
-        if let Some(row) = first_wrong(rows, |row| is_good(alloc, row))? {
-            return Ok(Some(row.name));
+        if let Some(name) = fault_in(alloc, rows)? {
+            return Ok(Some(name));
         }
     }
     Ok(None)
