@@ -39,3 +39,6 @@ returns-in-Ok-Whole-clause-reads g c =
       fault = reads.fault;
       bounded = λ before. reads.bounded (c.read_head.ensures.bounded before);
     }
+
+pub returns-in-Err-clause-reads : goal.returns-in-Err-clause-reads
+returns-in-Err-clause-reads g c = search rules
