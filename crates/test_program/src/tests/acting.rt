@@ -8,6 +8,7 @@ use sqlite::{Start, Wary};
 use std::alloc::Global;
 use std::io::{Read, Write};
 use std::test::Fail;
+use test_faulty_devices::{Trouble, Troubled};
 
 /// The program's own name, and these words after it.
 fn words_of(alloc: Global, given: &[&str]) -> Result<Vec<String>, Fail> {
@@ -21,7 +22,7 @@ fn words_of(alloc: Global, given: &[&str]) -> Result<Vec<String>, Fail> {
 
 /// The exit status of the program with these words over these streams, and over files of which `S`
 /// says what they hold at first: the checker finds `Files` at no type of the machine by itself.
-pub fn act_on<S: Start, R: Read + Drop, W: Write + Drop, E: Write + Drop>(
+fn act_on<S: Start, R: Read + Drop, W: Write + Drop, E: Write + Drop>(
     rt: &HostRuntime,
     start: S,
     given: &[&str],
@@ -49,16 +50,60 @@ pub struct Done {
     pub faults: Vec<u8>,
 }
 
-/// What the program does with these words over this input.
-pub fn acted(rt: &HostRuntime, given: &[&str], input: &[u8]) -> Result<Done, Fail> {
+/// How many turns of each of the program's streams go well, and the trouble that it has then.
+#[derive(Clone, Copy)]
+pub struct Turns {
+    pub trouble: Trouble,
+    pub input: usize,
+    pub output: usize,
+    pub faults: usize,
+}
+
+/// No stream has a trouble.
+pub const UNTROUBLED: Turns = Turns {
+    trouble: Trouble::Fails,
+    input: usize::MAX,
+    output: usize::MAX,
+    faults: usize::MAX,
+};
+
+/// What the program does with these words over streams of which so many turns go well. A call of
+/// [`act_on`] is dear to prove, and so all of them stand here, over streams of one type.
+pub fn acted_over(
+    rt: &HostRuntime,
+    given: &[&str],
+    input: &[u8],
+    turns: Turns,
+) -> Result<Done, Fail> {
+    let trouble = turns.trouble;
     let mut output = Vec::new(rt.alloc());
     let mut faults = Vec::new(rt.alloc());
-    let status = act_on(rt, Wary, given, input, (&mut output, &mut faults))?;
+    let reader = Troubled {
+        inner: input,
+        trouble,
+        good_turns: turns.input,
+    };
+    let writer = Troubled {
+        inner: &mut output,
+        trouble,
+        good_turns: turns.output,
+    };
+    let namer = Troubled {
+        inner: &mut faults,
+        trouble,
+        good_turns: turns.faults,
+    };
+    let status = act_on(rt, Wary, given, reader, (writer, namer))?;
     Ok(Done {
         status,
         output,
         faults,
     })
+}
+
+/// What the program does with these words over this input.
+pub fn acted(rt: &HostRuntime, given: &[&str], input: &[u8]) -> Result<Done, Fail> {
+    acted_over(rt, given, input, UNTROUBLED)
 }
 
 /// Whether the program ends with this status, writes these lines, and names this fault, if any.

@@ -1,12 +1,10 @@
 //! The program's exit statuses, and what it names on standard error.
-use super::acting::{act_on, acted, does};
+use super::acting::{Turns, UNTROUBLED, acted, acted_over, does};
 use register_desk::{End, MAX_IDLE_TURNS, MAX_READS, OpenRefusal, Watched};
 use register_program::{report_bad_value, report_end, report_refusal};
-use sqlite::Wary;
 use std::alloc::Global;
 use std::test::Fail;
-use test_desk_trials::first_wrong;
-use test_faulty_devices::{BrokenAfter, Trouble, Troubled};
+use test_faulty_devices::Trouble;
 use test_worked_rows::{WorkedRow, first_day, input_of, output_of, tables};
 
 static ENDS: [(End, u8, &str); 6] = [
@@ -71,11 +69,21 @@ fn is_served(rt: &HostRuntime, row: &WorkedRow) -> Result<bool, Fail> {
     does(rt, &[], input.as_slice(), 0, expected.as_slice(), "")
 }
 
+/// Which of these rows is not served so, if one is not.
+fn fault_in(rt: &HostRuntime, rows: &'static [WorkedRow]) -> Result<Option<&'static str>, Fail> {
+    for row in rows {
+        if !is_served(rt, row)? {
+            return Ok(Some(row.name));
+        }
+    }
+    Ok(None)
+}
+
 /// Which of all worked rows is not served so, if one is not.
 fn worked_row_at_fault(rt: &HostRuntime) -> Result<Option<&'static str>, Fail> {
     for rows in tables() {
-        if let Some(row) = first_wrong(rows, |row| is_served(rt, row))? {
-            return Ok(Some(row.name));
+        if let Some(name) = fault_in(rt, rows)? {
+            return Ok(Some(name));
         }
     }
     Ok(None)
@@ -153,10 +161,12 @@ fn is_no_command(rt: &HostRuntime, given: &[&str], first_line: &str) -> Result<b
 
 /// The first line that does not come of its words, if there is one.
 fn words_not_told(rt: &HostRuntime) -> Result<Option<&'static str>, Fail> {
-    let wrong = first_wrong(&NO_COMMANDS, |(given, first_line)| {
-        is_no_command(rt, given, first_line)
-    })?;
-    Ok(wrong.map(|(_, first_line)| *first_line))
+    for (given, first_line) in &NO_COMMANDS {
+        if !is_no_command(rt, given, first_line)? {
+            return Ok(Some(first_line));
+        }
+    }
+    Ok(None)
 }
 
 #[test]
@@ -174,16 +184,18 @@ fn a_bad_value_is_named(rt: HostRuntime) {
 
 /// Whether a failed read ends the program with status 4, after the lines before it.
 fn is_failed_read_told(rt: &HostRuntime) -> Result<bool, Fail> {
-    let mut output = Vec::new(rt.alloc());
-    let mut faults = Vec::new(rt.alloc());
-    let input = BrokenAfter(
-        b"100 ann 1 register data-encryption bob 0 500 1000 payroll disks\n999 ann 2 advance\n",
-    );
-    let status = act_on(rt, Wary, &[], input, (&mut output, &mut faults))?;
+    let input =
+        b"100 ann 1 register data-encryption bob 0 500 1000 payroll disks\n999 ann 2 advance\n";
+    // The first read gives both lines.
+    let turns = Turns {
+        input: 1,
+        ..UNTROUBLED
+    };
+    let done = acted_over(rt, &[], input, turns)?;
     Ok(
-        status == 4
-            && output.as_slice() == b"ok 1 Active 100\nok 0 - 999\n".as_slice()
-            && faults.as_slice() == b"keyreg: ReadFault\n".as_slice(),
+        done.status == 4
+            && done.output.as_slice() == b"ok 1 Active 100\nok 0 - 999\n".as_slice()
+            && done.faults.as_slice() == b"keyreg: ReadFault\n".as_slice(),
     )
 }
 
@@ -196,18 +208,17 @@ fn status_4_after_a_failed_read(rt: HostRuntime) -> Result<(), Fail> {
 /// Whether the program ends with status 4 and names the fault, where the first reply goes well.
 fn is_faulted(rt: &HostRuntime, trouble: Trouble) -> Result<bool, Fail> {
     let input = input_of(rt.alloc(), first_day())?;
-    let mut output = Vec::new(rt.alloc());
-    let mut faults = Vec::new(rt.alloc());
-    let writer = Troubled {
-        inner: &mut output,
+    // A line takes a write and a flush.
+    let turns = Turns {
         trouble,
-        good_turns: 2,
+        output: 2,
+        ..UNTROUBLED
     };
-    let status = act_on(rt, Wary, &[], input.as_slice(), (writer, &mut faults))?;
+    let done = acted_over(rt, &[], &input, turns)?;
     Ok(
-        status == 4
-            && output.as_slice() == b"ok 1 Active 100\n".as_slice()
-            && faults.as_slice() == b"keyreg: WriteFault\n".as_slice(),
+        done.status == 4
+            && done.output.as_slice() == b"ok 1 Active 100\n".as_slice()
+            && done.faults.as_slice() == b"keyreg: WriteFault\n".as_slice(),
     )
 }
 
@@ -221,14 +232,13 @@ fn status_4_after_a_failed_write(rt: HostRuntime) -> Result<(), Fail> {
 
 /// Whether the status is 4 also where the fault cannot be named.
 fn is_ended_unnamed(rt: &HostRuntime) -> Result<bool, Fail> {
-    let mut output = Vec::new(rt.alloc());
-    let mut faults = Troubled {
-        inner: Vec::new(rt.alloc()),
-        trouble: Trouble::Fails,
-        good_turns: 0,
+    let turns = Turns {
+        input: 0,
+        faults: 0,
+        ..UNTROUBLED
     };
-    let status = act_on(rt, Wary, &[], BrokenAfter(b""), (&mut output, &mut faults))?;
-    Ok(status == 4 && output.is_empty() && faults.inner.is_empty())
+    let done = acted_over(rt, &[], b"", turns)?;
+    Ok(done.status == 4 && done.output.is_empty() && done.faults.is_empty())
 }
 
 #[test]

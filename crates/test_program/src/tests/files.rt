@@ -2,9 +2,7 @@
 use super::acting::{does, edit};
 use std::fs;
 use std::test::Fail;
-use test_desk_trials::{
-    first_version, first_wrong, hundred_lines, wrong_edits, wrong_of_first_version,
-};
+use test_desk_trials::{first_version, hundred_lines, wrong_edits, wrong_of_first_version};
 use test_worked_rows::{defaults, export_of, input_of, output_of};
 
 /// Takes the file and its log away, where they are there.
@@ -106,17 +104,20 @@ fn is_left_behind(
     is_left(rt, file, faults)
 }
 
-/// A statement after which the register of *defaults* is not refused, or its file is changed, if
-/// there is one.
+/// The first of the statements after which the register is not refused as none, or its file is
+/// changed, if there is one.
 fn edit_not_left(
     rt: &HostRuntime,
     file: &str,
     register: &[u8],
+    statements: &'static [&'static str],
 ) -> Result<Option<&'static str>, Fail> {
-    let wrong = first_wrong(wrong_edits(), |statement| {
-        is_left_behind(rt, file, register, statement, "keyreg: NotARegister\n")
-    })?;
-    Ok(wrong.copied())
+    for statement in statements {
+        if !is_left_behind(rt, file, register, statement, "keyreg: NotARegister\n")? {
+            return Ok(Some(statement));
+        }
+    }
+    Ok(None)
 }
 
 #[test]
@@ -124,7 +125,7 @@ fn wrong_files_are_left_as_they_are(rt: HostRuntime) -> Result<(), Fail> {
     let file = "wrong.keyreg";
     assert!(rt; is_defaults(&rt, file)?);
     let register = fs::read(&rt, file)?;
-    assert_eq!(rt; edit_not_left(&rt, file, &register)?, None);
+    assert_eq!(rt; edit_not_left(&rt, file, &register, wrong_edits())?, None);
     let drop = "DROP TABLE approval";
     assert!(rt; is_left_behind(&rt, file, &register, drop, "keyreg: NotARegister\n")?);
     remove(&rt, file)
@@ -173,10 +174,10 @@ fn wrong_files_of_the_first_version_are_left_as_they_are(rt: HostRuntime) -> Res
     let file = "wrong_first.keyreg";
     put_first_version(&rt, file)?;
     let register = fs::read(&rt, file)?;
-    let wrong = first_wrong(wrong_of_first_version(), |statement| {
-        is_left_behind(&rt, file, &register, statement, "keyreg: NotARegister\n")
-    })?;
-    assert!(rt; wrong.is_none());
+    assert_eq!(rt;
+        edit_not_left(&rt, file, &register, wrong_of_first_version())?,
+        None
+    );
     remove(&rt, file)
 }
 
@@ -202,11 +203,17 @@ fn is_no_database_left(rt: &HostRuntime, file: &str) -> Result<bool, Fail> {
     Ok(is_left(rt, file, faults)? && is_refused(rt, "init", file, faults)?)
 }
 
-/// A name of which no file can be opened, and of which none is told, if there is one.
+/// Names of which no file can be opened.
+static NO_NAMES: [&str; 5] = [".", ":memory:", "file:none", "", "none/none"];
+
+/// One of these names of which that is not told, if there is one.
 fn name_not_told(rt: &HostRuntime) -> Result<Option<&'static str>, Fail> {
-    let names = &[".", ":memory:", "file:none", "", "none/none"];
-    let wrong = first_wrong(names, |file| is_refused(rt, "run", file, "keyreg: Store\n"))?;
-    Ok(wrong.copied())
+    for file in &NO_NAMES {
+        if !is_refused(rt, "run", file, "keyreg: Store\n")? {
+            return Ok(Some(file));
+        }
+    }
+    Ok(None)
 }
 
 #[test]

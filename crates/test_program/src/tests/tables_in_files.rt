@@ -3,7 +3,6 @@ use super::acting::does;
 use super::files::{is_defaults, is_made, remove};
 use std::fs;
 use std::test::Fail;
-use test_desk_trials::first_wrong;
 use test_worked_rows::{Cells, export_of};
 
 /// The table of the worked row *imported*.
@@ -92,14 +91,23 @@ fn is_bad(rt: &HostRuntime, words: &[&str]) -> Result<bool, Fail> {
 
 /// A row of the bad terms that is taken, if there is one.
 fn terms_taken(rt: &HostRuntime, file: &str) -> Result<Option<&'static [&'static str; 3]>, Fail> {
-    first_wrong(&BAD_TERMS, |[moment, caller, first]| {
-        is_bad(rt, &import(file, moment, caller, first))
-    })
+    for terms in &BAD_TERMS {
+        let [moment, caller, first] = terms;
+        if !is_bad(rt, &import(file, moment, caller, first))? {
+            return Ok(Some(terms));
+        }
+    }
+    Ok(None)
 }
 
 /// One of the bad numbers of days that is taken, if there is one.
 fn days_taken(rt: &HostRuntime, file: &str) -> Result<Option<&'static str>, Fail> {
-    Ok(first_wrong(&BAD_DAYS, |days| is_bad(rt, &report(file, days)))?.copied())
+    for days in &BAD_DAYS {
+        if !is_bad(rt, &report(file, days))? {
+            return Ok(Some(days));
+        }
+    }
+    Ok(None)
 }
 
 #[test]
