@@ -2,7 +2,6 @@
 //! as it should be, or gives the first case that is not.
 #![tactic(auto)]
 
-mod cases;
 mod creations;
 mod desks;
 mod edited_rows;
@@ -21,7 +20,6 @@ mod repeats;
 mod rows;
 mod steps;
 
-pub use cases::first_wrong;
 pub use creations::{is_made_once, table_not_enough_to_refuse};
 pub use desks::{are_keys_shown, are_values_of_no_line_refused, is_key_shown_whole};
 pub use edited_rows::edited_row_not_told;
