@@ -31,7 +31,7 @@ const GET: &str = "GET /keys/1 HTTP/1.1\r\nHost: a\r\n";
 const POST: &str = "POST /requests HTTP/1.1\r\nHost: a\r\nCaller: ann\r\nRequest-Number: 1\r\n";
 
 #[rattlefmt::skip]
-const HOSTILE: [Hostile; 9] = [
+static HOSTILE: [Hostile; 9] = [
     // A line of 5000 bytes.
     Hostile { call: Call::Run, head: &[], piece: b"x", count: 5000, tail: "\n", output: BAD_LINE },
     // 65 header lines.

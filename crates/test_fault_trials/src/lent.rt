@@ -288,7 +288,7 @@ const CASES: [Case; 7] = [
     Case { stream: Stream::Writer, trouble: Trouble::IsInterrupted, stays: true },
 ];
 
-const LENT: [Lent; 6] = [
+static LENT: [Lent; 6] = [
     Lent {
         call: Call::Run,
         sent: &[

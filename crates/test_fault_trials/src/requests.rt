@@ -109,7 +109,7 @@ const POSTED: &str = "HTTP/1.1 200 OK\r\nContent-Type: application/json\r\nConte
 /// a file of the first version; and the worked row of stops, which is the request of *defaults*
 /// over a disk that stops.
 #[rattlefmt::skip]
-pub const BEGINNINGS: [Trial; 4] = [
+pub static BEGINNINGS: [Trial; 4] = [
     Trial { name: "creation", before: &[], sent: &[], way: Way::Entry(Entry::Creation), commits: 1 },
     Trial { name: "opening", before: DAY, sent: &[], way: Way::Entry(Entry::Opening), commits: 0 },
     Trial { name: "migration", before: &[DEFAULTS], sent: &[], way: Way::Entry(Entry::Migration), commits: 1 },
@@ -118,7 +118,7 @@ pub const BEGINNINGS: [Trial; 4] = [
 
 /// One request each.
 #[rattlefmt::skip]
-pub const SINGLE: [Trial; 3] = [
+pub static SINGLE: [Trial; 3] = [
     Trial { name: "repeat", before: &[DEFAULTS], sent: &[AT_50], way: Way::Lines, commits: 0 },
     Trial { name: "refused destroy", before: ONE_APPROVAL, sent: &[TOO_FEW], way: Way::Lines, commits: 0 },
     Trial { name: "exchange", before: KEY, sent: &[REGISTERED], way: Way::Post(100, POST, POSTED), commits: 1 },
@@ -126,7 +126,7 @@ pub const SINGLE: [Trial; 3] = [
 
 /// Several requests each.
 #[rattlefmt::skip]
-pub const SEVERAL: [Trial; 2] = [
+pub static SEVERAL: [Trial; 2] = [
     Trial { name: "five lines", before: KEY, sent: FIVE, way: Way::Lines, commits: 4 },
     Trial { name: "import", before: KEY, sent: IMPORTED, way: Way::Rows(IMPORT_ROWS), commits: 2 },
 ];
