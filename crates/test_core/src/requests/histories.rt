@@ -56,16 +56,6 @@ const PERIODS_SET: [Row; 5] = [
     ("400 ann 2 register authentication bob 0 63072000 - x", "ok 2 Active 400\n"),
 ];
 
-/// The line of the first row whose reply is another.
-fn first_wrong(answers: &[Result<Reply, Refusal>], rows: &[Row]) -> Option<&'static str> {
-    for (answer, (line, reply)) in answers.iter().zip(rows) {
-        if reply_line(answer).as_str() != *reply {
-            return Some(line);
-        }
-    }
-    None
-}
-
 /// The requests that were accepted.
 fn accepted_of(
     alloc: Global,
@@ -97,6 +87,16 @@ fn history_of(alloc: Global, rows: &[Row]) -> Result<Vec<Request>, Fail> {
         Some(line) => Err(Fail::from(line)),
         None => Ok(accepted_of(alloc, &items, &answers)?),
     }
+}
+
+/// The line of the first row whose reply is another.
+fn first_wrong(answers: &[Result<Reply, Refusal>], rows: &[Row]) -> Option<&'static str> {
+    for (answer, (line, reply)) in answers.iter().zip(rows) {
+        if reply_line(answer).as_str() != *reply {
+            return Some(line);
+        }
+    }
+    None
 }
 
 /// Key 1 as it stands after those requests.

@@ -170,16 +170,16 @@ fn words_not_told(rt: &HostRuntime) -> Result<Option<&'static str>, Fail> {
 }
 
 #[test]
-fn status_1_where_no_command_is_given(rt: HostRuntime) -> Result<(), Fail> {
-    assert_eq!(rt; words_not_told(&rt)?, None);
-    Ok(())
-}
-
-#[test]
 fn a_bad_value_is_named(rt: HostRuntime) {
     let mut faults = Watched::new(Vec::new(rt.alloc()));
     assert_eq!(rt; report_bad_value(&mut faults), 1);
     assert!(rt; faults.into_inner().as_slice() == b"keyreg: BadValue\n".as_slice());
+}
+
+#[test]
+fn status_1_where_no_command_is_given(rt: HostRuntime) -> Result<(), Fail> {
+    assert_eq!(rt; words_not_told(&rt)?, None);
+    Ok(())
 }
 
 /// Whether a failed read ends the program with status 4, after the lines before it.
@@ -207,13 +207,13 @@ fn status_4_after_a_failed_read(rt: HostRuntime) -> Result<(), Fail> {
 
 /// Whether the program ends with status 4 and names the fault, where the first reply goes well.
 fn is_faulted(rt: &HostRuntime, trouble: Trouble) -> Result<bool, Fail> {
-    let input = input_of(rt.alloc(), first_day())?;
     // A line takes a write and a flush.
     let turns = Turns {
         trouble,
         output: 2,
         ..UNTROUBLED
     };
+    let input = input_of(rt.alloc(), first_day())?;
     let done = acted_over(rt, &[], &input, turns)?;
     Ok(
         done.status == 4

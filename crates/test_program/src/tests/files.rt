@@ -203,10 +203,7 @@ fn is_no_database_left(rt: &HostRuntime, file: &str) -> Result<bool, Fail> {
     Ok(is_left(rt, file, faults)? && is_refused(rt, "init", file, faults)?)
 }
 
-/// Names of which no file can be opened.
-static NO_NAMES: [&str; 5] = [".", ":memory:", "file:none", "", "none/none"];
-
-/// One of these names of which that is not told, if there is one.
+/// One of [`NO_NAMES`] of which that is not told, if there is one.
 fn name_not_told(rt: &HostRuntime) -> Result<Option<&'static str>, Fail> {
     for file in &NO_NAMES {
         if !is_refused(rt, "run", file, "keyreg: Store\n")? {
@@ -215,6 +212,9 @@ fn name_not_told(rt: &HostRuntime) -> Result<Option<&'static str>, Fail> {
     }
     Ok(None)
 }
+
+/// Names of which no file can be opened.
+static NO_NAMES: [&str; 5] = [".", ":memory:", "file:none", "", "none/none"];
 
 #[test]
 fn what_is_no_register_is_told(rt: HostRuntime) -> Result<(), Fail> {
