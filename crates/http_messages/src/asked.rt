@@ -18,7 +18,7 @@ pub enum Rejection {
 }
 
 /// A request as its sender has it: all but its moment.
-#[derive(Clone, Copy, Debug, PartialEq, Eq)]
+#[derive(Clone, Copy)]
 pub struct Sent {
     pub caller: Name,
     pub number: RequestNumber,
@@ -26,7 +26,7 @@ pub struct Sent {
 }
 
 /// What an input asks for.
-#[derive(Clone, Copy, Debug, PartialEq, Eq)]
+#[derive(Clone, Copy)]
 pub enum Asked {
     /// Nothing that the register is asked.
     Reject(Rejection),
@@ -39,7 +39,7 @@ pub enum Asked {
 }
 
 /// What ends the reading of an input.
-#[derive(Clone, Copy, Debug, PartialEq, Eq)]
+#[derive(Clone, Copy)]
 pub enum AskFault {
     /// A growth was refused.
     Memory,

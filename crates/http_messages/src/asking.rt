@@ -160,7 +160,7 @@ pub(crate) fn json_value_of(alloc: Global, body: &[u8]) -> Result<Option<Value>,
 }
 
 /// What came of reading an input.
-#[derive(Clone, Copy, Debug, PartialEq, Eq)]
+#[derive(Clone, Copy)]
 pub struct Asking {
     /// How many bytes were read.
     pub read: usize,

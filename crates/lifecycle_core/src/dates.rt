@@ -3,7 +3,7 @@ use moment_core::Moment;
 
 /// The date attributes of a key (KMIP 1.2, sections 3.23 to 3.29), `None` where one is not set.
 /// Protect Stop is kept for every key type, as the end of originator use (this register's own).
-#[derive(Clone, Copy, Debug, PartialEq, Eq)]
+#[derive(Clone, Copy, PartialEq, Eq)]
 pub struct Dates {
     /// The moment of registration.
     pub initial: Moment,

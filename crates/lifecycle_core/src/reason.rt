@@ -2,7 +2,7 @@
 ghost use Rattle.std.specs.Prelude.{◌≡◌};
 
 /// A revocation reason of KMIP 1.2 (its attribute Revocation Reason).
-#[derive(Clone, Copy, Debug, PartialEq, Eq, Hash)]
+#[derive(Clone, Copy)]
 pub enum Reason {
     Unspecified = 1,
     KeyCompromise = 2,

@@ -8,7 +8,7 @@ use crate::state::State;
 use moment_core::Moment;
 
 /// A key's dates, and the state that is kept beside them.
-#[derive(Clone, Copy, Debug, PartialEq, Eq)]
+#[derive(Clone, Copy)]
 pub struct Row {
     pub dates: Dates,
     pub state: State,

@@ -2,7 +2,7 @@
 ghost use Rattle.std.specs.Prelude.{◌≡◌};
 
 /// Whether a key may process protected data, as to decrypt it or to verify a signature.
-#[derive(Clone, Copy, Debug, PartialEq, Eq, Hash)]
+#[derive(Clone, Copy, PartialEq, Eq)]
 pub enum Process {
     Yes,
     /// Only under extraordinary circumstances, and with special permission (KMIP 1.2, section
@@ -27,7 +27,7 @@ impl Process {
 }
 
 /// What a key may be used for.
-#[derive(Clone, Copy, Debug, PartialEq, Eq, Hash)]
+#[derive(Clone, Copy, PartialEq, Eq)]
 pub struct Usage {
     /// Whether the key may apply protection, as to encrypt or to sign.
     pub protect: bool,

@@ -12,7 +12,7 @@ pub const FIRST_MOMENT: Moment = Moment { seconds: 0 };
 
 /// A moment, as KMIP's Date-Time: the seconds since 1970-01-01T00:00:00Z, leap seconds not counted,
 /// up to [`LAST_SECOND`] (the range is this register's own). In a contract it is that number.
-#[derive(Clone, Copy, Debug, PartialEq, Eq, Hash, PartialOrd, Ord)]
+#[derive(Clone, Copy, Debug, PartialEq, Eq, PartialOrd, Ord)]
 pub struct Moment {
     seconds: u64,
 }

@@ -15,7 +15,7 @@ use lifecycle_core::Dates;
 use moment_core::Moment;
 
 /// Why dates are refused.
-#[derive(Clone, Copy, Debug, PartialEq, Eq)]
+#[derive(Clone, Copy, PartialEq, Eq)]
 pub enum DateRefusal {
     /// Activation is after Protect Stop, Protect Stop after Deactivation, or Activation after
     /// Deactivation.
@@ -136,7 +136,7 @@ fn with_default_deactivation(recipient: &Option<Moment>, dates: &Dates) -> Dates
 }
 
 /// Dates, with the limits of their uses.
-#[derive(Clone, Copy, Debug)]
+#[derive(Clone, Copy)]
 struct Limited {
     dates: Dates,
     originator: Option<Moment>,

@@ -5,7 +5,7 @@ use crate::key_type::KeyType;
 use crate::period::{Period, period_or_default};
 
 /// What the office set for each type: a usage period, or none, where the type's own holds.
-#[derive(Clone, Copy, Debug)]
+#[derive(Clone, Copy)]
 pub struct OfficePeriods {
     data_encryption: Option<Period>,
     authentication: Option<Period>,

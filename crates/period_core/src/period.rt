@@ -11,7 +11,7 @@ pub const MAX_MONTHS: u16 = 1200;
 /// Two usage periods, in calendar months: one of originator use, from Activation to Protect Stop,
 /// in which protection is applied, and one of recipient use, from there to Deactivation, in which
 /// protected data is still processed.
-#[derive(Clone, Copy, Debug, PartialEq, Eq)]
+#[derive(Clone, Copy)]
 pub struct Period {
     originator: u16,
     recipient: u16,

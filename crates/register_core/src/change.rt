@@ -6,7 +6,7 @@ use period_core::{KeyType, Period};
 use register_requests::{Name, Quorum};
 
 /// What becomes of the custodians of a key, and of the approvals of its destruction.
-#[derive(Clone, Copy, Debug, PartialEq, Eq)]
+#[derive(Clone, Copy, Debug)]
 pub enum CustodyChange {
     /// They stay as they are.
     Kept,
@@ -25,7 +25,7 @@ pub enum CustodyChange {
 }
 
 /// What an accepted request changes, beside the latest moment.
-#[derive(Clone, Copy, Debug, PartialEq, Eq)]
+#[derive(Clone, Copy)]
 pub enum Change {
     /// A new key comes after the others.
     Made(Key),
@@ -46,7 +46,7 @@ pub enum Change {
 }
 
 /// The decision to accept a request.
-#[derive(Clone, Copy, Debug, PartialEq, Eq)]
+#[derive(Clone, Copy)]
 pub struct Accept {
     pub change: Change,
     pub reply: Reply,

@@ -8,7 +8,7 @@ use period_core::{DateRefusal, KeyType, Period, fill, trim};
 use register_requests::Command;
 
 /// How the dates that a command asks for are fitted to the usage period of the key's type.
-#[derive(Clone, Copy, Debug, PartialEq, Eq)]
+#[derive(Clone, Copy)]
 pub enum Fitting {
     /// By Fill.
     Filled,

@@ -4,7 +4,7 @@ use crate::reply::{Refusal, Reply};
 use register_requests::{Command, Fields, Name, Request, RequestNumber, command_text};
 
 /// What is kept of an accepted request: who made it under which number, its command, and its reply.
-#[derive(Clone, Copy, Debug, PartialEq, Eq)]
+#[derive(Clone, Copy)]
 pub struct KeptReply {
     pub caller: Name,
     pub number: RequestNumber,

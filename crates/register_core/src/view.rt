@@ -7,7 +7,7 @@ use period_core::{KeyType, Period};
 use register_requests::{Name, Quorum};
 
 /// A key as it stands at some moment.
-#[derive(Drop, Debug)]
+#[derive(Drop)]
 pub struct Held {
     pub kind: KeyType,
     pub owner: Name,
@@ -21,7 +21,7 @@ pub struct Held {
 }
 
 /// What a decision rests on.
-#[derive(Drop, Debug)]
+#[derive(Drop)]
 pub struct View {
     /// The latest accepted moment.
     pub latest: Moment,

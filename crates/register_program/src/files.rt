@@ -13,7 +13,7 @@ use register_desk::OpenRefusal;
 use sqlite::{Alter, Connection};
 
 /// What became of the log as the files were closed.
-#[derive(Clone, Copy, Debug, PartialEq, Eq, Drop)]
+#[derive(Clone, Copy, Drop)]
 pub enum LogCopy {
     /// It was copied into the database file.
     Copied,

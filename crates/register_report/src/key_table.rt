@@ -11,7 +11,7 @@ use period_core::OfficePeriods;
 use std::alloc::{AllocError, Global};
 
 /// What is written out: its head, a line for each row that is listed, and its foot.
-#[derive(Clone, Copy, Debug)]
+#[derive(Clone, Copy)]
 pub(crate) enum KeyTable {
     /// All keys, as CSV.
     Export,

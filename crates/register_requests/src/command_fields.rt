@@ -14,7 +14,7 @@ use period_core::{KeyType, Period};
 pub const MAX_WORD_LENGTH: usize = 16;
 
 /// A kind of command: what is left of a [`Command`](crate::Command) without its fields.
-#[derive(Clone, Copy, Debug, PartialEq, Eq)]
+#[derive(Clone, Copy, PartialEq, Eq)]
 pub enum CommandKind {
     Register,
     Activate,
@@ -32,7 +32,7 @@ pub enum CommandKind {
 }
 
 /// What the commands of a kind look like.
-#[derive(Clone, Copy, Debug)]
+#[derive(Clone, Copy)]
 struct Form {
     word: &'static str,
     /// That of the fields after the word.
@@ -133,7 +133,7 @@ impl CommandKind {
 }
 
 /// What the fields of a command are. Each kind of command has one shape.
-#[derive(Clone, Copy, Debug)]
+#[derive(Clone, Copy)]
 pub enum Shape {
     Nothing,
     Key,
@@ -147,7 +147,7 @@ pub enum Shape {
 }
 
 /// What stands after a command's word.
-#[derive(Clone, Copy, Debug)]
+#[derive(Clone, Copy)]
 pub enum Fields {
     /// The word stands alone.
     Nothing,

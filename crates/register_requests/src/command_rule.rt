@@ -9,7 +9,7 @@ use lifecycle_core::State;
 pub const OFFICE: &str = "office";
 
 /// Who may give a command.
-#[derive(Clone, Copy, Debug, PartialEq, Eq)]
+#[derive(Clone, Copy)]
 pub enum Giver {
     Anybody,
     /// The key's owner alone.
@@ -21,7 +21,7 @@ pub enum Giver {
 }
 
 /// What a decision on a command looks at of the key that it names. The rest need not be read.
-#[derive(Clone, Copy, Debug, PartialEq, Eq)]
+#[derive(Clone, Copy)]
 pub enum KeyPart {
     /// The key's row alone.
     Row,
@@ -33,7 +33,7 @@ pub enum KeyPart {
 
 /// What is asked of a command beside its moment, its key and its dates: all of it is this
 /// register's own.
-#[derive(Clone, Copy, Debug)]
+#[derive(Clone, Copy)]
 pub struct Rule {
     pub kind: CommandKind,
     pub giver: Giver,

@@ -5,7 +5,7 @@ use moment_core::Moment;
 use period_core::{KeyType, Period};
 
 /// What becomes of a date of a key.
-#[derive(Clone, Copy, Debug, PartialEq, Eq)]
+#[derive(Clone, Copy)]
 pub enum Edit {
     /// It stays as it is.
     Keep,
@@ -16,7 +16,7 @@ pub enum Edit {
 }
 
 /// What a request asks for. Keys are named by their numbers, from 1.
-#[derive(Clone, Copy, Debug, PartialEq, Eq)]
+#[derive(Clone, Copy)]
 pub enum Command {
     /// A new key, with its dates as given.
     Register {
@@ -87,7 +87,7 @@ pub enum Command {
 }
 
 /// One request: its moment, who makes it, the caller's own number for it, and what it asks for.
-#[derive(Clone, Copy, Debug, PartialEq, Eq)]
+#[derive(Clone, Copy)]
 pub struct Request {
     pub moment: Moment,
     pub caller: Name,

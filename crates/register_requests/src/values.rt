@@ -194,7 +194,7 @@ pub const MAX_REQUEST_NUMBER: u64 = 9_007_199_254_740_991;
 
 /// The number by which a caller tells its requests apart, from 1 to [`MAX_REQUEST_NUMBER`] (this
 /// register's own). In a contract it is that number.
-#[derive(Clone, Copy, Debug, PartialEq, Eq, Hash, PartialOrd, Ord)]
+#[derive(Clone, Copy, PartialEq, Eq)]
 pub struct RequestNumber {
     number: u64,
 }

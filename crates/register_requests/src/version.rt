@@ -5,7 +5,7 @@ ghost use Rattle.register_requests.specs.declared.version.Version.{Version};
 use crate::request::Command;
 
 /// A version of the register. Whatever a version differs in is read off here.
-#[derive(Clone, Copy, Debug, PartialEq, Eq)]
+#[derive(Clone, Copy)]
 pub enum Version {
     First,
     /// It has tables of what is set, for a type of key or for a key.

@@ -217,7 +217,7 @@ pub(crate) fn record_request<T: Inside>(
 }
 
 /// A date of a key by which time moves it on.
-#[derive(Clone, Copy, Debug, PartialEq, Eq)]
+#[derive(Clone, Copy)]
 enum DueDate {
     /// From Pre-Active to Active.
     Activation,

@@ -62,7 +62,7 @@ pub(crate) use columns;
 
 /// The places of the cells that a search for whole rows of `keys` shows: its columns in their order,
 /// and the number after them.
-#[derive(Clone, Copy, Debug, PartialEq, Eq)]
+#[derive(Clone, Copy)]
 pub(crate) enum KeyCell {
     Kind,
     Owner,
@@ -79,7 +79,7 @@ pub(crate) enum KeyCell {
 }
 
 /// The cells of the table meta.
-#[derive(Clone, Copy, Debug, PartialEq, Eq)]
+#[derive(Clone, Copy)]
 pub(crate) enum MetaCell {
     Id,
     Version,
@@ -88,14 +88,14 @@ pub(crate) enum MetaCell {
 }
 
 /// The cells of the tables of names at keys.
-#[derive(Clone, Copy, Debug, PartialEq, Eq)]
+#[derive(Clone, Copy)]
 pub(crate) enum NameCell {
     Key,
     Name,
 }
 
 /// The cells of the table of requests: what is kept of one, and then whose it is.
-#[derive(Clone, Copy, Debug, PartialEq, Eq)]
+#[derive(Clone, Copy)]
 pub(crate) enum RequestCell {
     Command,
     Key,

@@ -20,7 +20,7 @@ use sqlite::{Alter, Row, params};
 
 /// Where a scan of the keys that are due stands: after the key with this number, of those with this
 /// Protect Stop Date.
-#[derive(Clone, Copy, Debug, PartialEq, Eq)]
+#[derive(Clone, Copy)]
 pub struct DueCursor {
     pub stop: Moment,
     pub number: u32,
@@ -28,7 +28,7 @@ pub struct DueCursor {
 
 /// Whether the key at a cursor is the first of those with its Protect Stop Date. What is found after
 /// the cursor is the same either way; it says by which search that costs the least.
-#[derive(Clone, Copy, Debug, PartialEq, Eq)]
+#[derive(Clone, Copy)]
 pub enum DateRun {
     /// It is the first of them, so one search goes past it alone.
     First,
@@ -50,7 +50,7 @@ impl DueCursor {
 }
 
 /// A search for the first of the keys that are due after a cursor.
-#[derive(Clone, Copy, Debug, PartialEq, Eq)]
+#[derive(Clone, Copy)]
 pub(crate) enum DueSearch {
     /// Among those with the Protect Stop Date of the cursor.
     SameStop,

@@ -312,7 +312,7 @@ pub(crate) fn set_owner_state_and_dates<T: Inside>(
 }
 
 /// What a name may be at a key.
-#[derive(Clone, Copy, Debug, PartialEq, Eq)]
+#[derive(Clone, Copy)]
 pub(crate) enum Role {
     /// One of the key's custodians.
     Custodian,
@@ -332,7 +332,7 @@ impl Role {
 }
 
 /// What becomes of a role that a name may have at a key.
-#[derive(Clone, Copy, Debug, PartialEq, Eq)]
+#[derive(Clone, Copy)]
 pub(crate) enum RoleChange {
     Given(Role),
     Taken(Role),

@@ -16,7 +16,7 @@ const MAX_PORT: u64 = 65_535;
 pub const MAX_EXCHANGES: u64 = 1_000_000;
 
 /// What is said of the rows of an import, as it was given.
-#[derive(Clone, Copy, Debug, PartialEq, Eq)]
+#[derive(Clone, Copy)]
 pub struct GivenTerms<'a> {
     pub moment: &'a str,
     pub caller: &'a str,
@@ -67,7 +67,7 @@ impl GivenTerms<'_> {
 }
 
 /// Where and how often exchanges are served, as it was given.
-#[derive(Clone, Copy, Debug, PartialEq, Eq)]
+#[derive(Clone, Copy)]
 pub struct GivenBounds<'a> {
     pub port: &'a str,
     pub exchanges: &'a str,

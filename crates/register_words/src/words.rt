@@ -7,7 +7,7 @@ use clap::{Arg, ArgAction, ArgMatches, Command, Error};
 use std::alloc::{AllocError, Global};
 
 /// What the program is asked to do, its values as they were given.
-#[derive(Clone, Copy, Debug, PartialEq, Eq)]
+#[derive(Clone, Copy)]
 pub enum Task<'a> {
     /// Request lines over a new register in memory.
     RunInMemory,
@@ -57,105 +57,163 @@ const NO_COMMAND: &str =
     4  its input or its output did: ReadFault, WriteFault, BadHeader\n\n\
     keyreg(1) says what each name comes of, and what to do.";
 
-const INIT: &str = "Makes an empty register in a file";
-
-const RUN: &str = "Applies the request lines of standard input, and writes their reply lines";
-
-const LINE: &str = "A line is: moment caller number command. The moment is in seconds since 1970.";
-
-const IMPORT: &str =
-    "Registers a key for each row of the CSV of standard input, and writes the reply lines";
-
-const ROWS: &str = "The first row is: type,owner,activation,protect_stop,deactivation,purpose\n\
-    A date is empty or YYYY-MM-DDTHH:MM:SSZ. The n-th reply line is that of the n-th row after it.";
-
-const EXPORT: &str = "Writes all keys as CSV";
-
-const REPORT: &str = "Writes which keys are due for rotation";
-
-const SERVE: &str = "Serves HTTP exchanges on 127.0.0.1, one connection after the other";
-
-const FILE: &str = "The file of the register: a path, not :memory: nor file:...";
-
-const MOMENT: &str = "The moment of all rows, in seconds since 1970, from 0 to 253402300799";
-
-const CALLER: &str = "Who asks: 1 to 64 characters, each an ASCII letter, a digit, - _ . or @";
-
-const FIRST: &str = "The request number of the first row, from 1 to 9007199254740991";
-
-const DAYS: &str = "How many days after the latest moment it looks ahead, from 0 to 36500";
-
-const PORT: &str = "The port, from 1 to 65535";
-
-const EXCHANGES: &str = "How many connections it serves before it ends, from 1 to 1000000";
-
 /// An option whose value has to be given. The word after its name is the value, whatever it begins
 /// with.
-fn required_option<'a>(alloc: Global, name: &'a str, value: &'a str, help: &'a str) -> Arg<'a> {
-    Arg::new(alloc, name)
-        .long(name)
-        .value_name(value)
+struct RequiredOption {
+    name: &'static str,
+    /// What stands for its value in the help.
+    value: &'static str,
+    help: &'static str,
+}
+
+static FILE: RequiredOption = RequiredOption {
+    name: "file",
+    value: "FILE",
+    help: "The file of the register: a path, not :memory: nor file:...",
+};
+
+/// A command over a register in a file.
+struct FileCommand {
+    name: &'static str,
+    about: &'static str,
+    after_help: Option<&'static str>,
+    /// Its options beside the file.
+    options: &'static [RequiredOption],
+}
+
+static FILE_COMMANDS: [FileCommand; 6] = [
+    FileCommand {
+        name: "init",
+        about: "Makes an empty register in a file",
+        after_help: None,
+        options: &[],
+    },
+    FileCommand {
+        name: "run",
+        about: "Applies the request lines of standard input, and writes their reply lines",
+        after_help: Some(
+            "A line is: moment caller number command. The moment is in seconds since 1970.",
+        ),
+        options: &[],
+    },
+    FileCommand {
+        name: "import",
+        about: "Registers a key for each row of the CSV of standard input, and writes the reply lines",
+        after_help: Some(
+            "The first row is: type,owner,activation,protect_stop,deactivation,purpose\n\
+            A date is empty or YYYY-MM-DDTHH:MM:SSZ. The n-th reply line is that of the n-th row after it.",
+        ),
+        options: &[
+            RequiredOption {
+                name: "moment",
+                value: "SECONDS",
+                help: "The moment of all rows, in seconds since 1970, from 0 to 253402300799",
+            },
+            RequiredOption {
+                name: "caller",
+                value: "NAME",
+                help: "Who asks: 1 to 64 characters, each an ASCII letter, a digit, - _ . or @",
+            },
+            RequiredOption {
+                name: "first",
+                value: "NUMBER",
+                help: "The request number of the first row, from 1 to 9007199254740991",
+            },
+        ],
+    },
+    FileCommand {
+        name: "export",
+        about: "Writes all keys as CSV",
+        after_help: None,
+        options: &[],
+    },
+    FileCommand {
+        name: "report",
+        about: "Writes which keys are due for rotation",
+        after_help: None,
+        options: &[RequiredOption {
+            name: "days",
+            value: "DAYS",
+            help: "How many days after the latest moment it looks ahead, from 0 to 36500",
+        }],
+    },
+    FileCommand {
+        name: "serve",
+        about: "Serves HTTP exchanges on 127.0.0.1, one connection after the other",
+        after_help: None,
+        options: &[
+            RequiredOption {
+                name: "port",
+                value: "PORT",
+                help: "The port, from 1 to 65535",
+            },
+            RequiredOption {
+                name: "exchanges",
+                value: "NUMBER",
+                help: "How many connections it serves before it ends, from 1 to 1000000",
+            },
+        ],
+    },
+];
+
+fn arg_of<'a>(alloc: Global, option: &RequiredOption) -> Arg<'a> {
+    Arg::new(alloc, option.name)
+        .long(option.name)
+        .value_name(option.value)
         .required(true)
         .allow_hyphen_values(true)
         .action(ArgAction::Set)
-        .help(help)
+        .help(option.help)
 }
 
-/// A command over a register in a file.
-fn subcommand_with_file<'a>(
-    alloc: Global,
-    name: &'a str,
-    about: &'a str,
-) -> Result<Command<'a>, AllocError> {
-    Command::new(alloc, name)
-        .about(about)
-        .arg(required_option(alloc, "file", "FILE", FILE))
+fn subcommand_of<'a>(alloc: Global, given: &FileCommand) -> Result<Command<'a>, AllocError> {
+    let mut command = Command::new(alloc, given.name)
+        .about(given.about)
+        .arg(arg_of(alloc, &FILE))?;
+    if let Some(text) = given.after_help {
+        command = command.after_help(text);
+    }
+    for option in given.options {
+        command = command.arg(arg_of(alloc, option))?;
+    }
+    Ok(command)
 }
 
-fn import_subcommand<'a>(alloc: Global) -> Result<Command<'a>, AllocError> {
-    subcommand_with_file(alloc, "import", IMPORT)?
-        .after_help(ROWS)
-        .arg(required_option(alloc, "moment", "SECONDS", MOMENT))?
-        .arg(required_option(alloc, "caller", "NAME", CALLER))?
-        .arg(required_option(alloc, "first", "NUMBER", FIRST))
-}
-
-fn report_subcommand<'a>(alloc: Global) -> Result<Command<'a>, AllocError> {
-    subcommand_with_file(alloc, "report", REPORT)?.arg(required_option(alloc, "days", "DAYS", DAYS))
-}
-
-fn serve_subcommand<'a>(alloc: Global) -> Result<Command<'a>, AllocError> {
-    subcommand_with_file(alloc, "serve", SERVE)?
-        .arg(required_option(alloc, "port", "PORT", PORT))?
-        .arg(required_option(alloc, "exchanges", "NUMBER", EXCHANGES))
-}
-
-fn run_subcommand<'a>(alloc: Global) -> Result<Command<'a>, AllocError> {
-    Ok(subcommand_with_file(alloc, "run", RUN)?.after_help(LINE))
-}
-
-/// The command with this one below it, if there was memory for that.
-fn with_subcommand<'a>(
-    command: Command<'a>,
-    below: Result<Command<'a>, AllocError>,
-) -> Result<Command<'a>, AllocError> {
-    command.subcommand(below?)
-}
-
-fn keyreg_command<'a>(alloc: Global) -> Result<Command<'a>, AllocError> {
-    let command = Command::new(alloc, "keyreg")
+/// The program's own command, with none below it.
+fn empty_command<'a>(alloc: Global) -> Command<'a> {
+    Command::new(alloc, "keyreg")
         .about(ABOUT)
         .version(VERSION)
         .after_help(NO_COMMAND)
         .override_usage("keyreg [COMMAND]")
         .subcommand_required(true)
-        .disable_help_subcommand(true);
-    let command = with_subcommand(command, subcommand_with_file(alloc, "init", INIT))?;
-    let command = with_subcommand(command, run_subcommand(alloc))?;
-    let command = with_subcommand(command, import_subcommand(alloc))?;
-    let command = with_subcommand(command, subcommand_with_file(alloc, "export", EXPORT))?;
-    let command = with_subcommand(command, report_subcommand(alloc))?;
-    with_subcommand(command, serve_subcommand(alloc))
+        .disable_help_subcommand(true)
+}
+
+fn keyreg_command<'a>(alloc: Global) -> Result<Command<'a>, AllocError> {
+    let mut command = empty_command(alloc);
+    for given in &FILE_COMMANDS {
+        let below = subcommand_of(alloc, given)?;
+        command = command.subcommand(below)?;
+    }
+    Ok(command)
+}
+
+/// What is said of the rows of an import.
+fn terms_of<'a>(options: &ArgMatches<'a>) -> Option<GivenTerms<'a>> {
+    Some(GivenTerms {
+        moment: options.get_str("moment")?,
+        caller: options.get_str("caller")?,
+        first: options.get_str("first")?,
+    })
+}
+
+/// Where and how often exchanges are served.
+fn bounds_of<'a>(options: &ArgMatches<'a>) -> Option<GivenBounds<'a>> {
+    Some(GivenBounds {
+        port: options.get_str("port")?,
+        exchanges: options.get_str("exchanges")?,
+    })
 }
 
 /// What a command asks for, with the values of its options.
@@ -166,11 +224,7 @@ fn task_of<'a>(command: &str, options: &ArgMatches<'a>) -> Option<Task<'a>> {
         "run" => Some(Task::Run { file }),
         "import" => Some(Task::Import {
             file,
-            terms: GivenTerms {
-                moment: options.get_str("moment")?,
-                caller: options.get_str("caller")?,
-                first: options.get_str("first")?,
-            },
+            terms: terms_of(options)?,
         }),
         "export" => Some(Task::Export { file }),
         "report" => Some(Task::Report {
@@ -179,12 +233,24 @@ fn task_of<'a>(command: &str, options: &ArgMatches<'a>) -> Option<Task<'a>> {
         }),
         "serve" => Some(Task::Serve {
             file,
-            bounds: GivenBounds {
-                port: options.get_str("port")?,
-                exchanges: options.get_str("exchanges")?,
-            },
+            bounds: bounds_of(options)?,
         }),
         _ => None,
+    }
+}
+
+/// What the words ask for, where they are a command.
+fn given_task<'a>(matches: &ArgMatches<'a>) -> Option<Task<'a>> {
+    let (command, options) = matches.subcommand()?;
+    task_of(command, options)
+}
+
+/// What the words ask for, where they are a command below this one.
+fn task_by<'a>(command: &mut Command<'a>, words: &'a [String]) -> Result<Task<'a>, Error> {
+    let matches = command.try_get_matches_from_mut(words)?;
+    match given_task(&matches) {
+        Some(task) => Ok(task),
+        None => Err(command.error(ErrorKind::MissingSubcommand, "a command is missing")?),
     }
 }
 
@@ -200,13 +266,5 @@ pub fn read_words(alloc: Global, words: &[String]) -> Result<Task<'_>, Error>
         return Ok(Task::RunInMemory);
     }
     let mut command = keyreg_command(alloc)?;
-    let matches = command.try_get_matches_from_mut(words)?;
-    let task = match matches.subcommand() {
-        Some((command, options)) => task_of(command, options),
-        None => None,
-    };
-    match task {
-        Some(task) => Ok(task),
-        None => Err(command.error(ErrorKind::MissingSubcommand, "a command is missing")?),
-    }
+    task_by(&mut command, words)
 }

@@ -22,7 +22,7 @@ pub const MAX_PIECE_LENGTH: usize = 4096;
 pub const LINE_FEED: u8 = b'\n';
 
 /// What was cut off: a line that ended in a line feed, or what stood after the last one.
-#[derive(Clone, Copy, Debug, PartialEq, Eq)]
+#[derive(Clone, Copy)]
 pub enum Next {
     Line,
     End,

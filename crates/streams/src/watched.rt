@@ -32,11 +32,11 @@ pub struct Watched<T> {
 }
 
 /// The reader failed, or it has had all the turns that it may have.
-#[derive(Clone, Copy, Debug, PartialEq, Eq)]
+#[derive(Clone, Copy)]
 pub struct ReadFault;
 
 /// The writer failed, or it was interrupted as often in a row as it may be.
-#[derive(Clone, Copy, Debug, PartialEq, Eq)]
+#[derive(Clone, Copy)]
 pub struct WriteFault {
     /// How many of the bytes it took.
     pub written: usize,

@@ -96,7 +96,8 @@ fn answer_to(desk: &mut Desk<MemStore>, command: Command) -> Result<Option<Answe
 
 /// Whether the owner's request with this command is refused as one that no line has.
 fn is_of_no_line(desk: &mut Desk<MemStore>, command: Command) -> Result<bool, Fail> {
-    Ok(answer_to(desk, command)? == Some(Answer::Refused(Refusal::BadLine)))
+    let answer = answer_to(desk, command)?;
+    Ok(matches!(answer, Some(Answer::Refused(Refusal::BadLine))))
 }
 
 /// Whether the owner's request with this command deactivates the key.

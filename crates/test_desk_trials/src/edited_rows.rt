@@ -19,7 +19,7 @@ const LINES: &str = "100 ann 1 register master bob 1000 - - root\n\
     105 office 1 set-period master 24 12\n";
 
 /// What reads a row.
-#[derive(Clone, Copy, PartialEq, Eq)]
+#[derive(Clone, Copy)]
 enum Look {
     Row,
     Next,

@@ -85,7 +85,7 @@ pub trait DeskTask {
 }
 
 /// How a desk is come by.
-#[derive(Clone, Copy, Debug, PartialEq, Eq)]
+#[derive(Clone, Copy)]
 pub enum Entry {
     /// A register is made.
     Creation,
@@ -96,7 +96,7 @@ pub enum Entry {
 }
 
 /// Why there is no desk.
-#[derive(Clone, Copy, Debug, PartialEq, Eq)]
+#[derive(Clone, Copy, PartialEq, Eq)]
 pub enum NoDesk {
     /// The files are no database, or a call of theirs failed.
     NoConnection,

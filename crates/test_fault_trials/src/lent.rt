@@ -17,7 +17,7 @@ use test_worked_rows::{Cells, export_of};
 const MAX_TURNS: usize = 5000;
 
 /// What a call is to write.
-#[derive(Clone, Copy, Debug)]
+#[derive(Clone, Copy)]
 enum Output {
     Pieces(Text),
     /// The export of one key with these cells.
@@ -34,7 +34,7 @@ impl Output {
 }
 
 /// What is lent, over the register with one key, and what is to come of it.
-#[derive(Clone, Copy, Debug)]
+#[derive(Clone, Copy)]
 struct Lent {
     call: Call,
     /// The requests that it sends.

@@ -31,7 +31,7 @@ pub enum Look {
 }
 
 /// What came of it.
-#[derive(Clone, Copy, Debug, PartialEq, Eq)]
+#[derive(Clone, Copy, PartialEq, Eq)]
 enum Seen {
     /// All that is to be seen.
     Whole,

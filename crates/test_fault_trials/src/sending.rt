@@ -11,7 +11,7 @@ use std::alloc::Global;
 use std::test::Fail;
 
 /// How requests are sent.
-#[derive(Clone, Copy, Debug, PartialEq, Eq)]
+#[derive(Clone, Copy)]
 pub enum Way {
     /// They are none: a register is made or opened.
     Entry(Entry),

@@ -15,7 +15,7 @@ use test_desk_trials::first_version;
 const MAX_CALLS: u64 = 5000;
 
 /// Requests that are sent over a register.
-#[derive(Clone, Copy, Debug)]
+#[derive(Clone, Copy)]
 pub struct Trial {
     pub name: &'static str,
     /// The requests that made the register.
@@ -47,7 +47,7 @@ impl Trial {
 }
 
 /// How often a trial ended so.
-#[derive(Clone, Copy, Debug, PartialEq, Eq)]
+#[derive(Clone, Copy)]
 pub struct Count {
     /// The calls that were the first to fail.
     pub faults: u64,

@@ -170,27 +170,25 @@ fn commands_without_a_key(rt: HostRuntime) {
     }
 }
 
-/// Whether the line changes so much of what a register of one key keeps.
-fn is_change_of(line: &str, expected: &Change) -> bool {
-    let (Some(latest), Some(request)) = (Moment::new(600), read_request(line.as_bytes())) else {
-        return false;
-    };
+/// What the line changes of what a register of one key keeps.
+fn change_by(line: &str) -> Option<Change> {
     let view = View {
-        latest,
+        latest: Moment::new(600)?,
         keys: 1,
         period: None,
         key: None,
     };
-    change_by_request(&view, &request) == Some(*expected)
+    change_by_request(&view, &read_request(line.as_bytes())?)
 }
 
 #[test]
 fn changes_without_a_key(rt: HostRuntime) -> Result<(), Fail> {
-    assert!(rt; is_change_of("1000 zed 1 advance", &Change::Nothing));
-    let set = Change::PeriodSet {
-        kind: KeyType::DataEncryption,
-        period: Period::new(12, 36).ok_or("a period")?,
+    assert!(rt; matches!(change_by("1000 zed 1 advance"), Some(Change::Nothing)));
+    let set = change_by("1000 office 1 set-period data-encryption 12 36");
+    let Some(Change::PeriodSet { kind, period }) = set else {
+        return Err(Fail::from("no period is set"));
     };
-    assert!(rt; is_change_of("1000 office 1 set-period data-encryption 12 36", &set));
+    assert!(rt; kind == KeyType::DataEncryption && period.originator() == 12);
+    assert!(rt; period.recipient() == 36);
     Ok(())
 }

@@ -1,7 +1,7 @@
 //! Commands as JSON, beside the texts that the same commands have in request lines.
 use super::inputs::{asked_of, is_rejected, posted};
 use http_messages::{Asked, Rejection, Sent};
-use register_core::{Command, Name, RequestNumber, read_command};
+use register_core::command_text;
 use std::alloc::{AllocError, Global};
 
 /// A body, and the text of its command.
@@ -39,22 +39,19 @@ const COMMANDS: [(&str, &str); 30] = [
     (r#"{"key":0,"kind":"approve","key":7}"#, "approve 7"),
 ];
 
-/// The request of ann's that has this command, under number 1.
-fn sent(command: Command) -> Option<Asked> {
-    Some(Asked::Apply(Sent {
-        caller: Name::new(b"ann")?,
-        number: RequestNumber::new(1)?,
-        command,
-    }))
+/// Whether it is the request of ann's under number 1 whose command has this text.
+fn is_sent(sent: &Sent, text: &str) -> bool {
+    sent.caller.text() == "ann"
+        && sent.number.get() == 1
+        && command_text(&sent.command).as_str() == text
 }
 
 /// Whether the body is that of the command with this text.
 fn is_body_of(alloc: Global, body: &str, text: &str) -> Result<bool, AllocError> {
-    let Some(command) = read_command(text.as_bytes()) else {
-        return Ok(false);
-    };
-    let asked = asked_of(alloc, posted(alloc, body)?.as_bytes());
-    Ok(asked.is_some() && asked == sent(command))
+    match asked_of(alloc, posted(alloc, body)?.as_bytes()) {
+        Some(Asked::Apply(sent)) => Ok(is_sent(&sent, text)),
+        _ => Ok(false),
+    }
 }
 
 #[test]

@@ -18,9 +18,17 @@ pub fn asked_by<R: Read + Drop>(alloc: Global, routes: &mut Routes, input: R) ->
     }
 }
 
+/// Whether this rejection is what is asked for.
+pub fn is_rejection(asked: Option<Asked>, rejection: Rejection) -> bool {
+    match asked {
+        Some(Asked::Reject(found)) => found == rejection,
+        _ => false,
+    }
+}
+
 /// Whether the input is rejected so.
 pub fn is_rejected(alloc: Global, input: &[u8], rejection: Rejection) -> bool {
-    asked_of(alloc, input) == Some(Asked::Reject(rejection))
+    is_rejection(asked_of(alloc, input), rejection)
 }
 
 /// A POST of this body by ann, under number 1.

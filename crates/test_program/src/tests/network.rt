@@ -13,7 +13,7 @@ use test_desk_trials::make_desk;
 use test_worked_rows::ADVANCE;
 
 /// What is asked of a network.
-#[derive(Clone, Copy, Debug, PartialEq, Eq)]
+#[derive(Clone, Copy, PartialEq, Eq)]
 enum Call {
     Listen,
     Accept,
