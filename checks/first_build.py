@@ -375,7 +375,7 @@ def terminal(copy):
 def used_at_once(copy):
     """Where no source of the program's changed, it is used at once."""
     edit = next((copy.top / "crates/register_store/must-fail").iterdir())
-    tested = copy.top / "crates/test_desk/src/lib.rt"
+    tested = copy.top / "crates/test_program/src/lib.rt"
     for path in ("README.md", "docs/GATE.md", "checks/first_build.py", "keyreg", edit, tested):
         copy.tells()
         copy.renew(path)

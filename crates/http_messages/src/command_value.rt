@@ -53,6 +53,23 @@ fn next_member_named<'v>(members: &mut Iter<'v, String, Value>, name: &str) -> O
     }
 }
 
+/// The values of the next two members, if they have these names.
+fn next_two_named<'v>(
+    members: &mut Iter<'v, String, Value>,
+    first: &str,
+    second: &str,
+) -> Option<(&'v Value, &'v Value)>
+    ensures found { IfSome result (λ values. members_view members.old ≡
+        member first.now (view values.0.now)
+        (member second.now (view values.1.now) (members_view members.new))) }
+    ensures none { IfNone result ((a b : Data) (rest : Members) →
+        members_view members.old ≢ member first.now a (member second.now b rest)) }
+{
+    let value = next_member_named(members, first)?;
+    let after = next_member_named(members, second)?;
+    Some((value, after))
+}
+
 /// The value of the last member, if there is one member left and it has this name.
 fn only_member_left_named<'v>(
     members: &mut Iter<'v, String, Value>,
@@ -119,8 +136,7 @@ fn key_and_member_of<'v>(members: &'v Map<String, Value>, field: &str) -> Option
         members_view members.now.entries ≢ named_members field.now key kind value) }
 {
     let mut rest = members.iter();
-    let key = next_member_named(&mut rest, "key")?;
-    let _kind = next_member_named(&mut rest, "kind")?;
+    let (key, _kind) = next_two_named(&mut rest, "key", "kind")?;
     let value = only_member_left_named(&mut rest, field)?;
     Some(NamedMembers { key, value })
 }
@@ -170,8 +186,7 @@ fn four_members_of<'v>(
         ≢ four_members first.now a second.now b third.now c fourth.now d) }
 {
     let mut rest = members.iter();
-    let first = next_member_named(&mut rest, first)?;
-    let second = next_member_named(&mut rest, second)?;
+    let (first, second) = next_two_named(&mut rest, first, second)?;
     let third = next_member_named(&mut rest, third)?;
     let fourth = only_member_left_named(&mut rest, fourth)?;
     Some((first, second, third, fourth))
@@ -244,10 +259,8 @@ fn date_edit_members_of<'v>(members: &'v Map<String, Value>) -> Option<SetMember
         ≢ set_members activation deactivation key kind protect_stop) }
 {
     let mut rest = members.iter();
-    let activation = next_member_named(&mut rest, "activation")?;
-    let deactivation = next_member_named(&mut rest, "deactivation")?;
-    let key = next_member_named(&mut rest, "key")?;
-    let _kind = next_member_named(&mut rest, "kind")?;
+    let (activation, deactivation) = next_two_named(&mut rest, "activation", "deactivation")?;
+    let (key, _kind) = next_two_named(&mut rest, "key", "kind")?;
     let protect_stop = only_member_left_named(&mut rest, "protect_stop")?;
     Some(SetMembers {
         activation,
@@ -298,12 +311,9 @@ fn registration_members_of<'v>(members: &'v Map<String, Value>) -> Option<Regist
         ≢ register_members activation deactivation kind owner protect_stop purpose type) }
 {
     let mut rest = members.iter();
-    let activation = next_member_named(&mut rest, "activation")?;
-    let deactivation = next_member_named(&mut rest, "deactivation")?;
-    let _kind = next_member_named(&mut rest, "kind")?;
-    let owner = next_member_named(&mut rest, "owner")?;
-    let protect_stop = next_member_named(&mut rest, "protect_stop")?;
-    let purpose = next_member_named(&mut rest, "purpose")?;
+    let (activation, deactivation) = next_two_named(&mut rest, "activation", "deactivation")?;
+    let (_kind, owner) = next_two_named(&mut rest, "kind", "owner")?;
+    let (protect_stop, purpose) = next_two_named(&mut rest, "protect_stop", "purpose")?;
     let key_type = only_member_left_named(&mut rest, "type")?;
     Some(RegisterMembers {
         activation,

@@ -2,6 +2,8 @@
 
 mod acting;
 mod acts;
+mod desks;
+mod faults;
 mod files;
 mod network;
 mod serve_words;

@@ -28,7 +28,12 @@ fn with_lines(alloc: Global, lines: usize) -> Result<String, AllocError> {
 #[test]
 fn a_head_has_64_lines(rt: HostRuntime) -> Result<(), AllocError> {
     let most = with_lines(rt.alloc(), 64)?;
-    assert!(rt; matches!(asked_of(rt.alloc(), most.as_bytes()), Some(Asked::ShowKey(1))));
+    assert!(rt;
+        matches!(
+            asked_of(rt.alloc(), most.as_bytes()),
+            Some(Asked::ShowKey(1))
+        )
+    );
     let more = with_lines(rt.alloc(), 65)?;
     assert!(rt; is_rejected(rt.alloc(), more.as_bytes(), Rejection::BadRequest));
     Ok(())
@@ -56,7 +61,12 @@ fn is_bad_prefix(alloc: Global, head: &[u8], taken: usize) -> bool {
 fn a_head_has_8192_bytes(rt: HostRuntime) -> Result<(), AllocError> {
     let most = of_length(rt.alloc(), 8192)?;
     assert_eq!(rt; most.len(), 8192);
-    assert!(rt; matches!(asked_of(rt.alloc(), most.as_bytes()), Some(Asked::ShowKey(1))));
+    assert!(rt;
+        matches!(
+            asked_of(rt.alloc(), most.as_bytes()),
+            Some(Asked::ShowKey(1))
+        )
+    );
     let more = of_length(rt.alloc(), 8193)?;
     assert!(rt; is_rejected(rt.alloc(), more.as_bytes(), Rejection::TooLarge));
     let slowly = asked_of(rt.alloc(), OneByte(more.as_bytes()));
@@ -98,8 +108,18 @@ fn a_body_has_65536_bytes(rt: HostRuntime) -> Result<(), AllocError> {
     let padded = padded_asks(rt.alloc(), 65_536)?;
     assert!(rt; matches!(padded, Some(Asked::Apply(_))));
     assert!(rt; is_rejection(padded_asks(rt.alloc(), 65_537)?, Rejection::TooLarge));
-    assert!(rt; is_rejection(filled_asks(rt.alloc(), 65_536, 65_536)?, Rejection::BadRequest));
-    assert!(rt; is_rejection(filled_asks(rt.alloc(), 65_536, 65_535)?, Rejection::BadRequest));
+    assert!(rt;
+        is_rejection(
+            filled_asks(rt.alloc(), 65_536, 65_536)?,
+            Rejection::BadRequest
+        )
+    );
+    assert!(rt;
+        is_rejection(
+            filled_asks(rt.alloc(), 65_536, 65_535)?,
+            Rejection::BadRequest
+        )
+    );
     Ok(())
 }
 
@@ -117,7 +137,12 @@ fn a_body_of_open_brackets_is_bad(rt: HostRuntime) -> Result<(), AllocError> {
 #[test]
 fn no_more_is_read_than_a_request_has(rt: HostRuntime) -> Result<(), AllocError> {
     let get = b"GET /keys/1 HTTP/1.1\r\nHost: localhost\r\n\r\n";
-    assert!(rt; matches!(asked_of(rt.alloc(), BrokenAfter(get)), Some(Asked::ShowKey(1))));
+    assert!(rt;
+        matches!(
+            asked_of(rt.alloc(), BrokenAfter(get)),
+            Some(Asked::ShowKey(1))
+        )
+    );
     let post = posted(rt.alloc(), "{\"kind\":\"advance\"}")?;
     let asked = asked_of(rt.alloc(), BrokenAfter(post.as_bytes()));
     assert!(rt; matches!(asked, Some(Asked::Apply(_))));
