@@ -1,11 +1,14 @@
 -- The text of each table: it is a CREATE TABLE of that table, from its first byte to its last, whatever the schema is.
-use Rattle.std.proofs.Common.{◌≡◌, true, false, [], Result, Ok, Err, refl}
-use Rattle.std.specs.Prelude.{slice_range}
+use Rattle.std.proofs.Common.{◌≡◌, ℕ, Bool, true, false, List, [], length, Option, None, Some, Result, Ok, Err}
+use Rattle.std.proofs.Common.{refl, sym, ap}
+use Rattle.std.specs.Prelude.{nat_eq, slice_range}
 use Rattle.sqlite.specs.Compile.{table_defined_by}
 use Rattle.sqlite_ast.specs.declared.CreateTable.{CreateTable}
 use Rattle.sqlite_ast.specs.declared.Statement.{Statement}
 use Rattle.sqlite_ast.specs.declared.Statement.TheVariants as written
-use Rattle.sqlite_resolve.specs.Compile.{first}
+use Rattle.sqlite.specs.Table.{Table}
+use Rattle.sqlite_resolve.specs.Compile.{first, is_reserved}
+use Rattle.sqlite_resolve.specs.Define as define
 use Rattle.sqlite_resolve.specs.declared.error.CompileError.{CompileError}
 use Rattle.sqlite_syntax.specs.declared.statement.Parsed.{Parsed}
 use Rattle.sqlite_tied.specs.Compute.{everything}
@@ -43,15 +46,100 @@ written_as _ = no_table
 abbrev pub def_of : TableName → CreateTable
 def_of name = written_as (parsed name).statement
 
-is_text : (name : TableName) → IsText (create_text name) (parsed name) (def_of name) (unplaced name)
+-- What a text says, read once: each fact of it is a part of one value, so that nothing is computed twice.
+record Facts : Type 0 where
+  if_missing : Bool
+  reserved : Bool
+  table : Result Table CompileError
+  resolves : Bool
+  whole : List ℕ
+
+abbrev facts_in : List ℕ → Parsed → Statement → Option Facts
+facts_in text p (written.CreateTable def) = Some record {
+  if_missing = def.if_missing;
+  reserved = is_reserved def.name;
+  table = define.table p.formats def;
+  resolves = def.resolves;
+  whole = slice_range text p.start p.end;
+}
+facts_in text p _ = None
+
+abbrev facts_of : List ℕ → Result Parsed CompileError → Option Facts
+facts_of text (Ok p) = facts_in text p p.statement
+facts_of text (Err e) = None
+
+abbrev wanted : TableName → Facts
+wanted name = record {
+  if_missing = false;
+  reserved = false;
+  table = Ok (unplaced name);
+  resolves = false;
+  whole = create_text name;
+}
+
+says : (name : TableName) → facts_of (create_text name) (first (create_text name)) ≡ Some (wanted name)
 unfolding everything
-is_text Meta = record { parsed = refl; is = refl; always = refl; own = refl; defined = refl; computed = refl }
-is_text Keys = record { parsed = refl; is = refl; always = refl; own = refl; defined = refl; computed = refl }
-is_text Custodian = record { parsed = refl; is = refl; always = refl; own = refl; defined = refl; computed = refl }
-is_text Approval = record { parsed = refl; is = refl; always = refl; own = refl; defined = refl; computed = refl }
-is_text Request = record { parsed = refl; is = refl; always = refl; own = refl; defined = refl; computed = refl }
-is_text Period = record { parsed = refl; is = refl; always = refl; own = refl; defined = refl; computed = refl }
-is_text Quorum = record { parsed = refl; is = refl; always = refl; own = refl; defined = refl; computed = refl }
+says Meta = refl
+says Keys = refl
+says Custodian = refl
+says Approval = refl
+says Request = refl
+says Period = refl
+says Quorum = refl
+
+counted : (name : TableName) → nat_eq (length (unplaced name).computed) (length (unplaced name).stamps.places) ≡ true
+unfolding everything
+counted Meta = refl
+counted Keys = refl
+counted Custodian = refl
+counted Approval = refl
+counted Request = refl
+counted Period = refl
+counted Quorum = refl
+
+-- what is read is a table's definition, with these facts
+record Reads (text : List ℕ) (r : Result Parsed CompileError) (facts : Facts) : Type 0 where
+  ok : r ≡ Ok (read_as r)
+  is : (read_as r).statement ≡ written.CreateTable (written_as (read_as r).statement)
+  has : facts ≡ record {
+    if_missing = (written_as (read_as r).statement).if_missing;
+    reserved = is_reserved (written_as (read_as r).statement).name;
+    table = define.table (read_as r).formats (written_as (read_as r).statement);
+    resolves = (written_as (read_as r).statement).resolves;
+    whole = slice_range text (read_as r).start (read_as r).end;
+  }
+
+reads_in : (text : List ℕ) (p : Parsed) (s : Statement) (facts : Facts) → p.statement ≡ s
+    → facts_in text p s ≡ Some facts → Reads text (Ok p) facts
+reads_in text p (written.CreateTable def) facts is e =
+    record { ok = refl; is = rw is refl; has = rw is cc }
+reads_in text p s facts is e = absurd (cc)
+
+reads : (text : List ℕ) (r : Result Parsed CompileError) (facts : Facts) → facts_of text r ≡ Some facts
+    → Reads text r facts
+reads text (Ok p) facts e = reads_in text p p.statement facts refl e
+reads text (Err e) facts is = absurd (cc)
+
+reads_table : (name : TableName) → Reads (create_text name) (first (create_text name)) (wanted name)
+reads_table name = reads _ _ _ (says name)
+
+is_text : (name : TableName) → IsText (create_text name) (parsed name) (def_of name) (unplaced name)
+is_text name =
+    let it = reads_table name in
+    let resolves = ap (λ (f : Facts). f.resolves) it.has in
+    record {
+      parsed = it.ok;
+      is = it.is;
+      always = sym (ap (λ (f : Facts). f.if_missing) it.has);
+      own = sym (ap (λ (f : Facts). f.reserved) it.has);
+      defined = sym (ap (λ (f : Facts). f.table) it.has);
+      computed = rw (counted name, sym resolves) refl;
+    }
+
+defined_by : (text : List ℕ) (p : Parsed) (def : CreateTable) (table : Table) → IsText text p def table
+    → table_defined_by text ≡ Ok table
+unfolding everything
+defined_by text p def table t = rw (t.parsed, t.is) t.defined
 
 -- the text is that of the table, from its first byte to its last
 pub record IsWhole (name : TableName) : Type 0 where
@@ -60,11 +148,8 @@ pub record IsWhole (name : TableName) : Type 0 where
   pub defined : table_defined_by (create_text name) ≡ Ok (unplaced name)
 
 pub whole_is : (name : TableName) → IsWhole name
-unfolding everything
-whole_is Meta = record { text = is_text Meta; whole = refl; defined = refl }
-whole_is Keys = record { text = is_text Keys; whole = refl; defined = refl }
-whole_is Custodian = record { text = is_text Custodian; whole = refl; defined = refl }
-whole_is Approval = record { text = is_text Approval; whole = refl; defined = refl }
-whole_is Request = record { text = is_text Request; whole = refl; defined = refl }
-whole_is Period = record { text = is_text Period; whole = refl; defined = refl }
-whole_is Quorum = record { text = is_text Quorum; whole = refl; defined = refl }
+whole_is name = record {
+  text = is_text name;
+  whole = sym (ap (λ (f : Facts). f.whole) (reads_table name).has);
+  defined = defined_by _ _ _ _ (is_text name);
+}
