@@ -3,7 +3,7 @@ use crate::route::Route;
 use register_core::{Command, Name, RequestNumber};
 
 /// Why an input is answered without the register being asked.
-#[derive(Clone, Copy, Debug, PartialEq, Eq)]
+#[derive(Clone, Copy, PartialEq, Eq)]
 pub enum Rejection {
     /// 400: no head, header lines that may not be, or a body that is of no command.
     BadRequest,

@@ -13,7 +13,7 @@ use std::alloc::Global;
 use std::str;
 
 /// What a request is for.
-#[derive(Clone, Copy, Debug, PartialEq, Eq)]
+#[derive(Clone, Copy, PartialEq, Eq)]
 pub enum Route {
     Requests,
     Show(u32),

@@ -1,7 +1,7 @@
 //! Heads: routes, methods, hosts, lengths and senders, in the order of the steps.
 use super::inputs::{asked_by, asked_of, is_rejection};
-use http_messages::{Asked, Rejection, Routes};
-use std::alloc::{AllocError, Global};
+use http_messages::{Asked, Rejection, Route, Routes};
+use std::alloc::Global;
 
 const BAD: Rejection = Rejection::BadRequest;
 
@@ -14,31 +14,28 @@ const OTHER_TARGETS: [&str; 22] = [
     "GET /", "POST /requests/", "POST /requests?x", "DELETE /nothing",
 ];
 
-/// What is asked for, as the tables here name it.
-fn named(alloc: Global, asked: Asked) -> Result<String, AllocError> {
-    match asked {
-        Asked::ShowKey(key) => format!(in alloc; "ShowKey({key})"),
-        Asked::ShowUsage(key) => format!(in alloc; "ShowUsage({key})"),
-        Asked::Apply(_) => format!(in alloc; "Apply"),
-        Asked::Reject(rejection) => format!(in alloc; "Reject({rejection:?})"),
-    }
+/// What an input without a body asks for.
+#[derive(Clone, Copy)]
+enum Expected {
+    Key(u32),
+    Usage(u32),
+    Rejected(Rejection),
 }
 
 /// Whether this is asked for.
-fn is_asked(alloc: Global, asked: Option<Asked>, text: &str) -> bool {
-    let Some(asked) = asked else {
-        return false;
-    };
-    match named(alloc, asked) {
-        Ok(name) => name.as_str() == text,
-        Err(_) => false,
+fn is_asked(asked: Option<Asked>, expected: Expected) -> bool {
+    match (asked, expected) {
+        (Some(Asked::ShowKey(key)), Expected::Key(number)) => key == number,
+        (Some(Asked::ShowUsage(key)), Expected::Usage(number)) => key == number,
+        (_, Expected::Rejected(rejection)) => is_rejection(asked, rejection),
+        _ => false,
     }
 }
 
 /// Whether the head of this request line and a host asks for this.
-fn asks(alloc: Global, routes: &mut Routes, line: &str, asked: &str) -> bool {
+fn asks(alloc: Global, routes: &mut Routes, line: &str, expected: Expected) -> bool {
     match format!(in alloc; "{line} HTTP/1.1\r\nHost: localhost\r\n\r\n") {
-        Ok(input) => is_asked(alloc, asked_by(alloc, routes, input.as_bytes()), asked),
+        Ok(input) => is_asked(asked_by(alloc, routes, input.as_bytes()), expected),
         Err(_) => false,
     }
 }
@@ -48,68 +45,79 @@ fn other_targets_have_no_route(rt: HostRuntime) {
     let mut routes = Routes::new();
     for line in &OTHER_TARGETS {
         assert!(rt;
-            asks(rt.alloc(), &mut routes, line, "Reject(NoRoute)"),
+            asks(
+                rt.alloc(),
+                &mut routes,
+                line,
+                Expected::Rejected(Rejection::NoRoute)
+            ),
             "{line}"
         );
     }
 }
 
-/// A request line, and what it asks for with a host, as that is printed.
+const SHOW_ONLY: Expected = Expected::Rejected(Rejection::MethodNotAllowed(Route::Show(1)));
+
+const USAGE_ONLY: Expected = Expected::Rejected(Rejection::MethodNotAllowed(Route::Usage(1)));
+
+const REQUESTS_ONLY: Expected = Expected::Rejected(Rejection::MethodNotAllowed(Route::Requests));
+
+/// A request line, and what it asks for with a host.
 #[rattlefmt::skip]
-static ROUTES: [(&str, &str); 14] = [
-    ("GET /keys/1", "ShowKey(1)"),
-    ("GET /keys/4294967295", "ShowKey(4294967295)"),
-    ("GET /keys/1/usage", "ShowUsage(1)"),
-    ("GET /keys/4294967295/usage", "ShowUsage(4294967295)"),
-    ("HEAD /keys/1", "Reject(MethodNotAllowed(Show(1)))"),
-    ("get /keys/1", "Reject(MethodNotAllowed(Show(1)))"),
-    ("POST /keys/1", "Reject(MethodNotAllowed(Show(1)))"),
-    ("DELETE /keys/1/usage", "Reject(MethodNotAllowed(Usage(1)))"),
-    ("OPTIONS /keys/1/usage", "Reject(MethodNotAllowed(Usage(1)))"),
-    ("GET /requests", "Reject(MethodNotAllowed(Requests))"),
-    ("HEAD /requests", "Reject(MethodNotAllowed(Requests))"),
-    ("PUT /requests", "Reject(MethodNotAllowed(Requests))"),
-    ("post /requests", "Reject(MethodNotAllowed(Requests))"),
-    ("POST /requests", "Reject(LengthRequired)"),
+static ROUTES: [(&str, Expected); 14] = [
+    ("GET /keys/1", Expected::Key(1)),
+    ("GET /keys/4294967295", Expected::Key(4294967295)),
+    ("GET /keys/1/usage", Expected::Usage(1)),
+    ("GET /keys/4294967295/usage", Expected::Usage(4294967295)),
+    ("HEAD /keys/1", SHOW_ONLY),
+    ("get /keys/1", SHOW_ONLY),
+    ("POST /keys/1", SHOW_ONLY),
+    ("DELETE /keys/1/usage", USAGE_ONLY),
+    ("OPTIONS /keys/1/usage", USAGE_ONLY),
+    ("GET /requests", REQUESTS_ONLY),
+    ("HEAD /requests", REQUESTS_ONLY),
+    ("PUT /requests", REQUESTS_ONLY),
+    ("post /requests", REQUESTS_ONLY),
+    ("POST /requests", Expected::Rejected(Rejection::LengthRequired)),
 ];
 
 #[test]
 fn each_route_takes_its_method(rt: HostRuntime) {
     let mut routes = Routes::new();
-    for (line, asked) in &ROUTES {
-        assert!(rt; asks(rt.alloc(), &mut routes, line, asked), "{line}");
+    for (line, expected) in &ROUTES {
+        assert!(rt; asks(rt.alloc(), &mut routes, line, *expected), "{line}");
     }
 }
 
 /// Inputs that are whole but for what their heads say, and what they ask for.
 #[rattlefmt::skip]
-static HEADS: [(&str, &str); 15] = [
+static HEADS: [(&str, Expected); 15] = [
     // Of HTTP/1.0 no host is asked; of HTTP/1.1 one, of any value and before the route.
-    ("GET /keys/1 HTTP/1.0\r\n\r\n", "ShowKey(1)"),
-    ("GET /keys/1 HTTP/1.0\r\nHost: a\r\nHost: b\r\n\r\n", "ShowKey(1)"),
-    ("GET /keys/1 HTTP/1.1\r\nhOST:\r\n\r\n", "ShowKey(1)"),
-    ("GET /keys/1 HTTP/1.1\r\n\r\n", "Reject(BadRequest)"),
-    ("GET /keys/1 HTTP/1.1\r\nHost: a\r\nHost: a\r\n\r\n", "Reject(BadRequest)"),
-    ("GET /nothing HTTP/1.1\r\nHost: a\r\nhost: b\r\n\r\n", "Reject(BadRequest)"),
+    ("GET /keys/1 HTTP/1.0\r\n\r\n", Expected::Key(1)),
+    ("GET /keys/1 HTTP/1.0\r\nHost: a\r\nHost: b\r\n\r\n", Expected::Key(1)),
+    ("GET /keys/1 HTTP/1.1\r\nhOST:\r\n\r\n", Expected::Key(1)),
+    ("GET /keys/1 HTTP/1.1\r\n\r\n", Expected::Rejected(BAD)),
+    ("GET /keys/1 HTTP/1.1\r\nHost: a\r\nHost: a\r\n\r\n", Expected::Rejected(BAD)),
+    ("GET /nothing HTTP/1.1\r\nHost: a\r\nhost: b\r\n\r\n", Expected::Rejected(BAD)),
     // Empty lines before it, and lines that end with LF alone.
-    ("\r\n\r\nGET /keys/1 HTTP/1.1\nHost: localhost\n\n", "ShowKey(1)"),
+    ("\r\n\r\nGET /keys/1 HTTP/1.1\nHost: localhost\n\n", Expected::Key(1)),
     // A body of a GET is not read.
-    ("GET /keys/1 HTTP/1.1\r\nHost: localhost\r\nContent-Length: 2\r\nContent-Length: x\r\n\r\n{}", "ShowKey(1)"),
+    ("GET /keys/1 HTTP/1.1\r\nHost: localhost\r\nContent-Length: 2\r\nContent-Length: x\r\n\r\n{}", Expected::Key(1)),
     // No heads.
-    ("GET /keys/1 HTTP/2.0\r\nHost: localhost\r\n\r\n", "Reject(BadRequest)"),
-    ("GET /keys/1\r\nHost: localhost\r\n\r\n", "Reject(BadRequest)"),
-    ("GET  /keys/1 HTTP/1.1\r\nHost: localhost\r\n\r\n", "Reject(BadRequest)"),
-    ("GET /keys/1 HTTP/1.1\r\nHost : localhost\r\n\r\n", "Reject(BadRequest)"),
-    ("GET /keys/1 HTTP/1.1\r\nHost: localhost\r\n folded\r\n\r\n", "Reject(BadRequest)"),
-    ("100 ann 1 advance\n", "Reject(BadRequest)"),
-    ("\u{0}", "Reject(BadRequest)"),
+    ("GET /keys/1 HTTP/2.0\r\nHost: localhost\r\n\r\n", Expected::Rejected(BAD)),
+    ("GET /keys/1\r\nHost: localhost\r\n\r\n", Expected::Rejected(BAD)),
+    ("GET  /keys/1 HTTP/1.1\r\nHost: localhost\r\n\r\n", Expected::Rejected(BAD)),
+    ("GET /keys/1 HTTP/1.1\r\nHost : localhost\r\n\r\n", Expected::Rejected(BAD)),
+    ("GET /keys/1 HTTP/1.1\r\nHost: localhost\r\n folded\r\n\r\n", Expected::Rejected(BAD)),
+    ("100 ann 1 advance\n", Expected::Rejected(BAD)),
+    ("\u{0}", Expected::Rejected(BAD)),
 ];
 
 #[test]
 fn heads_are_told_from_none(rt: HostRuntime) {
-    for (input, asked) in &HEADS {
-        let is = asked_of(rt.alloc(), input.as_bytes());
-        assert!(rt; is_asked(rt.alloc(), is, asked), "{input}");
+    for (input, expected) in &HEADS {
+        let asked = asked_of(rt.alloc(), input.as_bytes());
+        assert!(rt; is_asked(asked, *expected), "{input}");
     }
     assert!(rt; asked_of(rt.alloc(), b"".as_slice()).is_none());
 }

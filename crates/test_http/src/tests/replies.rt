@@ -188,7 +188,7 @@ fn rejections_have_their_replies(rt: HostRuntime) -> Result<(), AllocError> {
         );
     }
     for (route, reply) in &OTHER_METHODS {
-        assert!(rt; is_other_method(rt.alloc(), *route, reply)?, "{route:?}");
+        assert!(rt; is_other_method(rt.alloc(), *route, reply)?, "{reply}");
     }
     Ok(())
 }
