@@ -77,25 +77,17 @@ wanted name = record {
   whole = create_text name;
 }
 
-says : (name : TableName) → facts_of (create_text name) (first (create_text name)) ≡ Some (wanted name)
+-- and a table has as many computed columns as its stamps have places
+says : (name : TableName) → (facts_of (create_text name) (first (create_text name)) ≡ Some (wanted name))
+    × (nat_eq (length (unplaced name).computed) (length (unplaced name).stamps.places) ≡ true)
 unfolding everything
-says Meta = refl
-says Keys = refl
-says Custodian = refl
-says Approval = refl
-says Request = refl
-says Period = refl
-says Quorum = refl
-
-counted : (name : TableName) → nat_eq (length (unplaced name).computed) (length (unplaced name).stamps.places) ≡ true
-unfolding everything
-counted Meta = refl
-counted Keys = refl
-counted Custodian = refl
-counted Approval = refl
-counted Request = refl
-counted Period = refl
-counted Quorum = refl
+says Meta = (refl, refl)
+says Keys = (refl, refl)
+says Custodian = (refl, refl)
+says Approval = (refl, refl)
+says Request = (refl, refl)
+says Period = (refl, refl)
+says Quorum = (refl, refl)
 
 -- what is read is a table's definition, with these facts
 record Reads (text : List ℕ) (r : Result Parsed CompileError) (facts : Facts) : Type 0 where
@@ -121,7 +113,7 @@ reads text (Ok p) facts e = reads_in text p p.statement facts refl e
 reads text (Err e) facts is = absurd (cc)
 
 reads_table : (name : TableName) → Reads (create_text name) (first (create_text name)) (wanted name)
-reads_table name = reads _ _ _ (says name)
+reads_table name = reads _ _ _ (says name).0
 
 is_text : (name : TableName) → IsText (create_text name) (parsed name) (def_of name) (unplaced name)
 is_text name =
@@ -133,7 +125,7 @@ is_text name =
       always = sym (ap (λ (f : Facts). f.if_missing) it.has);
       own = sym (ap (λ (f : Facts). f.reserved) it.has);
       defined = sym (ap (λ (f : Facts). f.table) it.has);
-      computed = rw (counted name, sym resolves) refl;
+      computed = rw ((says name).1, sym resolves) refl;
     }
 
 defined_by : (text : List ℕ) (p : Parsed) (def : CreateTable) (table : Table) → IsText text p def table

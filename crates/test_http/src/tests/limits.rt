@@ -15,6 +15,11 @@ fn limits_are_the_rules(rt: HostRuntime) {
     assert_eq!(rt; MAX_EXCHANGE_READS, 80_000);
 }
 
+/// Whether it is the first key that is asked for.
+fn is_for_key_1<R: Read + Drop>(alloc: Global, input: R) -> bool {
+    matches!(asked_of(alloc, input), Some(Asked::ShowKey(1)))
+}
+
 /// The head of a GET with so many header lines, one of them the host's.
 fn with_lines(alloc: Global, lines: usize) -> Result<String, AllocError> {
     let mut head = format!(in alloc; "GET /keys/1 HTTP/1.1\r\nHost: localhost\r\n")?;
@@ -28,12 +33,7 @@ fn with_lines(alloc: Global, lines: usize) -> Result<String, AllocError> {
 #[test]
 fn a_head_has_64_lines(rt: HostRuntime) -> Result<(), AllocError> {
     let most = with_lines(rt.alloc(), 64)?;
-    assert!(rt;
-        matches!(
-            asked_of(rt.alloc(), most.as_bytes()),
-            Some(Asked::ShowKey(1))
-        )
-    );
+    assert!(rt; is_for_key_1(rt.alloc(), most.as_bytes()));
     let more = with_lines(rt.alloc(), 65)?;
     assert!(rt; is_rejected(rt.alloc(), more.as_bytes(), Rejection::BadRequest));
     Ok(())
@@ -61,12 +61,7 @@ fn is_bad_prefix(alloc: Global, head: &[u8], taken: usize) -> bool {
 fn a_head_has_8192_bytes(rt: HostRuntime) -> Result<(), AllocError> {
     let most = of_length(rt.alloc(), 8192)?;
     assert_eq!(rt; most.len(), 8192);
-    assert!(rt;
-        matches!(
-            asked_of(rt.alloc(), most.as_bytes()),
-            Some(Asked::ShowKey(1))
-        )
-    );
+    assert!(rt; is_for_key_1(rt.alloc(), most.as_bytes()));
     let more = of_length(rt.alloc(), 8193)?;
     assert!(rt; is_rejected(rt.alloc(), more.as_bytes(), Rejection::TooLarge));
     let slowly = asked_of(rt.alloc(), OneByte(more.as_bytes()));
@@ -137,12 +132,7 @@ fn a_body_of_open_brackets_is_bad(rt: HostRuntime) -> Result<(), AllocError> {
 #[test]
 fn no_more_is_read_than_a_request_has(rt: HostRuntime) -> Result<(), AllocError> {
     let get = b"GET /keys/1 HTTP/1.1\r\nHost: localhost\r\n\r\n";
-    assert!(rt;
-        matches!(
-            asked_of(rt.alloc(), BrokenAfter(get)),
-            Some(Asked::ShowKey(1))
-        )
-    );
+    assert!(rt; is_for_key_1(rt.alloc(), BrokenAfter(get)));
     let post = posted(rt.alloc(), "{\"kind\":\"advance\"}")?;
     let asked = asked_of(rt.alloc(), BrokenAfter(post.as_bytes()));
     assert!(rt; matches!(asked, Some(Asked::Apply(_))));
