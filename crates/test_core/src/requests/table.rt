@@ -3,7 +3,7 @@
 use super::keys::{answer_by, change_by_request, outcome_by, view_in};
 use lifecycle_core::State;
 use moment_core::Moment;
-use period_core::{KeyType, Period};
+use period_core::KeyType;
 use register_core::{Change, MAX_KEYS, Refusal, View, read_request, reply_line};
 use std::alloc::Global;
 use std::test::Fail;
@@ -170,25 +170,33 @@ fn commands_without_a_key(rt: HostRuntime) {
     }
 }
 
-/// What the line changes of what a register of one key keeps.
-fn change_by(line: &str) -> Option<Change> {
+/// Whether the line, in a register of one key, sets the months of originator and of recipient use of
+/// data-encryption keys to these, or else changes nothing but the latest moment.
+fn is_change_of(line: &str, months: Option<(u16, u16)>) -> bool {
+    let (Some(latest), Some(request)) = (Moment::new(600), read_request(line.as_bytes())) else {
+        return false;
+    };
     let view = View {
-        latest: Moment::new(600)?,
+        latest,
         keys: 1,
         period: None,
         key: None,
     };
-    change_by_request(&view, &read_request(line.as_bytes())?)
+    match &change_by_request(&view, &request) {
+        Some(Change::Nothing) => months.is_none(),
+        Some(
+            Change::PeriodSet {
+                kind: KeyType::DataEncryption,
+                period,
+            },
+        ) => months == Some((period.originator(), period.recipient())),
+        _ => false,
+    }
 }
 
 #[test]
-fn changes_without_a_key(rt: HostRuntime) -> Result<(), Fail> {
-    assert!(rt; matches!(change_by("1000 zed 1 advance"), Some(Change::Nothing)));
-    let set = change_by("1000 office 1 set-period data-encryption 12 36");
-    let Some(Change::PeriodSet { kind, period }) = set else {
-        return Err(Fail::from("no period is set"));
-    };
-    assert!(rt; kind == KeyType::DataEncryption && period.originator() == 12);
-    assert!(rt; period.recipient() == 36);
-    Ok(())
+fn changes_without_a_key(rt: HostRuntime) {
+    assert!(rt; is_change_of("1000 zed 1 advance", None));
+    let line = "1000 office 1 set-period data-encryption 12 36";
+    assert!(rt; is_change_of(line, Some((12, 36))));
 }

@@ -24,11 +24,10 @@ enum Expected {
 
 /// Whether this is asked for.
 fn is_asked(asked: Option<Asked>, expected: Expected) -> bool {
-    match (asked, expected) {
-        (Some(Asked::ShowKey(key)), Expected::Key(number)) => key == number,
-        (Some(Asked::ShowUsage(key)), Expected::Usage(number)) => key == number,
-        (_, Expected::Rejected(rejection)) => is_rejection(asked, rejection),
-        _ => false,
+    match expected {
+        Expected::Key(number) => matches!(&asked, Some(Asked::ShowKey(key)) if *key == number),
+        Expected::Usage(number) => matches!(&asked, Some(Asked::ShowUsage(key)) if *key == number),
+        Expected::Rejected(rejection) => is_rejection(asked, rejection),
     }
 }
 
