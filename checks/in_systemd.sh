@@ -266,8 +266,9 @@ systemctl stop 'keyreg*'
 holds "all are stopped" sh -c '! systemctl list-units --no-legend --state=active "keyreg*" | grep -v slice'
 holds "a newer package" dpkg --install /keyreg.deb
 systemctl daemon-reload
-systemctl start keyreg
+start_units
 holds "it serves after it" until_holds 60 gets 8420 200
+holds "its timers go on after it" state_is keyreg-nightly.timer active
 holds "systemd has the units of the package" sh -c '[ "$(systemctl show -p NeedDaemonReload --value keyreg)" = no ]'
 holds "a removal's first line" systemctl disable --now keyreg keyreg-advance.timer keyreg-nightly.timer \
     keyreg-list.timer keyreg-follow.timer keyreg@payroll keyreg@site-b
