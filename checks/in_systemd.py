@@ -15,7 +15,8 @@ accidents  An office gets up again after a moment in the future, a request that 
            serves and accepts, the nightly look is good, and the standby has each request.
 
 As root, with debootstrap and systemd-container of Debian. The root is one that debootstrap fetches, or a copy of FOLDER
-with the packages of MORE. `./package` is called first.
+with the packages of MORE. `./package` is called first. Not two at a time on a machine that no systemd manages: both
+would have its groups of processes.
 """
 import argparse
 import pathlib
