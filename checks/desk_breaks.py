@@ -155,7 +155,7 @@ def hostile_texts(reader):
         reader.open("register")
         form = reader.form("register")
         reader.fill(form, "Owner", reader.user)
-        entry = next(field for field in form.find_elements("css selector", ".field input[maxlength]"))
+        entry = form.find_element("css selector", "input[name='purpose']")
         reader.put(entry, text)
         reader.forget()
         form.find_element("css selector", "button.send").click()

@@ -3,6 +3,7 @@ that is taken in. What the page has to say comes from docs/SPECIFICATION.md and 
 reads them."""
 import calendar
 import contextlib
+import csv
 import os
 import pathlib
 import sqlite3
@@ -69,11 +70,12 @@ def custody(ann, bob, cat):
     ann.desk.list()
     bob.reload()
     bob.open("waits")
-    button = bob.one(f"button[aria-label='Approve the destruction of key {key}']")
-    bob.forget()
-    button.click()
-    expect(bob.answer(f"approve {key}")[0], "an approval from the list is not accepted")
-    expect(not bob.find(f"button[aria-label='Approve the destruction of key {key}']"), "what is approved still waits")
+    waits = f"section.guarded a[href='#key/{key}']"
+    bob.one(waits).click()
+    bob.wait(lambda: "As the register told it" in bob.text(), f"key {key} is not opened")
+    bob.does("approve", f"approve {key}")
+    bob.open("waits")
+    expect(not bob.find(f"section:not(.destroyable) a[href='#key/{key}']"), "what is approved still waits")
     cat.key(key).does("approve", f"approve {key}")
     cat.does("withdraw", f"withdraw {key}")
     cat.does("approve", f"approve {key}")
@@ -230,8 +232,8 @@ def table_text(good):
 
 def wrong_files(reader, folder):
     """Files that are no table are told by name, and nothing is sent."""
-    files = (("utf16.csv", HEAD.encode("utf-16"), "no UTF-8"), ("mark.csv", b"\xef\xbb\xbf" + HEAD.encode(), "mark"),
-             ("semicolon.csv", HEAD.replace(",", ";").encode(), "parted by ;"), ("other.csv", b"a,b\n", "header row"))
+    files = (("utf16.csv", HEAD.encode("utf-16"), "no UTF-8"), ("other.csv", b"a,b\n", "header row"),
+             ("tabs.csv", HEAD.replace(",", "\t").encode(), "header row"), ("empty.csv", b"", "header row is empty"))
     for name, given, told in files:
         pathlib.Path(folder, name).write_bytes(given)
         reader.open("find")
@@ -249,6 +251,11 @@ def chosen(reader, folder, text):
     reader.wait(lambda: "judged before" in reader.text(), "the rows are not shown")
 
 
+def put_away(reader):
+    reader.one(".buttons button", lambda button: button.text == "Put the table away").click()
+    reader.one("input[type='file']")
+
+
 def taken_in(reader, folder, good=40):
     """A table is judged row by row, sent, stopped, gone on with after a reload, and its other rows are given back."""
     wrong_files(reader, folder)
@@ -256,7 +263,7 @@ def taken_in(reader, folder, good=40):
     reader.driver.execute_cdp_cmd("Browser.setDownloadBehavior", {"behavior": "allow", "downloadPath": folder})
     chosen(reader, folder, text)
     judged = (f"{good + 7} rows, judged before they are sent: {good} would be accepted, 1 refused, 6 of another form, "
-              "0 there already, 0 changed by a spreadsheet")
+              "0 there already, 0 repeated, 0 changed by a spreadsheet")
     reader.wait(lambda: judged in reader.text(), "the rows are not judged")
     # A row that the page would not send is sent all the same where the reader wants it.
     order = next(row for row in reader.find("table.rows tbody tr") if "another order" in row.text)
@@ -278,11 +285,18 @@ def taken_in(reader, folder, good=40):
     back = pathlib.Path(folder, "not-registered-keys.csv")
     reader.wait(back.exists, "nothing is given back")
     time.sleep(0.3)
-    rows = back.read_text(encoding="utf-8").splitlines()
-    expect(rows[0] + "\n" == HEAD and len(rows) == 8, f"given back were {rows}")
-    expect({row.rstrip(",").replace('"', "") for row in rows[1:]} == {row.rstrip(",").replace('"', "") for row in bad},
-           f"given back were {rows}")
-    reader.one(".buttons button", lambda button: button.text == "Put the table away").click()
+    with open(back, encoding="utf-8", newline="") as text:
+        header, *rows = csv.reader(text)
+    expect(",".join(header) == HEAD.rstrip() + ",reason", f"the header row that is given back is {header}")
+    wanted = [row + [""] * (6 - len(row)) for row in csv.reader(bad)]
+    expect(sorted(row[:6] for row in rows) == sorted(wanted), f"given back were {rows}")
+    for row in rows:
+        expect(any(word in row[6] for word in ("of another form: ", "refused: DateOrder: ")), f"no reason in {row}")
+    put_away(reader)
+    chosen(reader, folder, back.read_text(encoding="utf-8"))
+    reader.wait(lambda: "7 rows, judged before they are sent: 0 would be accepted, 1 refused, 6 of another form" in
+                reader.text(), "what was given back is no table")
+    put_away(reader)
 
 
 def whole_day(readers, folder):

@@ -44,14 +44,17 @@ import desk_keyboard
 import desk_looks
 import desk_screens
 import desk_sheets
+import desk_tables
+import desk_typed
+import desk_users
 from desk_parts import Desk, Reader, in_memory
 from registers import expect
 from register_rules import FORMS
 
 REPLAY = os.path.join(os.path.dirname(os.path.abspath(__file__)), "..", "examples", "replay.py")
 # What Chromium itself writes to the console: of each refusal, and of what was broken on purpose.
-BY_STATUS = re.compile(r"\S+/(requests|keys/\d+(/usage)?|list\.json|favicon\.ico|me) - Failed to load resource: "
-                       r"(the server responded with a status of (40[049]|50[023]) .*|net::ERR_[A-Z_]+)")
+BY_STATUS = re.compile(r"\S+/(requests|keys/\d+(/usage)?|list\.json|favicon\.ico|me|sign-out\?user=\w+) - Failed to load resource: "
+                       r"(the server responded with a status of (40[0149]|412|50[023]) .*|net::ERR_[A-Z_]+)")
 
 
 def copied(desk, folder):
@@ -141,7 +144,7 @@ EXAMPLE = [
     "1767600000 intake 1 register data-encryption ann 1767600000 1830672000 1925366400 payroll disks, site A",
     "1767600060 ann 1 add-custodian 1 bob", "1767600120 ann 2 add-custodian 1 cat", "1767690000 ann 3 set-quorum 1 2",
 ]
-PARTS = ("day", "breaks", "looks", "large")
+PARTS = ("day", "breaks", "typed", "tables", "looks", "large")
 PAGES = {"find": "find", "key": "key/1", "waits": "waits", "register": "register", "table": "table",
          "periods": "periods"}
 
@@ -158,7 +161,7 @@ def day_of_all(readers, folder):
     print(f"{desk_sheets.all_tables(bob, folder)} fields that a spreadsheet changed are told")
 
 
-def whole(folder, screens, parts):
+def whole(folder, screens, parts, rows):
     """The parts, over one register."""
     with contextlib.ExitStack() as stack:
         desk = Desk(folder)
@@ -175,6 +178,11 @@ def whole(folder, screens, parts):
         if "breaks" in parts:
             readers["second"] = reader_of("ann")
             desk_breaks.all_breaks(readers)
+            desk_users.all_users(readers["ann"])
+        if "typed" in parts:
+            desk_typed.all_typed(readers)
+        if "tables" in parts:
+            print(desk_tables.all_taken(readers["cat"], folder, rows))
         count = compared(desk, readers.values(), folder)
         if "looks" in parts:
             ann = readers["ann"]
@@ -200,6 +208,7 @@ def main():
     words.add_argument("--least", action="store_true")
     words.add_argument("--screens", metavar="FOLDER")
     words.add_argument("--picture", metavar="FILE")
+    words.add_argument("--rows", type=int, default=2000)
     words.add_argument("parts", metavar="PART", nargs="*", choices=[*PARTS, []], default=[])
     words = words.parse_args()
     if words.screens:
@@ -209,7 +218,7 @@ def main():
         if words.picture:
             told = pictured(folder, words.picture)
         else:
-            told = least(folder) if words.least else whole(folder, words.screens, words.parts or PARTS)
+            told = least(folder) if words.least else whole(folder, words.screens, words.parts or PARTS, words.rows)
     print(told)
 
 

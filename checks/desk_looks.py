@@ -12,7 +12,7 @@ import zlib
 from desk_parts import By
 from registers import TABLES, UNSET, VERSION, expect, put_rows
 
-WIDTHS = (360, 800, 1600)
+WIDTHS = (320, 380, 800, 1200)
 NAMED = {"button", "link", "textbox", "searchbox", "combobox", "checkbox", "spinbutton", "img", "image", "progressbar",
          "Date",
          "DateTime", "InputTime", "navigation", "table", "form", "dialog"}

@@ -23,10 +23,8 @@ def waiting(ann, bob, cat):
     ann.desk.list()
     bob.reload()
     bob.open("waits")
-    buttons = [button.get_attribute("aria-label") for button in bob.find("table.cards button")]
-    wanted = [f"Approve the destruction of key {key}" for key in keys]
-    expect([label for label in buttons if label in wanted] == wanted, f"what waits is {buttons}, and not {wanted}")
-    expect(f"\n{own} " in bob.text(), f"key {own} is not told to wait for its owner: {bob.text()}")
+    for part, key in (("begun", keys[0]), ("guarded", keys[1]), ("destroyable", own)):
+        expect(bob.find(f"section.{part} a[href='#key/{key}']"), f"key {key} is not under {part}: {bob.text()}")
 
 
 GOOD = "authentication,ann,{0},,,row {1} of the partners"
@@ -38,11 +36,11 @@ def answered(ann, folder):
     """A table with a refusal among its rows, which are all answered, and with a row that is of another form."""
     rows = [row.format(day(-9) + "Z", place) for place, row in enumerate(MIXED)]
     chosen(ann, folder, HEAD + "\n".join(rows) + "\n")
-    ann.find("table.rows tbody input")[2].click()
+    ann.one("input[aria-label='send row 3']").click()
     ann.one(".buttons button.send", lambda button: button.text == "Send 5 rows").click()
     ann.wait(lambda: "5 of 5 rows answered: 4 accepted, 1 refused" in ann.text(), "the rows are not answered", 60)
     sorts = [row.get_attribute("class") for row in ann.find("table.rows tbody tr")]
-    expect(sorts == ["accepted", "accepted", "refused", "accepted", "wrong", "accepted"], f"the rows are {sorts}")
+    expect(sorts == ["refused", "wrong", *["accepted"] * 4], f"the rows are {sorts}")
     ann.said += [(ann.user, None, f"register authentication ann {second(day(-9))} - - row {place} of the partners")
                  for place in (0, 1, 3, 5)]
     ann.one("a.button", lambda link: link.text == "Take back 2 rows not registered")

@@ -4,7 +4,7 @@ import json
 import pathlib
 import re
 
-from desk_day import HEAD, chosen
+from desk_day import HEAD, chosen, put_away
 from registers import expect
 from table_checked import COLUMNS, KEY, RECORDED, checked, put
 from table_checked import Desk as Register
@@ -30,7 +30,7 @@ def said(reader):
 def counted(reader, count):
     """All rows are told as changed, and none is marked to be sent."""
     told = (f"{count} rows, judged before they are sent: 0 would be accepted, 0 refused, 0 of another form, "
-            f"0 there already, {count} changed by a spreadsheet")
+            f"0 there already, 0 repeated, {count} changed by a spreadsheet")
     reader.wait(lambda: told in reader.text(), f"it is not told: {told}", 10)
     expect(not reader.run("return [...document.querySelectorAll('.rows input')].some((one) => one.checked)"),
            "a row that a spreadsheet changed is marked to be sent")
@@ -79,10 +79,6 @@ def with_list(reader, file=None):
     reader.desk.list(file)
     reader.run("sessionStorage.clear()")
     reader.reload()
-
-
-def put_away(reader):
-    reader.one(".buttons button", lambda button: button.text == "Put the table away").click()
 
 
 def all_tables(reader, folder):

@@ -12,6 +12,7 @@ Build the program first: ./keyreg </dev/null
 """
 import csv
 import io
+import json
 import os
 import pathlib
 import re
@@ -24,7 +25,8 @@ from datetime import datetime, timedelta
 
 from registers import PROGRAM, expect, keyreg
 
-CHECK = pathlib.Path(__file__).resolve().parent.parent / "examples" / "check_table.py"
+TOP = pathlib.Path(__file__).resolve().parent.parent
+CHECK, CASES = TOP / "examples" / "check_table.py", TOP / "desk" / "tests" / "made.json"
 COLUMNS = "type owner activation protect_stop deactivation purpose".split()
 NUMBER, FORMULA = "taken for a number", "taken for a formula"
 CODE, DATE = "another code", "taken for a date"
@@ -145,7 +147,7 @@ def rows_told(folder):
     """Rows that are keys already, that are refused, and new ones; an import answers as was told."""
     desk = Desk(folder, [KEY, {**KEY, "purpose": "another"}])
     status, lines = checked(desk.table, desk.export)
-    expect(status == 1 and lines[0].startswith("row 1: it is key 1 as it stands") and "2 there already" in lines[-1], f"{lines}")
+    expect(status == 1 and lines[0].startswith("row 1: it is key 1 already") and "2 there already" in lines[-1], f"{lines}")
     put(desk.table, [{**KEY, **change} for change, _ in REFUSED])
     status, lines = checked(desk.table, desk.export)
     expect(status == 1 and f"{len(REFUSED)} of another form, 0 new" in lines[-1], f"{lines}")
@@ -162,6 +164,38 @@ def rows_told(folder):
     desk.imported(desk.table, 52, ["ok"])
     status, lines = checked(desk.table, desk.export, "--copy", desk.file, "--caller", "nobody")
     expect(status == 0 and lines[0] == "the next first number of nobody: --first 1", f"{lines}")
+
+
+def known_again(folder):
+    """Rows that are keys already, whatever dates they leave out: the cases that the desk judges too."""
+    given = json.loads(CASES.read_text(encoding="utf-8"))
+    table, export = os.path.join(folder, "table.csv"), os.path.join(folder, "export.csv")
+    put(export, [given["key"], given["ended"]], ["number", *COLUMNS, "state"])
+    cases = [*given["rows"], *given["endedRows"]]
+    for case in cases:
+        put(table, [dict(zip(COLUMNS, case["row"]))])
+        status, lines = checked(table, export)
+        is_known = "1 there already" in lines[-1]
+        expect(is_known == case["made"], f"{case['case']}: {status}, {lines}")
+    return len(cases)
+
+
+def repeats(folder):
+    """A row that stands twice in a table, also where one has the dates that the period gives the other."""
+    desk = Desk(folder, [KEY])
+    row = {**KEY, "owner": "dora", "activation": START}
+    whole = {**row, "protect_stop": "2027-02-01T00:00:00Z", "deactivation": "2027-02-01T00:00:00Z"}
+    put(desk.table, [row, {**row, "owner": "emil"}, row, whole])
+    status, lines = checked(desk.table, desk.export)
+    expect(status == 1 and "2 repeated, 0 of another form, 2 new" in lines[-1], f"{lines}")
+    for number in (3, 4):
+        expect(any(line.startswith(f"row {number}: it is row 1 again") for line in lines), f"{lines}")
+    # A table that was imported is known, though its rows leave the later dates out.
+    desk.imported(desk.table, 200, ["ok"] * 4)
+    export = "".join(line + "\n" for line in keyreg(["export", "--file", desk.file]))
+    pathlib.Path(desk.export).write_text(export, encoding="utf-8")
+    status, lines = checked(desk.table, desk.export)
+    expect(status == 1 and "4 there already" in lines[-1] and " 0 new" in lines[-1], f"{lines}")
 
 
 def no_tables(folder):
@@ -229,10 +263,12 @@ def main():
         recorded(folder)
         office = by_libreoffice(folder)
         rows_told(folder)
+        known = known_again(folder)
+        repeats(folder)
         no_tables(folder)
         taken, most = many(folder), all_changed(folder)
     print(office)
-    print(f"{len(RECORDED)} recorded conversions and {len(REFUSED)} refused rows were told; "
+    print(f"{len(RECORDED)} recorded conversions, {len(REFUSED)} refused rows and {known} rows of keys were told; "
           f"10000 rows took {taken:.1f} seconds, and 10000 changed ones {most:.1f} at most")
 
 

@@ -17,6 +17,7 @@ It needs chromium and poppler-utils of Debian. Build the program first: ./keyreg
 import argparse
 import csv
 import io
+import json
 import os
 import pathlib
 import random
@@ -31,8 +32,10 @@ from datetime import datetime, timezone
 from page_seen import Browser
 from registers import EXPORT_COLUMNS, EXPORT_DATES, expect, export_row, keyreg
 from register_rules import ACTIVE, COMPROMISED, PRE_ACTIVE, STATES, Key
+from timeline import NEVER, spans_of
 
-TIMELINE = pathlib.Path(__file__).resolve().parent.parent / "examples" / "timeline.py"
+TOP = pathlib.Path(__file__).resolve().parent.parent
+TIMELINE, SPANS = TOP / "examples" / "timeline.py", TOP / "desk" / "tests" / "spans.json"
 NOW, DAY, DAYS = 1_800_000_000, 86400, 60
 TEXTS = ["<script>alert(1)</script>", '"><img src=x onerror=alert(1)>', "</title></svg><b>bold", "&amp; &lt;",
          "'; //", "a\u202eb", "</script><script src=http://evil.example/x>", "url(http://evil.example)"]
@@ -297,7 +300,15 @@ def seen(browser, texts, small):
     return sheets
 
 
+def same_spans():
+    """The spans of the cases that the desk draws by too."""
+    for case in json.loads(SPANS.read_text(encoding="utf-8")):
+        spans = [[kind, first, None if until == NEVER else until] for kind, first, until in spans_of(case["key"])]
+        expect(spans == case["spans"], f"{case['case']}: {spans}, not {case['spans']}")
+
+
 def main():
+    same_spans()
     words = argparse.ArgumentParser()
     words.add_argument("--screenshots", metavar="FOLDER")
     screenshots = words.parse_args().screenshots

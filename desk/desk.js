@@ -1,29 +1,46 @@
 // The desk: which page is shown, what is sent, and what is said of it.
-import {el, plain, replace, shown} from "./dom.js";
-import {findPage, periodsPage, registerPage, waitsPage} from "./find.js";
+import {el, name, plain, replace} from "./dom.js";
+import {findPage, periodsPage, registerPage, tellNewer, waitsPage} from "./find.js";
 import {keyPage} from "./key.js";
 import {latest, learnKey, learnMoment, learnPeriod, learnRequest, list, load} from "./list.js";
-import {Unanswered, events, giveUp, kept, keyOf, now, resumed, send, sendNow, whoAmI} from "./register.js";
-import {tableAnswer, tablePage} from "./table.js";
+import {
+  AnotherUser, StoreFull, Unanswered, events, giveUp, kept, keyOf, now, resumed, send, sendNow, whoAmI,
+} from "./register.js";
+import {isTaking, tablePage} from "./table.js";
+import {restore, tableAnswer} from "./taken.js";
 import {away, commandText, refusalText, state, utcText} from "./words.js";
 
-const PAGES = [["find", "Find keys"], ["waits", "Waiting for you"], ["register", "Register a key"],
+const PAGES = [
+  ["find", "Find keys"],
+  ["waits", "Waiting for you"],
+  ["register", "Register a key"],
   ["table", "Take in a table"],
-  ["periods", "Periods"]];
+  ["periods", "Periods"],
+];
 const RELOAD = 60000;
 const place = (id) => document.getElementById(id);
 
 // What the pages have of the desk.
-const desk = {me: null, send: sendAndSay, sendQuietly};
-let isBusy = false, turn = 0;
+const desk = {me: null, send: sendAndSay, sendRow, sayStoreFull};
+let isBusy = false, isOther = false, turn = 0;
 
 // ---- what is said
 
-function say(...told) {
-  const close = el("button",
-    {type: "button", class: "close", "aria-label": "Close this answer", onclick: () => replace(place("said"))}, "×");
-  replace(place("said"), el("div", {class: "answer", tabindex: "-1"}, told, close));
+function say(...words) {
+  const close = () => {
+    replace(place("said"));
+    place("main").focus();
+  };
+  replace(place("said"), el("div", {class: "answer", tabindex: "-1"}, words,
+    el("button", {type: "button", class: "close", "aria-label": "Close this answer", onclick: close}, "×")));
   place("said").firstChild.focus({preventScroll: false});
+}
+
+const sayRefused = (word, ...words) => say(el("p", {class: "refused"}, el("strong", {}, `${word}. `), ...words));
+
+function sayStoreFull() {
+  sayRefused("Not sent", "The browser's store for this window is full, and no number can be kept in it. Put the table "
+    + "away that was taken in here, or go on in another window.");
 }
 
 function sayAnswer(answer, command) {
@@ -40,6 +57,33 @@ function sayAnswer(answer, command) {
     el("p", {}, is, `as of ${utcText(answer.moment)}. Its request number was ${answer.number}.`));
 }
 
+// ---- who sends
+
+// This browser sends as another user than the page shows. Nothing is sent any more, and what waits stays.
+function sayOther() {
+  isOther = true;
+  document.body.classList.add("other");
+  replace(place("other"), el("div", {class: "note"},
+    el("p", {}, el("strong", {}, "Nothing is sent any more. "), "This browser sends as another user by now, and not as ",
+      name(desk.me), ", whom this page shows: somebody gave another password in it."),
+    el("p", {}, "What waits for an answer is kept for ", name(desk.me), ", and acts once."),
+    el("button", {type: "button", onclick: () => location.reload()}, "Load the page anew")));
+  putKept();
+}
+
+// Whether the browser still sends as the reader. Where nobody says, the page goes on with what it knows.
+async function isReader() {
+  if (isOther) return false;
+  try {
+    await whoAmI();
+    return true;
+  } catch (fault) {
+    if (fault instanceof Unanswered) return true;
+    if (fault instanceof AnotherUser) return false;
+    throw fault;
+  }
+}
+
 // ---- what is sent
 
 const dateText = (value) => (value === null ? "-" : value === "keep" ? "=" : String(value));
@@ -48,8 +92,10 @@ const dateText = (value) => (value === null ? "-" : value === "keep" ? "=" : Str
 function textOf(command) {
   const {kind} = command;
   if (kind === "register") return "register";
-  if (kind === "set") return ["set",
-    ...["activation", "protect_stop", "deactivation"].map((name) => dateText(command[name]))].join(" ");
+  if (kind === "set") {
+    return ["set", ...["activation", "protect_stop", "deactivation"].map((member) => dateText(command[member]))]
+      .join(" ");
+  }
   if (kind === "revoke") return `revoke ${command.reason} ${dateText(command.occurrence)}`;
   return [kind, command.owner ?? command.name ?? command.need].filter((part) => part !== undefined).join(" ");
 }
@@ -65,46 +111,54 @@ async function learn(answer, command) {
   const number = answer.key || command.key;
   if (!number) return;
   try {
-    const told = await keyOf(number);
-    if (told) learnKey(told);
+    const heard = await keyOf(number);
+    if (heard) learnKey(heard);
   } catch (fault) {
-    if (!(fault instanceof Unanswered)) throw fault;
+    if (!(fault instanceof Unanswered || fault instanceof AnotherUser)) throw fault;
   }
 }
 
+// Shows what an answer changed. Where it is a refusal, what was typed stays.
 async function settle(answer, command) {
   await learn(answer, command);
   // Without an event, which would take the focus from the answer.
   if (answer.accepted && command.kind === "register") history.pushState(null, "", `#key/${answer.key}`);
-  await show();
+  if (answer.accepted || command.key) await show({isNew: answer.accepted});
   sayAnswer(answer, command);
 }
 
+// Sends what no form sends by itself, and says why where it is not sent.
 async function sendAndSay(command) {
-  if (isBusy || kept().length) {
-    say(el("p", {class: "refused"}, el("strong", {}, "Not sent. "),
-      "A request waits for its answer. Nothing else is sent until it came."));
+  if (isOther || isBusy || kept().length) {
+    sayRefused("Not sent", isOther ? "This browser sends as another user by now: load the page anew."
+      : "A request waits for its answer. Nothing else is sent until it came.");
     return;
   }
   isBusy = true;
   document.body.classList.add("busy");
   try {
-    const answer = await send(command, desk.me);
+    const answer = await send(command);
     if (answer) await settle(answer, command);
+  } catch (fault) {
+    if (fault instanceof StoreFull) sayStoreFull();
+    else if (!(fault instanceof AnotherUser)) throw fault;
   } finally {
     isBusy = false;
-    document.body.classList.remove("busy");
+    document.body.classList.toggle("busy", kept().length > 0);
   }
 }
 
-// One row of a table: what is said of it stands in the table.
-async function sendQuietly(command, number) {
-  if (isBusy) return null;
+// One row of a table under its number: its answer, or null where none comes. What is said of it stands in the table.
+async function sendRow(command, number) {
+  if (isBusy || isOther) return null;
   isBusy = true;
   try {
-    const answer = await send(command, desk.me, number);
-    if (answer) await learn(answer, command);
+    const answer = await send(command, number);
+    if (answer?.accepted) learnMoment(answer.moment);
     return answer;
+  } catch (fault) {
+    if (fault instanceof AnotherUser) return null;
+    throw fault;
   } finally {
     isBusy = false;
   }
@@ -113,20 +167,21 @@ async function sendQuietly(command, number) {
 // ---- what waits for an answer
 
 function keptLine({number, body, caller, cause, times}) {
-  const command = JSON.parse(body), isMine = caller === desk.me;
-  const told = !isMine ? [`It is of the user `, shown(caller), " and is sent when that user reads this page."]
+  const command = JSON.parse(body), isMine = caller === desk.me && !isOther;
+  const words = !isMine ? ["It is of the user ", name(caller), " and is sent when that user reads this page."]
     : cause ? `${cause[0].toUpperCase()}${cause.slice(1)} (${times} ${times === 1 ? "time" : "times"}). `
       + `It is sent again under its number ${number}, and acts once.`
       : `It is sent under the number ${number}.`;
+  const give = () => {
+    giveUp(number);
+    sayRefused("Given up", `Whether it acted is not known: ${commandText(command)}. Look at the key before you send it `
+      + "anew.");
+  };
   return el("div", {class: "waiting", id: `waiting-${number}`},
     el("p", {}, el("strong", {}, "Not answered yet: "), commandText(command)),
-    el("p", {class: "told"}, told),
+    el("p", {class: "told"}, words),
     cause && isMine ? el("button", {type: "button", onclick: sendNow}, "Send it again now") : null,
-    cause || !isMine ? el("button", {type: "button", onclick: () => {
-      giveUp(number);
-      say(el("p", {class: "refused"}, el("strong", {}, "Given up. "),
-        `Whether it acted is not known: ${commandText(command)}. Look at the key before you send it anew.`));
-    }}, "Give it up") : null);
+    cause || !isMine ? el("button", {type: "button", onclick: give}, "Give it up") : null);
 }
 
 // A line that is there already gets its new words alone: its buttons stay, and with them the focus of who is at one.
@@ -160,30 +215,39 @@ function pageOf() {
   return {word: word || "find", number: Number(number), given: new URLSearchParams(given ?? "")};
 }
 
-async function show() {
+// Shows the page of the address. With `isNew` its forms are new; else what was typed into them stays.
+async function show({isNew = true} = {}) {
   const mine = ++turn, {word, number, given} = pageOf(), main = place("main");
   delete main.dataset.page;
-  replace(place("pages"),
-    PAGES.map(([page, name]) =>
-      el("li", {}, el("a", {href: `#${page}`, "aria-current": page === word ? "page" : null}, name))));
-  if (word === "key" && number >= 1 && number <= 4294967295) await keyPage(main, number, desk, () => mine === turn);
+  replace(place("pages"), PAGES.map(([page, title]) =>
+    el("li", {}, el("a", {href: `#${page}`, "aria-current": page === word ? "page" : null}, title))));
+  const isCurrent = () => mine === turn;
+  if (!await isReader()) return;
+  if (!isCurrent()) return;
+  if (word === "key" && number >= 1 && number <= 4294967295) await keyPage(main, number, desk, {isCurrent, isNew});
   else if (word === "waits") waitsPage(main, desk);
   else if (word === "register") registerPage(main, desk);
   else if (word === "table") tablePage(main, desk);
   else if (word === "periods") periodsPage(main, desk);
   else findPage(main, given);
-  if (mine !== turn) return;
+  if (!isCurrent()) return;
   main.dataset.page = word === "key" ? `key/${number}` : word;
   document.title = `${main.querySelector("h1").textContent} - keys`;
   tellTimes();
 }
 
+const OLD = 15 * 60;
+
+// The moments of what stands here. A list that is not made any more is seen.
 function tellTimes() {
-  const at = now();
-  const old = list.isThere
+  const at = now(), isOld = list.isThere && at - list.made > OLD;
+  const source = list.isThere
     ? `The list is of ${utcText(list.made)} (${away(list.made, at)}); what this page learnt since stands over it.`
     : "There is no list: keys are asked for by their numbers.";
-  replace(place("as-of"), old, latest() ? ` The register was at ${utcText(latest())} when this page last heard.` : "");
+  replace(place("as-of"), source,
+    latest() ? ` The register was at ${utcText(latest())} when this page last heard.` : "");
+  replace(place("old"), isOld ? el("p", {class: "note"}, `The list is old: it was made ${away(list.made, at)}. What `
+    + "others did since is seen on a key's own page alone. Tell whoever runs the register.") : null);
 }
 
 // Without a list the desk goes on with what it knows.
@@ -195,12 +259,16 @@ async function loadList() {
   }
 }
 
-// A newer list is taken in, and shown where nothing is being written in a form.
+// A newer list is taken in, and shown where nothing is being written and no row moves under a hand.
 async function renew() {
-  if (document.hidden) return;
-  const isNewer = await loadList(), {word} = pageOf();
-  if (isNewer
-    && (word === "waits" || (word === "find" && !place("main").contains(document.activeElement)))) await show();
+  if (document.hidden || !await isReader()) return;
+  const isNewer = await loadList(), {word} = pageOf(), main = place("main");
+  if (isNewer && word === "waits") {
+    tellNewer(main, async () => {
+      await show();
+      main.focus();
+    });
+  } else if (isNewer && word === "find" && !main.contains(document.activeElement)) await show();
   tellTimes();
 }
 
@@ -220,31 +288,48 @@ async function named() {
 }
 
 async function resume() {
-  for await (const {answer, command} of resumed(desk.me)) {
+  for await (const {answer, command} of resumed()) {
     if (tableAnswer(answer, command)) {
-      await learn(answer, command);
+      if (answer.accepted) learnMoment(answer.moment);
       if (pageOf().word === "table") await show();
     } else await settle(answer, command);
   }
 }
 
-async function begin() {
-  desk.me = await named();
-  replace(place("who"), "You: ", el("strong", {}, plain(desk.me)));
+function showReader() {
+  replace(place("who"), "You: ", el("strong", {}, plain(desk.me)), " ",
+    el("a", {href: `/sign-out?user=${desk.me}`, class: "onscreen"}, "Sign out"));
+}
+
+function listen() {
   events.addEventListener("kept", showKept);
-  showKept();
-  await loadList();
-  await show();
-  performance.mark("shown");
+  events.addEventListener("other", sayOther);
   addEventListener("hashchange", async () => {
     replace(place("said"));
     await show();
     place("main").focus();
   });
-  setInterval(renew, RELOAD);
   addEventListener("visibilitychange", renew);
-  await resume();
+  addEventListener("beforeunload", (event) => {
+    if (isTaking() || kept().some(({caller}) => caller === desk.me)) event.preventDefault();
+  });
+  setInterval(renew, RELOAD);
+}
+
+async function begin() {
+  desk.me = await named();
+  showReader();
+  listen();
+  showKept();
+  await loadList();
+  await restore(desk.me);
+  await show();
+  performance.mark("shown");
+  try {
+    await resume();
+  } catch (fault) {
+    if (!(fault instanceof AnotherUser)) throw fault;
+  }
 }
 
 begin();
-

@@ -1,9 +1,9 @@
 // Keys that are found, what waits for the reader, and the periods of the types.
-import {cards, el, field, plain, replace, select, shown} from "./dom.js";
+import {byParts, cards, el, field, freshId, name, plain, replace, select, shown} from "./dom.js";
 import {commandForm} from "./forms.js";
-import {found, keyAt, known, list, owners, periods, waiting} from "./list.js";
+import {allNames, keyAt, known, list, matching, periods, waiting} from "./list.js";
 import {now} from "./register.js";
-import {OFFICE, PERIODS, STATES} from "./rules.js";
+import {OFFICE, PERIODS, STATES, isOverdue} from "./rules.js";
 import {away, counted, state, utcText} from "./words.js";
 
 const SHOWN = 50;
@@ -12,47 +12,54 @@ const SHOWN = 50;
 
 const HEADS = ["Key", "State", "Owner", "Type", "Protect Stop", "Approvals", "Purpose"];
 
-function row(key, at, act) {
-  const stop = key.protect_stop === null ? "" : [utcText(key.protect_stop), " ",
-    el("span", {class: "away"}, `(${away(key.protect_stop, at)})`)];
+function row(number, at) {
+  const key = keyAt(number, at);
+  const stop = key.protect_stop === null ? "" : el("span", {class: "moment"}, el("time", {}, utcText(key.protect_stop)), " ",
+    el("span", {class: "away"}, `(${away(key.protect_stop, at)})`));
   const approvals = key.custodians.length ? `${key.approvals.length} of ${key.need}` : "";
-  const cells = [el("a", {href: `#key/${key.number}`}, String(key.number)), state(key.state), shown(key.owner),
-    key.type,
-    stop, approvals, shown(key.purpose)];
-  return act ? [...cells, act(key)] : cells;
+  return [el("a", {href: `#key/${number}`}, String(number)), state(key.state, isOverdue(key, at)), name(key.owner),
+    key.type, stop, approvals, shown(key.purpose)];
 }
 
-export function keyTable(keys, at, caption, act) {
-  return cards(act ? [...HEADS, "Act"] : HEADS, keys.map((key) => row(key, at, act)), {}, caption);
-}
+const keyTable = (numbers, at, caption) =>
+  el("div", {class: "wide"}, cards(HEADS, numbers.map((number) => row(number, at)), {}, caption));
 
 // ---- finding
 
 function filterFields() {
-  const owner = el("input", {type: "text", list: "owners", autocomplete: "off", spellcheck: "false"});
   return {
     text: el("input", {type: "search", autocomplete: "off", spellcheck: "false"}),
-    owner, type: select([["", "any"], ...Object.keys(PERIODS).map((type) => [type, type])]),
+    owner: el("input", {type: "text", list: "owners", autocomplete: "off", spellcheck: "false"}),
+    type: select([["", "any"], ...Object.keys(PERIODS).map((type) => [type, type])]),
     state: select([["", "any"], ...STATES.map((word) => [word, word])]),
     days: el("input", {type: "number", min: 0, max: 36500, step: 1, inputmode: "numeric"}),
-    waits: el("input", {type: "checkbox"}),
+    waits: el("input", {type: "checkbox", id: freshId("field")}),
   };
 }
 
+const DAYS = /^\d{1,5}$/;
+const isDays = (text) => DAYS.test(text) && Number(text) <= 36500;
+
 // The filter of a page's address, as `#find?state=Active`.
 function filterOf(given) {
-  const days = given.get("days");
-  return {text: given.get("text") ?? "", owner: given.get("owner") ?? "", type: given.get("type") ?? "",
-    state: given.get("state") ?? "", days: /^\d{1,5}$/.test(days ?? "") ? Number(days) : null,
-      waits: given.get("waits") === "1"};
+  const value = (member) => given.get(member) ?? "", days = value("days");
+  return {
+    text: value("text"),
+    owner: value("owner"),
+    type: value("type"),
+    state: value("state"),
+    days: isDays(days) ? Number(days) : null,
+    waits: value("waits") === "1",
+  };
 }
 
 function written(fields) {
-  const told = new URLSearchParams();
-  for (const name of ["text", "owner", "type", "state", "days"]) if (fields[name].value) told.set(name,
-    fields[name].value);
-  if (fields.waits.checked) told.set("waits", "1");
-  return told;
+  const given = new URLSearchParams();
+  for (const member of ["text", "owner", "type", "state", "days"]) {
+    if (fields[member].value) given.set(member, fields[member].value);
+  }
+  if (fields.waits.checked) given.set("waits", "1");
+  return given;
 }
 
 function lacking() {
@@ -63,70 +70,76 @@ function lacking() {
   return "";
 }
 
+const lackingNote = () => (lacking() ? el("p", {class: "note"}, lacking()) : null);
+
+// A number of days that is none is said, and filters nothing.
+function lookAtDays(input, hint) {
+  const isWrong = input.validity.badInput || (input.value !== "" && !isDays(input.value));
+  hint.textContent = isWrong ? "0 to 36500 days: it is left out" : "";
+  if (isWrong) input.setAttribute("aria-invalid", "true");
+  else input.removeAttribute("aria-invalid");
+}
+
 export function findPage(place, given) {
-  const fields = filterFields(), results = el("div", {class: "results"}),
-    count = el("p", {class: "count", role: "status"});
-  let most = SHOWN;
+  const fields = filterFields(), results = el("div", {class: "results"});
+  const count = el("p", {class: "count", role: "status"}), hint = el("span", {class: "hint", role: "alert"});
   const look = () => {
-    const at = now(), told = written(fields), numbers = found(filterOf(told), at);
-    history.replaceState(null, "", `#find${told.size ? `?${told}` : ""}`);
-    const more = numbers.length - most;
-    replace(count, `${numbers.length} of ${known()} keys`);
-    replace(results, numbers.length
-      ? keyTable(numbers.slice(0, most).map((number) => keyAt(number, at)), at, "Keys found") : null,
-      more > 0 ? el("button", {type: "button", onclick: () => {
-        most += SHOWN;
-        look();
-      }}, `Show ${Math.min(more, SHOWN)} more`) : null);
+    const at = now(), filter = written(fields), numbers = matching(filterOf(filter), at);
+    lookAtDays(fields.days, hint);
+    history.replaceState(null, "", `#find${filter.size ? `?${filter}` : ""}`);
+    replace(count, `${numbers.length} of ${counted(known(), "key")}`);
+    byParts(numbers, SHOWN, (some) => (some.length ? keyTable(some, at, "Keys found") : null), results);
   };
-  for (const [name, input] of Object.entries(fields)) {
-    if (name === "waits") input.checked = given.get("waits") === "1";
-    else input.value = given.get(name) ?? "";
+  for (const [member, input] of Object.entries(fields)) {
+    if (member === "waits") input.checked = given.get("waits") === "1";
+    else input.value = given.get(member) ?? "";
   }
   const go = (event) => {
     event.preventDefault();
     const number = fields.text.value.trim();
     if (/^[1-9]\d{0,9}$/.test(number)) location.hash = `#key/${number}`;
   };
-  const input = () => {
-    most = SHOWN;
-    look();
-  };
-  replace(place, el("h1", {}, "Find keys"), lacking() ? el("p", {class: "note"}, lacking()) : null,
-    el("form", {class: "find", role: "search", oninput: input, onchange: input, onsubmit: go},
+  const names = [...allNames()].sort().slice(0, 2000);
+  replace(place, el("h1", {}, "Find keys"), lackingNote(),
+    el("form", {class: "find", role: "search", oninput: look, onchange: look, onsubmit: go},
       field("Number, owner, type or purpose", fields.text,
         el("button", {type: "submit"}, "Show the key of this number")),
-      field("Owner", fields.owner,
-        el("datalist", {id: "owners"}, owners().slice(0, 500).map((name) => el("option", {value: name})))),
-      field("Type", fields.type), field("State now", fields.state), field("Due within days", fields.days),
-      el("div", {class: "field check"}, fields.waits, label(fields.waits, "Waits for approvals"))), count, results);
+      field("Owner, or a part of the name", fields.owner,
+        el("datalist", {id: "owners"}, names.map((value) => el("option", {value})))),
+      field("Type", fields.type), field("State now", fields.state), field("Due within days", fields.days, hint),
+      el("div", {class: "field check"}, fields.waits,
+        el("label", {for: fields.waits.id}, "Waits for approvals"))),
+    count, results);
   look();
-}
-
-function label(input, text) {
-  input.id = "waits";
-  return el("label", {for: input.id}, text);
 }
 
 // ---- what waits
 
+const WAITS = [
+  ["begun", "A destruction was begun", "An approval stands, and yours lacks. Open a key to approve its destruction."],
+  ["destroyable", "Yours to destroy", "Keys of yours that have the approvals they need. Open one to destroy it."],
+  ["guarded", "You are a custodian", "Nobody approved a destruction yet."],
+];
+
+// The keys stay in their order until the page is opened anew: none moves under the hand of who is about to open one.
 export function waitsPage(place, desk) {
-  const at = now(), {approves, destroys} = waiting(desk.me, at);
-  const withState = (keys) => keys.map((key) => keyAt(key.number, at));
-  const act = (kind, word) => (key) =>
-    el("button", {type: "button", class: "send", "aria-label": `${word} the destruction of key ${key.number}`,
-    onclick: () => desk.send({kind, key: key.number})}, word);
-  replace(place, el("h1", {}, "What waits for you"), lacking() ? el("p", {class: "note"}, lacking()) : null,
-    el("h2", {}, "For your approval"),
-    el("p", {class: "hint"},
-      "Keys whose destruction you may approve as a custodian, and have not. Those with most approvals come first."),
-    approves.length
-      ? keyTable(withState(approves.slice(0, 200)), at, counted(approves.length, "key"), act("approve", "Approve"))
-        : el("p", {}, "None."),
-    el("h2", {}, "Yours to destroy"),
-    el("p", {class: "hint"}, "Keys of yours that have the approvals they need. Open one to destroy it."),
-    destroys.length ? keyTable(withState(destroys.slice(0, 200)), at, counted(destroys.length, "key"))
-      : el("p", {}, "None."));
+  const at = now(), keys = waiting(desk.me, at);
+  const parts = WAITS.map(([sort, head, hint]) => {
+    const results = el("div", {class: "results"}), numbers = keys[sort];
+    byParts(numbers, SHOWN, (some) =>
+      (some.length ? keyTable(some, at, counted(numbers.length, "key")) : el("p", {}, "None.")), results);
+    return el("section", {class: sort}, el("h2", {}, head), el("p", {class: "hint"}, hint), results);
+  });
+  replace(place, el("h1", {}, "What waits for you"), lackingNote(), el("div", {id: "newer", role: "status"}), parts);
+}
+
+// Says on the page of what waits that a newer list is there.
+export function tellNewer(place, show) {
+  const newer = place.querySelector("#newer");
+  if (newer) {
+    replace(newer, el("p", {class: "note"}, "A newer list is there. ",
+      el("button", {type: "button", onclick: show}, "Show it")));
+  }
 }
 
 // ---- periods, and a registration
@@ -138,8 +151,9 @@ export function periodsPage(place, desk) {
     return [el("strong", {}, type), String(originator), String(recipient),
       set[type] ? `set by ${OFFICE}` : "as the register began"];
   });
-  replace(place, el("h1", {}, "Periods of the types"), list.isThere ? null : el("p", {class: "note"},
-    "The list is not there, which has the periods that are set: these may be others."),
+  const note = "The list is not there, which has the periods that are set: these may be others.";
+  replace(place, el("h1", {}, "Periods of the types"),
+    list.isThere ? null : el("p", {class: "note"}, note),
     cards(["Type", "Months of protecting", "Months of processing after", "Whose"], rows,
       {"aria-label": "Periods of the types"}),
     desk.me === OFFICE ? [el("h2", {}, "Set the periods of a type"), commandForm("set-period", {desk})]
@@ -149,5 +163,5 @@ export function periodsPage(place, desk) {
 export function registerPage(place, desk) {
   replace(place, el("h1", {}, "Register a key"),
     el("p", {}, "A date that you leave out follows from the period of the type, once there is an Activation."),
-      commandForm("register", {desk}));
+    commandForm("register", {desk}));
 }

@@ -1,20 +1,22 @@
 // Forms for commands. Each shows the JSON that it sends and what the page knows of its answer before it is sent.
 import {el, field, freshId, plain, replace, select, shown} from "./dom.js";
-import {latest, list, periods} from "./list.js";
+import {allNames, judgement, list} from "./list.js";
 import {now} from "./register.js";
-import {COMPROMISES, PERIODS, RANGES, REASONS, judged, wrongMembers} from "./rules.js";
-import {TELLS, TITLES, localText, momentOf, momentText, refusalText, utcText} from "./words.js";
+import {COMPROMISES, PERIODS, RANGES, REASONS, SETTABLE, wrongMembers} from "./rules.js";
+import {TELLS, TITLES, localText, momentOf, momentText, refusalText, textFault, utcText} from "./words.js";
 
-const WRONG = {
-  owner: "A name has 1 to 64 letters of ASCII, digits, and - _ . @",
-    name: "A name has 1 to 64 letters of ASCII, digits, and - _ . @",
+const NAME = "A name has 1 to 64 letters of ASCII, digits, and - _ . @";
+const NO_DATE = "The date is not whole: the time is lacking, or a part of the day";
+const HINTS = {
+  owner: NAME,
+  name: NAME,
   purpose: "A purpose has 1 to 200 bytes, no control characters, and no space at its ends",
-  activation: "This is no date and time", protect_stop: "This is no date and time",
-  deactivation: "This is no date and time", occurrence: "This is no date and time", type: "Choose a type",
-  reason: "Choose a reason", need: "2 to 5", originator: "1 to 1200 months", recipient: "0 to 1200 months",
+  originator: "1 to 1200 months",
+  recipient: "0 to 1200 months",
 };
 
-// ---- fields. Each has its element, the member that it gives and its value, undefined where it is none.
+// ---- fields. Each has its element, the member that it gives, its value, undefined where it is none, and what is wrong
+// with that where something was given.
 
 function withHint(label, input, hint, ...more) {
   hint.id = freshId("hint");
@@ -22,89 +24,116 @@ function withHint(label, input, hint, ...more) {
   return field(label, input, ...more, hint);
 }
 
-function dateInput(given) {
-  return el("input", {type: "datetime-local", step: "1", min: "1970-01-01T00:00:00", max: "9999-12-31T23:59:59",
-    value: given === null || given === undefined ? "" : momentText(given).replace("Z", "")});
-}
+const inputText = (moment) => (moment === null || moment === undefined ? "" : momentText(moment).replace("Z", ""));
 
+// A day whose time is not typed yet has no value, and is none all the same.
 const dateOf = (input) =>
-  (input.value === "" ? (input.validity.badInput ? undefined : null) : momentOf(input.value) ?? undefined);
+  (input.validity.badInput ? undefined : input.value === "" ? null : momentOf(input.value) ?? undefined);
 
 // A date by a calendar, in UTC, with the reader's own time beside it.
-export function date(member, label, given = null) {
-  const input = dateInput(given), hint = el("span", {class: "hint"});
+function date(member, label, given = null) {
+  const input = el("input", {type: "datetime-local", step: "1", min: "1970-01-01T00:00:00", max: "9999-12-31T23:59:59",
+    name: member, value: inputText(given)});
+  const hint = el("span", {class: "hint"});
   const set = (value) => {
+    // An input that is half typed keeps what was typed where its value stays empty.
+    input.value = inputText(0);
     input.value = value;
     input.dispatchEvent(new Event("input", {bubbles: true}));
   };
-  const tell = () => {
+  const look = () => {
     const value = dateOf(input);
-    hint.textContent = value === null ? "none" : value === undefined ? WRONG[member]
+    hint.textContent = value === null ? "none" : value === undefined ? NO_DATE
       : `${utcText(value)}, in your time ${localText(value)}`;
   };
-  input.addEventListener("input", tell);
-  tell();
+  // Not each letter of a date that is typed changes its value.
+  for (const event of ["input", "keyup", "focusout"]) input.addEventListener(event, look);
+  look();
   const about = label.toLowerCase();
   const buttons = el("span", {class: "beside"},
-    el("button",
-      {type: "button", "aria-label": `Now, for ${about}`, onclick: () => set(momentText(now()).replace("Z", ""))},
-        "Now"),
+    el("button", {type: "button", "aria-label": `Now, for ${about}`, onclick: () => set(inputText(now()))}, "Now"),
     el("button", {type: "button", "aria-label": `No date, for ${about}`, onclick: () => set("")}, "None"));
-  return {member, input, element: withHint(`${label} (UTC)`, input, hint, buttons), value: () => dateOf(input)};
+  const fault = () => (dateOf(input) === undefined ? NO_DATE : "");
+  return {member, input, fault, element: withHint(`${label} (UTC)`, input, hint, buttons), value: () => dateOf(input)};
 }
 
 // An edit of a date: kept, cleared or set.
-export function edit(member, label, given) {
+function edit(member, label, given) {
   const how = select([["keep", "keep it"], ["set", "set it"], ["clear", "clear it"]],
-    {"aria-label": `${label}: what to do`});
-  const one = date(member, label, given);
-  const look = () => one.element.classList.toggle("kept", how.value !== "set");
+    {name: `${member}-edit`, "aria-label": `${label}: what to do`});
+  const entry = date(member, label, given);
+  const look = () => entry.element.classList.toggle("kept", how.value !== "set");
   for (const event of ["input", "change"]) how.addEventListener(event, look);
-  one.input.addEventListener("input", (event) => {
-    if (event.isTrusted || one.input.value !== "") how.value = "set";
-    look();
-  });
+  for (const event of ["input", "keyup"]) {
+    entry.input.addEventListener(event, ({isTrusted}) => {
+      const isTyped = event === "keyup" ? entry.input.validity.badInput : isTrusted || entry.input.value !== "";
+      if (isTyped) how.value = "set";
+      look();
+    });
+  }
   look();
-  const value = () => (how.value === "keep" ? "keep" : how.value === "clear" ? null : one.value() ?? undefined);
-  return {member, input: one.input, element: el("div", {class: "edit"}, how, one.element), value};
+  const value = () => (how.value === "keep" ? "keep" : how.value === "clear" ? null : entry.value() ?? undefined);
+  const fault = () => (how.value === "set" ? entry.fault() : "");
+  return {member, input: entry.input, fault, element: el("div", {class: "edit"}, how, entry.element), value};
 }
 
-export function text(member, label, given = {}) {
-  const input = el("input", {type: "text", autocomplete: "off", spellcheck: "false", ...given});
-  const hint = el("span", {class: "hint"}, WRONG[member]);
-  return {member, input, element: withHint(label, input, hint), value: () => input.value};
+function text(member, label, given = {}) {
+  const input = el("input", {type: "text", name: member, autocomplete: "off", spellcheck: "false", ...given});
+  const hint = el("span", {class: "hint"}, HINTS[member]);
+  const fault = () => (input.value === "" ? "" : textFault(member, input.value));
+  return {member, input, fault, element: withHint(label, input, hint), value: () => input.value};
 }
 
-export function choice(member, label, options, take = (value) => value) {
-  const input = select(options);
-  return {member, input, element: field(label, input), value: () => take(input.value)};
+// A name that somebody has, or a new one, which is told and has to be confirmed: what is given to a name that nobody
+// has is not to be had back.
+function person(member, label, me) {
+  const names = allNames().add(me), id = freshId("names");
+  const entry = text(member, label, {list: id});
+  const options = el("datalist", {id}, [...names].sort().slice(0, 2000).map((value) => el("option", {value})));
+  const isNew = () => list.isThere && entry.input.value !== "" && !entry.fault() && !names.has(entry.input.value);
+  const sure = el("input", {type: "checkbox", required: true, id: freshId("sure")});
+  const said = el("label", {for: sure.id}), place = el("div");
+  const look = () => {
+    said.textContent = `No key, custodian or request has the name ${entry.input.value}. It is the one I mean`;
+    sure.checked = false;
+    replace(place, isNew() ? el("div", {class: "sure"}, sure, said) : null);
+  };
+  entry.input.addEventListener("input", look);
+  entry.element.append(options, place);
+  return {...entry, isOpen: () => isNew() && !sure.checked, sure};
 }
 
-export function months(member, label, given) {
-  const [least, most] = RANGES[member];
-  const input = el("input", {type: "number", min: least, max: most, step: 1, value: given, inputmode: "numeric"});
-  return {member, input, element: withHint(label, input, el("span", {class: "hint"}, WRONG[member])),
-    value: () => (/^\d{1,4}$/.test(input.value) ? Number(input.value) : undefined)};
+function choice(member, label, options, take = (value) => value) {
+  const input = select(options, {name: member});
+  return {member, input, fault: () => "", element: field(label, input), value: () => take(input.value)};
+}
+
+function months(member, label, given) {
+  const [min, max] = RANGES[member];
+  const input = el("input", {type: "number", name: member, min, max, step: 1, value: given, inputmode: "numeric"});
+  const value = () => (/^\d{1,4}$/.test(input.value) ? Number(input.value) : undefined);
+  const fault = () => (value() === undefined || value() < min || value() > max ? HINTS[member] : "");
+  return {member, input, fault, element: withHint(label, input, el("span", {class: "hint"}, HINTS[member])), value};
 }
 
 const types = () => choice("type", "Type", Object.keys(PERIODS).map((type) => [type, type]));
 
 function reasons(isOwners) {
-  const told = Object.entries(REASONS).filter(([number]) => isOwners || COMPROMISES.includes(Number(number)));
-  return choice("reason", "Reason", told.map(([number, name]) => [number, `${number} ${name}`]), Number);
+  const options = Object.entries(REASONS).filter(([number]) => isOwners || COMPROMISES.includes(Number(number)));
+  return choice("reason", "Reason", options.map(([number, name]) => [number, `${number} ${name}`]), Number);
 }
 
+const LABELS = {activation: "Activation", protect_stop: "Protect Stop", deactivation: "Deactivation"};
+
 // The fields of a command about a key, or about none. `isOwners` is whether the owner's reasons may be taken.
-export function fieldsOf(kind, key, isOwners) {
+function fieldsOf(kind, {key, isOwners, desk}) {
   const fields = {
-    "register": () => [types(), text("owner", "Owner"), text("purpose", "Purpose", {maxlength: 200}),
-      date("activation", "Activation"), date("protect_stop", "Protect Stop"), date("deactivation", "Deactivation")],
-    "set": () =>
-      [edit("activation", "Activation", key.activation), edit("protect_stop", "Protect Stop", key.protect_stop),
-      edit("deactivation", "Deactivation", key.deactivation)],
+    "register": () => [types(), person("owner", "Owner", desk.me), text("purpose", "Purpose"),
+      ...SETTABLE.map((name) => date(name, LABELS[name]))],
+    "set": () => SETTABLE.map((name) => edit(name, LABELS[name], key[name])),
     "revoke": () => [reasons(isOwners), date("occurrence", "Compromised since")],
-    "assign": () => [text("owner", "New owner")],
-    "add-custodian": () => [text("name", "Custodian")],
+    "assign": () => [person("owner", "New owner", desk.me)],
+    "add-custodian": () => [person("name", "Custodian", desk.me)],
     "remove-custodian": () => [choice("name", "Custodian", key.custodians.map((name) => [name, plain(name)]))],
     "set-quorum": () => [choice("need", "Approvals needed", [2, 3, 4, 5].map((need) => [need, String(need)]), Number)],
     "set-period": () => [types(), months("originator", "Months of protecting (originator use)", 24),
@@ -115,61 +144,60 @@ export function fieldsOf(kind, key, isOwners) {
 
 // ---- what is told before it is sent
 
-const DATES = [["activation", "Activation"], ["protect_stop", "Protect Stop"], ["deactivation", "Deactivation"]];
-
 function becomes(command, before, after) {
-  const told = [];
-  for (const [member, name] of DATES) {
+  const changes = [];
+  for (const [member, label] of Object.entries(LABELS)) {
     if (after[member] === (before?.[member] ?? null)) continue;
     const given = command[member];
     const isOwn = given === after[member] || command.kind === "revoke"
       || (command.kind === "activate" && member === "activation");
-    const date = after[member] === null ? "none" : `${utcText(after[member])}, ${localText(after[member])}`;
-    told.push(`${name}: ${date}${isOwn ? "" : " (by the period of the type)"}`);
+    const text = after[member] === null ? "none" : `${utcText(after[member])}, ${localText(after[member])}`;
+    changes.push(`${label}: ${text}${isOwn ? "" : " (by the period of the type)"}`);
   }
-  if (after.state !== before?.state) told.push(`State: ${after.state}`);
+  if (after.state !== before?.state) changes.push(`State: ${after.state}`);
   const have = after.approvals.length;
-  if (before && have !== before.approvals.length) told.push(`Approvals: ${have} of ${after.need}`);
-  return told;
+  if (before && have !== before.approvals.length) changes.push(`Approvals: ${have} of ${after.need}`);
+  return changes;
 }
 
-export function judgement(command, {caller, key}) {
-  return judged(command, {caller, moment: now(), latest: latest(), key, periods: periods(), count: list.count});
-}
-
-function foretold(command, told, key) {
-  if (told === undefined) return [el("p", {}, "What the register will say the page cannot know.")];
-  if (told.refused) return [el("p", {class: "refused"}, el("strong", {}, "Would be refused: "),
-    refusalText(told, command))];
-  const changes = told.key ? becomes(command, key, told.key) : [];
+function foretold(command, answer, key) {
+  if (answer === undefined) return [el("p", {}, "What the register will say the page cannot know.")];
+  if (answer.refused) {
+    return [el("p", {class: "refused"}, el("strong", {}, "Would be refused: "), refusalText(answer, command))];
+  }
+  const changes = answer.key ? becomes(command, key, answer.key) : [];
   return [el("p", {class: "accepted"}, el("strong", {}, "Would be accepted"), changes.length ? ", and then:" : "."),
     changes.length ? el("ul", {}, changes.map((change) => el("li", {}, change))) : null];
+}
+
+const labelOf = ({element}) => element.querySelector("label").textContent;
+
+// What keeps a form from being sent: fields in which nothing stands yet, and what is wrong with others.
+function lacking(fields, wrong) {
+  const faulty = fields.filter(({fault}) => fault());
+  const empty = fields.filter(({member, fault}) => wrong.includes(member) && !fault()).map(labelOf);
+  return [...faulty.map((one) => el("p", {class: "refused"}, `${labelOf(one)}: ${one.fault()}`)),
+    empty.length ? el("p", {class: "hint"}, `Still lacking: ${empty.join(", ")}`) : null];
+}
+
+function markWrong(fields, wrong, isTried) {
+  for (const {member, input, fault} of fields) {
+    if (fault() || (wrong.includes(member) && isTried)) input.setAttribute("aria-invalid", "true");
+    else input.removeAttribute("aria-invalid");
+  }
 }
 
 // ---- a form
 
 const LAST = ["destroy", "revoke"];
 
-function lacking(fields, wrong) {
-  const labels = fields.filter(({member}) => wrong.includes(member)).map(({element}) =>
-    element.querySelector("label").textContent);
-  return labels.join(", ");
-}
-
-function markWrong(fields, wrong, isTold) {
-  for (const {member, input} of fields) {
-    if (wrong.includes(member) && isTold) input.setAttribute("aria-invalid", "true");
-    else input.removeAttribute("aria-invalid");
-  }
-}
-
 // A form of a command. `desk` has the user's name as `me`, and `send`, which sends the command and shows its answer.
 export function commandForm(kind, {desk, key, isOwners = true}) {
-  const fields = fieldsOf(kind, key, isOwners);
+  const fields = fieldsOf(kind, {key, isOwners, desk});
   const before = el("div", {class: "foretold"}), sentence = el("code", {class: "sentence"});
   const sure = LAST.includes(kind) ? el("input", {type: "checkbox", required: true, id: freshId("sure")}) : null;
   const button = el("button", {type: "submit", class: "send"}, TITLES[kind]);
-  let isTold = false;
+  let isTried = false;
   const command = () => {
     const members = Object.fromEntries(fields.map(({member, value}) => [member, value()]));
     if (kind === "revoke" && !COMPROMISES.includes(members.reason)) members.occurrence = null;
@@ -177,26 +205,53 @@ export function commandForm(kind, {desk, key, isOwners = true}) {
   };
   const look = () => {
     const body = command(), wrong = wrongMembers(body);
-    markWrong(fields, wrong, isTold);
+    markWrong(fields, wrong, isTried);
     if (kind === "revoke") fields[1].element.hidden = !COMPROMISES.includes(body.reason);
     replace(sentence, shown(JSON.stringify(body)));
-    replace(before, wrong.length
-      ? el("p", {class: "hint"}, `Still lacking: ${lacking(fields, wrong)}`)
+    replace(before, wrong.length ? lacking(fields, wrong)
       : foretold(body, judgement(body, {caller: desk.me, key}), key));
   };
   const submit = (event) => {
     event.preventDefault();
-    isTold = true;
+    isTried = true;
     look();
-    const body = command(), wrong = wrongMembers(body);
+    const body = command(), wrong = wrongMembers(body), open = fields.find((entry) => entry.isOpen?.());
     if (wrong.length) fields.find(({member}) => wrong.includes(member))?.input.focus();
+    else if (open) open.sure.focus();
     else desk.send(body);
   };
   const form = el("form", {class: `command ${kind}`, novalidate: !sure, "aria-label": TITLES[kind], onsubmit: submit,
-    oninput: look, onchange: look},
-    TELLS[kind] ? el("p", {}, TELLS[kind]) : null, fields.map(({element}) => element),
-    sure ? el("div", {class: "sure"}, sure, el("label", {for: sure.id}, "I know that nothing takes this back")) : null,
-    before, el("p", {class: "sends"}, "Sends ", sentence), button);
+    oninput: look, onchange: look, onkeyup: look, onfocusout: look},
+  TELLS[kind] ? el("p", {}, TELLS[kind]) : null,
+  fields.map(({element}) => element),
+  sure ? el("div", {class: "sure"}, sure, el("label", {for: sure.id}, "I know that nothing takes this back")) : null,
+  before, el("p", {class: "sends"}, "Sends ", sentence), button);
+  form.dataset.kind = kind;
   look();
   return form;
+}
+
+// ---- what was typed stays
+
+// Shows a page anew: in forms that are there again stands what was typed into them, and one that was open is open.
+export function keepingForms(place, show) {
+  const before = [...place.querySelectorAll("form.command")].map((form) => ({
+    kind: form.dataset.kind,
+    isOpen: form.closest("details")?.open,
+    values: [...form.elements].filter(({name}) => name).map(({name, value}) => [name, value]),
+  }));
+  show();
+  for (const {kind, isOpen, values} of before) {
+    const form = place.querySelector(`form.command[data-kind='${kind}']`);
+    if (!form || isOpen === false) continue;
+    if (isOpen) form.closest("details").open = true;
+    // What is done with a date is put back behind the date, which sets it.
+    values.sort(([one], [other]) => one.endsWith("-edit") - other.endsWith("-edit"));
+    for (const [name, value] of values) {
+      const input = form.elements[name];
+      if (!input) continue;
+      input.value = value;
+      input.dispatchEvent(new Event("input", {bubbles: true}));
+    }
+  }
 }

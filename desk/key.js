@@ -1,48 +1,74 @@
 // One key, whole: its dates as a line, what it may be used for and as of when, and what the reader may do with it.
-import {cards, el, replace, shown, svg} from "./dom.js";
-import {commandForm} from "./forms.js";
+import {cards, el, name, replace, shown, svg} from "./dom.js";
+import {commandForm, keepingForms} from "./forms.js";
 import {keyAt, latest, learnKey, learntOf, list, periodOf, requestsOf} from "./list.js";
-import {Unanswered, keyOf, now} from "./register.js";
-import {COMMANDS, barred, isLong, stateAt, usageAt} from "./rules.js";
+import {AnotherUser, Unanswered, keyOf, now} from "./register.js";
+import {COMMANDS, SETTABLE, barred, isLong, isOverdue, spansOf, stateAt, usageAt} from "./rules.js";
 import {TITLES, away, moment, refusalText, requestText, state, utcText} from "./words.js";
 
-const DATES = [["initial", "Registered"], ["activation", "Activation"], ["protect_stop", "Protect Stop"],
-  ["deactivation", "Deactivation"], ["occurrence", "Compromised since"], ["compromised", "Compromise told"],
-  ["destroyed", "Destroyed"]];
-const LETTERS = {initial: "R", activation: "A", protect_stop: "P", deactivation: "D", occurrence: "O", compromised: "C",
-  destroyed: "X"};
+// Each date with its words and its letter.
+const DATES = [
+  ["initial", "Registered", "R"],
+  ["activation", "Activation", "A"],
+  ["protect_stop", "Protect Stop", "P"],
+  ["deactivation", "Deactivation", "D"],
+  ["occurrence", "Compromised since", "O"],
+  ["compromised", "Compromise told", "C"],
+  ["destroyed", "Destroyed", "X"],
+];
 
 // ---- the line
 
-function placed(key, at) {
-  const dates = DATES.map(([name]) => [name, key[name]]).filter(([, date]) => date !== null && date !== undefined);
-  const all = [...dates.map(([, date]) => date), at], least = Math.min(...all), most = Math.max(...all, least + 1);
-  const place = (date) => `${(4 + 92 * (date - least) / (most - least)).toFixed(2)}%`;
-  const width = (from, to) => `${(92 * (to - from) / (most - least)).toFixed(2)}%`;
-  return {dates, place, width};
+const LETTERS_HIGH = 13, APART = 4;
+
+// The places of a line's dates, in hundredths of its width.
+function scaleOf(key, at) {
+  const dates = DATES.map(([member, words, letter]) => ({words, letter, date: key[member] ?? null}))
+    .filter(({date}) => date !== null);
+  const all = [...dates.map(({date}) => date), at], least = Math.min(...all), most = Math.max(...all, least + 1);
+  return {dates, place: (date) => 4 + 92 * (Math.min(date, most) - least) / (most - least)};
 }
 
-function bar(name, from, to, {place, width}) {
-  return svg("rect", {class: name, x: place(from), y: 30, width: width(from, to), height: 16});
-}
-
-// The dates of a key from the first to the last, with now on it.
-export function line(key, at) {
-  const {dates, place, width} = placed(key, at), measure = {place, width};
-  const told = dates.map(([name, date]) => `${DATES.find(([other]) => other === name)[1]} ${utcText(date)}`);
-  const parts = [svg("line", {class: "axis", x1: "4%", x2: "96%", y1: 38, y2: 38})];
-  const {activation, protect_stop: stop, deactivation: end} = key;
-  if (activation !== null && stop !== null) parts.push(bar("protects", activation, stop, measure));
-  if (stop !== null && end !== null) parts.push(bar("processes", stop, end, measure));
-  dates.forEach(([name, date], turn) => {
-    const high = turn % 2 ? 12 : 24;
-    parts.push(svg("line", {class: "tick", x1: place(date), x2: place(date), y1: high + 2, y2: 50}),
-      svg("text", {x: place(date), y: high, "text-anchor": "middle"}, LETTERS[name]));
+// The letters of the dates, those of one date together, in rows, so that none stands on another.
+function lettersOf(dates, place) {
+  const labels = new Map();
+  for (const {date, letter} of dates) labels.set(date, [...(labels.get(date) ?? []), letter]);
+  const ends = [];
+  return [...labels].sort(([one], [other]) => one - other).map(([date, letters]) => {
+    const text = letters.join(" "), at = place(date);
+    const lane = ends.findIndex((end) => at - end >= APART), row = lane < 0 ? ends.length : lane;
+    ends[row] = at + APART * (letters.length - 1);
+    return {text, at, row};
   });
-  parts.push(svg("line", {class: "now", x1: place(at), x2: place(at), y1: 26, y2: 60}),
-    svg("text", {class: "now", x: place(at), y: 74, "text-anchor": "middle"}, "now"));
-  const label = `Dates of the key: ${told.join(", ")}; now is ${utcText(at)}`;
-  return svg("svg", {class: "line", role: "img", "aria-label": label, width: "100%", height: "80"}, ...parts);
+}
+
+const percent = (value) => `${value.toFixed(2)}%`;
+
+function bar([kind, from, to], place, top) {
+  const [left, right] = [place(from), place(to)];
+  if (kind === "wait") return svg("line", {class: kind, x1: percent(left), x2: percent(right), y1: top + 8, y2: top + 8});
+  const [y, height] = kind === "protect" ? [top, 16] : [top + 5, 6];
+  return svg("rect", {class: kind, x: percent(left), y, width: percent(right - left), height});
+}
+
+// The dates of a key from the first to the last, with now on it: high where it may protect data, low where it may only
+// process what is protected.
+function line(key, at) {
+  const {dates, place} = scaleOf(key, at), letters = lettersOf(dates, place);
+  const top = LETTERS_HIGH * (1 + Math.max(...letters.map(({row}) => row))) + 6;
+  const parts = [svg("line", {class: "axis", x1: "4%", x2: "96%", y1: top + 8, y2: top + 8}),
+    ...spansOf(key).map((span) => bar(span, place, top))];
+  for (const {text, at: x, row} of letters) {
+    const y = top - 6 - LETTERS_HIGH * row;
+    parts.push(svg("line", {class: "tick", x1: percent(x), x2: percent(x), y1: y + 2, y2: top + 20}),
+      svg("text", {x: percent(x), y, "text-anchor": "middle"}, text));
+  }
+  const x = percent(place(at));
+  parts.push(svg("line", {class: "now", x1: x, x2: x, y1: top - 4, y2: top + 30}),
+    svg("text", {class: "now", x, y: top + 44, "text-anchor": "middle"}, "now"));
+  const words = dates.map(({words: what, date}) => `${what} ${utcText(date)}`).join(", ");
+  return svg("svg", {class: "line", role: "img", "aria-label": `Dates of the key: ${words}; now is ${utcText(at)}`,
+    width: "100%", height: top + 50}, ...parts);
 }
 
 // ---- what it may be used for
@@ -111,68 +137,78 @@ function acts(key, desk, at) {
 // ---- the whole
 
 function names(list, none) {
-  return list.length ? el("ul", {class: "names"}, list.map((name) => el("li", {}, shown(name)))) : none;
+  return list.length ? el("ul", {class: "names"}, list.map((one) => el("li", {}, name(one)))) : none;
 }
 
 function facts(key, at) {
   const have = key.approvals.length, period = periodOf(key.type);
   return el("dl", {class: "facts"}, [
     ["Type", `${key.type}, ${period[0]} months of protecting and ${period[1]} of processing after`],
-    ["Owner", shown(key.owner)], ["Purpose", shown(key.purpose)],
+    ["Owner", name(key.owner)],
+    ["Purpose", shown(key.purpose)],
     ["Custodians", names(key.custodians, "none")],
     ["Approvals", el("span", {}, `${have} of ${key.need} that its destruction needs`, names(key.approvals, ""))],
-    ...DATES.filter(([name]) => (key[name] ?? null) !== null
-      || ["activation", "protect_stop", "deactivation"].includes(name))
-      .map(([name, told]) => [`${told} (${LETTERS[name]})`, moment(key[name], at)]),
-  ].map(([head, told]) => [el("dt", {}, head), el("dd", {}, told)]));
+    ...DATES.filter(([member]) => (key[member] ?? null) !== null || SETTABLE.includes(member))
+      .map(([member, words, letter]) => [`${words} (${letter})`, moment(key[member], at)]),
+  ].map(([head, content]) => [el("dt", {}, head), el("dd", {}, content)]));
 }
 
 function history(number, at) {
   const requests = requestsOf(number);
-  const told = list.isThere ? "Of this page's own and of the list: the last few alone."
+  const source = list.isThere ? "Of this page's own and of the list: the last few alone."
     : "Of this page's own alone: the list is not there.";
+  const lines = requests.map(({moment: when, caller, text}) =>
+    el("li", {}, el("span", {class: "when"}, `${utcText(when)} (${away(when, at)}) `), name(caller), " ",
+      requestText(text)));
   return el("section", {"aria-labelledby": "history"}, el("h2", {id: "history"}, "Last requests"),
-    el("p", {class: "hint"}, told),
-    requests.length ? el("ol", {class: "history"}, requests.map(({moment: when, caller, text}) =>
-      el("li", {}, el("span", {class: "when"}, `${utcText(when)} (${away(when, at)}) `), shown(caller), " ",
-        requestText(text)))) : null);
+    el("p", {class: "hint"}, source), requests.length ? el("ol", {class: "history"}, lines) : null);
+}
+
+const LEGEND = [["protect", "may protect data"], ["process", "may only process what is protected"],
+  ["wait", "waits for its Activation"]];
+
+function picture(key, at) {
+  const kinds = spansOf(key).map(([kind]) => kind);
+  return el("figure", {}, line(key, at), el("figcaption", {},
+    LEGEND.filter(([kind]) => kinds.includes(kind)).map(([kind, words]) =>
+      [el("span", {class: `swatch ${kind}`}), ` ${words} `]), "The letters stand at the dates above."));
 }
 
 function show(place, number, desk, note) {
-  const at = now(), told = learntOf(number), key = told?.key ?? keyAt(number, at);
+  const at = now(), heard = learntOf(number), key = keyAt(number, at);
   if (!key) {
     replace(place, el("h1", {}, `Key ${number}`), el("p", {class: "refused"}, note || "It is asked for."));
     return;
   }
-  const shows = {...key, state: stateAt(key, at)};
-  replace(place, el("h1", {}, `Key ${number} `, state(shows.state)), note
-    ? el("p", {class: "note", role: "alert"}, note) : null,
-    isLong(key, periodOf(key.type))
-      ? el("p", {class: "note"}, "Its dates go past the period that the office set since.") : null,
-    el("p", {class: "hint"}, told ? `As the register told it at ${utcText(told.at)}.`
-      : `As the list of ${utcText(list.made)} has it.`),
-    facts(key, at),
-      el("figure", {}, line(key, at), el("figcaption", {}, el("span", {class: "swatch protects"}), " protects ",
-      el("span", {class: "swatch processes"}), " processes what is protected; the letters stand at the dates above")),
-    usage(key, told, at, desk), told ? acts(shows, desk, at) : null, history(number, at));
+  const isPast = isLong(key, periodOf(key.type)), source = heard ? `As the register told it at ${utcText(heard.at)}.`
+    : `As the list of ${utcText(list.made)} has it.`;
+  replace(place, el("h1", {}, `Key ${number} `, state(key.state, isOverdue(key, at))),
+    note ? el("p", {class: "note", role: "alert"}, note) : null,
+    isPast ? el("p", {class: "note"}, "Its dates go past the period that the office set since.") : null,
+    el("p", {class: "hint"}, source), facts(key, at), picture(key, at), usage(key, heard, at, desk),
+    heard ? acts(key, desk, at) : null, history(number, at));
 }
 
-// Shows the key as it is known, asks the register, and shows it as it is.
-export async function keyPage(place, number, desk, isCurrent) {
+// Shows the key as it is known, asks the register, and shows it as it is. What is typed into a form meanwhile stays;
+// with `isNew` the forms are new.
+export async function keyPage(place, number, desk, {isCurrent, isNew}) {
   const before = learntOf(number);
-  show(place, number, desk, "");
+  const put = (note) => keepingForms(place, () => show(place, number, desk, note));
+  if (isNew) show(place, number, desk, "");
+  else put("");
   try {
-    const told = await keyOf(number);
+    const heard = await keyOf(number);
     if (!isCurrent()) return;
-    if (!told) {
+    if (!heard) {
       replace(place, el("h1", {}, `Key ${number}`), el("p", {class: "refused"}, `There is no key ${number}.`));
       return;
     }
-    learnKey(told);
-    const isSame = before && JSON.stringify([before.key, before.usage]) === JSON.stringify([told.key, told.usage]);
-    if (!isSame) show(place, number, desk, "");
+    learnKey(heard);
+    const isSame = before && JSON.stringify([before.key, before.usage]) === JSON.stringify([heard.key, heard.usage]);
+    if (!isSame) put("");
   } catch (fault) {
+    if (fault instanceof AnotherUser) return;
     if (!(fault instanceof Unanswered)) throw fault;
-    if (isCurrent()) show(place, number, desk, "The register does not answer now. What stands here is older.");
+    if (isCurrent()) put("The register does not answer now. What stands here is older.");
   }
 }

@@ -1,40 +1,50 @@
 // The keys that the desk knows: those of the list, and over them what it learnt from the register since the list was
 // made.
-import {listed} from "./register.js";
-import {DAY, PERIODS, isLong, stateAt} from "./rules.js";
+import {listed, now} from "./register.js";
+import {DAY, PERIODS, isLong, judged, mayHaveMade, stateAt} from "./rules.js";
 
 const LEARNT = "keyreg.learnt";
 const DATES = ["activation", "protect_stop", "deactivation", "destroyed", "compromised", "occurrence"];
-const NO_COLUMNS = ["type", "owner", "purpose", "initial", ...DATES, "need", "custodians", "approvals", "requests"];
+const COLUMNS = ["type", "owner", "purpose", "initial", ...DATES, "need", "custodians", "approvals", "requests"];
+const noColumns = () => Object.fromEntries(COLUMNS.map((name) => [name, []]));
 
-function stored() {
-  const empty = {keys: {}, periods: {}, requests: {}, latest: 0};
+function stored(part, otherwise) {
   try {
-    return {...empty, ...JSON.parse(sessionStorage.getItem(LEARNT) ?? "{}")};
+    return JSON.parse(sessionStorage.getItem(`${LEARNT}.${part}`)) ?? otherwise;
   } catch {
-    return empty;
+    return otherwise;
   }
 }
 
 // `made` and `latest` are of the list; 0 where there is none.
 export const list = {made: 0, latest: 0, count: 0, isThere: false, hasKeys: false, periods: {}};
-// Of each key that the register told of since: {key, usage, at}; of each type whose period was set: {months, at}; the
-// requests that were accepted: {number of the key: [{moment, caller, text}]}.
-let learnt = stored();
-let columns = Object.fromEntries(NO_COLUMNS.map((name) => [name, []])), names = [], types = Object.keys(PERIODS);
-// What is looked through for a text, in small letters, by key.
-let hay = [];
+// What the register told since: of each key {key, usage, at}; of each type whose period was set {months, at}; the
+// requests that were accepted, {number of the key: [{moment, caller, text}]}; and its latest moment.
+const learnt = {
+  keys: stored("keys", {}),
+  periods: stored("periods", {}),
+  requests: stored("requests", {}),
+  latest: stored("latest", 0),
+};
+// The keys of which a row of a table was accepted, as they were foretold: {number: {key, caller}}. The table is kept, and
+// they follow from it after a reload.
+let registered = new Map();
+let columns = noColumns(), names = [], types = Object.keys(PERIODS);
+// What is looked through for a text, in small letters, by key; and how many keys there are in it.
+let hay = [], count = 0;
 
-function hayOf(number, {owner, type, purpose}) {
-  return `${number} ${owner} ${type} ${purpose}`.toLowerCase();
+// What is too much to be kept over a reload is still known until then.
+function save(part) {
+  try {
+    sessionStorage.setItem(`${LEARNT}.${part}`, JSON.stringify(learnt[part]));
+  } catch {
+    sessionStorage.removeItem(`${LEARNT}.${part}`);
+  }
 }
 
-function save() {
-  try {
-    sessionStorage.setItem(LEARNT, JSON.stringify(learnt));
-  } catch {
-    // What is too much to be kept over a reload is still known until then.
-  }
+function putHay({number, owner, type, purpose}) {
+  if (hay[number - 1] === undefined) count++;
+  hay[number - 1] = `${number} ${owner} ${type} ${purpose}`.toLowerCase();
 }
 
 // ---- what the register told
@@ -42,34 +52,50 @@ function save() {
 export const latest = () => Math.max(list.latest, learnt.latest);
 
 export function learnMoment(moment) {
-  learnt.latest = Math.max(learnt.latest, moment);
-  save();
+  if (moment <= learnt.latest) return;
+  learnt.latest = moment;
+  save("latest");
 }
 
 export function learnKey({key, usage, at}) {
   learnt.keys[key.number] = {key, usage, at};
-  hay[key.number - 1] = hayOf(key.number, key);
-  save();
+  putHay(key);
+  save("keys");
 }
+
+// A key that a row of a table registered: the page does not ask for it.
+export function learnRegistered(key, caller) {
+  if (learnt.keys[key.number] || key.number <= columns.type.length) return;
+  registered.set(key.number, {key, caller});
+  putHay(key);
+}
+
+// Those keys that no list has yet.
+export const registeredKeys = () => [...registered.values()];
 
 export function learnPeriod(type, months, at) {
   learnt.periods[type] = {months, at};
-  save();
+  save("periods");
 }
 
 export function learnRequest(number, request) {
   (learnt.requests[number] ??= []).push(request);
-  save();
+  save("requests");
 }
 
 // The periods that are set, as far as the page knows.
 export function periods() {
-  const told = {...list.periods};
-  for (const [type, {months}] of Object.entries(learnt.periods)) told[type] = months;
-  return told;
+  const set = {...list.periods};
+  for (const [type, {months}] of Object.entries(learnt.periods)) set[type] = months;
+  return set;
 }
 
 export const periodOf = (type) => periods()[type] ?? PERIODS[type];
+
+// What the page can know of the register's answer to a command.
+export function judgement(command, {caller, key}) {
+  return judged(command, {caller, moment: now(), latest: latest(), key, periods: periods(), count: list.count});
+}
 
 // ---- the list
 
@@ -77,30 +103,37 @@ export const periodOf = (type) => periods()[type] ?? PERIODS[type];
 function forget(made) {
   for (const part of ["keys", "periods"]) {
     for (const [name, {at}] of Object.entries(learnt[part])) if (at < made) delete learnt[part][name];
+    save(part);
   }
   for (const [number, requests] of Object.entries(learnt.requests)) {
     const later = requests.filter(({moment}) => moment >= made);
     if (later.length) learnt.requests[number] = later;
     else delete learnt.requests[number];
   }
-  save();
+  save("requests");
+  registered = new Map([...registered].filter(([number]) => number > columns.type.length));
+}
+
+// Takes a list in, as examples/list.py makes it.
+export function take(made) {
+  list.isThere = true;
+  list.hasKeys = made.keys !== null;
+  for (const name of ["made", "latest", "count", "periods"]) list[name] = made[name];
+  ({names, types} = made);
+  columns = made.keys ?? noColumns();
+  const lower = names.map((name) => name.toLowerCase());
+  hay = columns.type.map((type, place) =>
+    `${place + 1} ${lower[columns.owner[place]]} ${types[type]} ${columns.purpose[place].toLowerCase()}`);
+  count = hay.length;
+  forget(made.made);
+  for (const {key} of [...registered.values(), ...Object.values(learnt.keys)]) putHay(key);
 }
 
 // Takes in a newer list where there is one; tells whether there was.
 export async function load() {
-  const found = await listed();
-  if (!found) return false;
-  list.isThere = true;
-  list.hasKeys = found.keys !== null;
-  for (const name of ["made", "latest", "count", "periods"]) list[name] = found[name];
-  ({names, types} = found);
-  columns = found.keys ?? Object.fromEntries(NO_COLUMNS.map((name) => [name, []]));
-  const lower = names.map((name) => name.toLowerCase());
-  hay = columns.type.map((type, place) =>
-    `${place + 1} ${lower[columns.owner[place]]} ${types[type]} ${columns.purpose[place].toLowerCase()}`);
-  forget(found.made);
-  for (const [number, {key}] of Object.entries(learnt.keys)) hay[number - 1] = hayOf(number, key);
-  return true;
+  const made = await listed();
+  if (made) take(made);
+  return made !== null;
 }
 
 // ---- keys
@@ -117,9 +150,11 @@ function listedKey(number) {
   return key;
 }
 
+const ownKey = (number) => learnt.keys[number]?.key ?? registered.get(number)?.key;
+
 // A key as it is known here, with its state at a moment; undefined where it is not.
 export function keyAt(number, moment) {
-  const key = learnt.keys[number]?.key ?? listedKey(number);
+  const key = ownKey(number) ?? listedKey(number);
   return key && {...key, state: stateAt(key, moment)};
 }
 
@@ -128,118 +163,158 @@ export const learntOf = (number) => learnt.keys[number];
 
 // The last requests of a key that are known, the oldest first.
 export function requestsOf(number) {
-  const cells = columns.requests[number - 1] ?? [], told = [];
+  const cells = columns.requests[number - 1] ?? [], requests = [];
   for (let place = 0; place < cells.length; place += 3) {
-    told.push({moment: cells[place], caller: names[cells[place + 1]], text: cells[place + 2]});
+    requests.push({moment: cells[place], caller: names[cells[place + 1]], text: cells[place + 2]});
   }
-  const isThere = (one) => told.some(({moment, caller, text}) =>
-    moment === one.moment && caller === one.caller && text === one.text);
-  return [...told, ...(learnt.requests[number] ?? []).filter((one) => !isThere(one))];
+  const {key, caller} = registered.get(number) ?? {};
+  if (key && !requests.length) requests.push({moment: key.initial, caller, text: "register"});
+  const isThere = (request) => requests.some(({moment, caller: other, text}) =>
+    moment === request.moment && other === request.caller && text === request.text);
+  return [...requests, ...(learnt.requests[number] ?? []).filter((request) => !isThere(request))];
 }
 
-export const known = () => Math.max(columns.type.length, hay.length);
+// How many keys are known, and the greatest of their numbers.
+export const known = () => count;
+export const last = () => hay.length;
 
-export function owners() {
-  const found = new Set(columns.owner);
-  const told = new Set([...found].map((place) => names[place]));
-  for (const {key} of Object.values(learnt.keys)) told.add(key.owner);
-  return [...told].sort();
+// Each name that the register has, as far as the page knows: of owners, custodians and callers.
+export function allNames() {
+  const all = new Set(names);
+  const others = [...Object.values(learnt.keys), ...registered.values()];
+  for (const {key, caller} of others) {
+    for (const name of [key.owner, ...key.custodians, ...(caller ? [caller] : [])]) all.add(name);
+  }
+  return all;
 }
 
 // ---- search
 
 // A row of the columns as `stateAt` takes it, without the rest of the key: a search looks at each.
 function datesAt(place) {
-  return {activation: columns.activation[place], deactivation: columns.deactivation[place],
-    protect_stop: columns.protect_stop[place], destroyed: columns.destroyed[place],
-    compromised: columns.compromised[place]};
-}
-
-// Whether a listed key may be due. Dates go past a period only where the office set it.
-function isDueAt(place, moment, horizon) {
-  const dates = datesAt(place);
-  if (stateAt(dates, moment) !== "Active") return false;
-  return dates.protect_stop <= horizon || types[columns.type[place]] in periods();
+  return {
+    activation: columns.activation[place],
+    deactivation: columns.deactivation[place],
+    protect_stop: columns.protect_stop[place],
+    destroyed: columns.destroyed[place],
+    compromised: columns.compromised[place],
+  };
 }
 
 const AT_REST = ["Pre-Active", "Deactivated", "Compromised"];
 
+function isDue(key, days, moment) {
+  if (stateAt(key, moment) !== "Active") return false;
+  return key.protect_stop <= moment + days * DAY || isLong(key, periodOf(key.type));
+}
+
+const waits = (key, moment) =>
+  key.custodians.length > 0 && key.approvals.length < key.need && AT_REST.includes(stateAt(key, moment));
+
+// Whether a filter lets a key through. An owner is looked for in whatever case, and by a part of the name.
 function suits(key, filter, moment) {
-  if (filter.type && key.type !== filter.type) return false;
-  if (filter.owner && key.owner !== filter.owner) return false;
-  const state = stateAt(key, moment);
-  if (filter.state && state !== filter.state) return false;
-  if (filter.days !== null) {
-    if (state !== "Active") return false;
-    const isDue = key.protect_stop <= moment + filter.days * DAY;
-    if (!isDue && !isLong(key, periodOf(key.type))) return false;
-  }
-  return !filter.waits || (AT_REST.includes(state) && key.custodians.length > 0 && key.approvals.length < key.need);
+  return (!filter.type || key.type === filter.type)
+    && (!filter.owner || key.owner.toLowerCase().includes(filter.owner.toLowerCase()))
+    && (!filter.state || stateAt(key, moment) === filter.state)
+    && (filter.days === null || isDue(key, filter.days, moment))
+    && (!filter.waits || waits(key, moment));
+}
+
+// Whether a listed key can suit by its columns alone: most are told apart without the whole key.
+function columnsSuit(filter, moment) {
+  const {type, owner, state, days} = filter, set = periods();
+  const typeAt = types.indexOf(type), part = owner.toLowerCase();
+  const owners = new Set(names.flatMap((name, at) => (name.toLowerCase().includes(part) ? [at] : [])));
+  return (place) => {
+    if (type && columns.type[place] !== typeAt) return false;
+    if (owner && !owners.has(columns.owner[place])) return false;
+    if (filter.waits && columns.custodians[place].length === 0) return false;
+    if (!state && days === null) return true;
+    const dates = datesAt(place), now = stateAt(dates, moment);
+    if (state && now !== state) return false;
+    // Dates go past a period only where the office set it.
+    return days === null
+      || (now === "Active" && (dates.protect_stop <= moment + days * DAY || types[columns.type[place]] in set));
+  };
 }
 
 // The numbers of the keys that a filter lets through, in order of their numbers or of their Protect Stop Dates. Words
-// are
-// looked for in the number, the owner, the type and the purpose.
-export function found(filter, moment) {
-  const words = filter.text.toLowerCase().split(/\s+/).filter(Boolean);
-  const told = [], owner = filter.owner ? names.indexOf(filter.owner) : -1, type = types.indexOf(filter.type);
+// are looked for in the number, the owner, the type and the purpose.
+export function matching(filter, moment) {
+  const words = filter.text.toLowerCase().split(/\s+/).filter(Boolean), numbers = [];
   const isPlain = !filter.type && !filter.owner && !filter.state && filter.days === null && !filter.waits;
-  for (let place = 0; place < hay.length; place++) {
-    const text = hay[place];
-    if (text === undefined || !words.every((word) => text.includes(word))) continue;
-    if (isPlain) {
-      told.push(place + 1);
-      continue;
+  const mayBe = isPlain ? () => true : columnsSuit(filter, moment);
+  hay.forEach((text, place) => {
+    if (!words.every((word) => text.includes(word))) return;
+    const own = ownKey(place + 1);
+    if (isPlain || ((own || mayBe(place)) && suits(own ?? listedKey(place + 1), filter, moment))) {
+      numbers.push(place + 1);
     }
-    const learntKey = learnt.keys[place + 1]?.key;
-    if (!learntKey) {
-      // Most are told apart by their columns.
-      if (filter.type && columns.type[place] !== type) continue;
-      if (filter.owner && columns.owner[place] !== owner) continue;
-      if (filter.state && stateAt(datesAt(place), moment) !== filter.state) continue;
-      if (filter.days !== null && !isDueAt(place, moment, moment + filter.days * DAY)) continue;
-      if (filter.waits && columns.custodians[place].length === 0) continue;
-    }
-    if (suits(learntKey ?? listedKey(place + 1), filter, moment)) told.push(place + 1);
-  }
-  return filter.days === null ? told : byProtectStop(told);
+  });
+  return filter.days === null ? numbers : byProtectStop(numbers);
 }
 
 function byProtectStop(numbers) {
   const stop = new Map(numbers.map((number) =>
-    [number, learnt.keys[number]?.key.protect_stop ?? columns.protect_stop[number - 1]]));
+    [number, ownKey(number)?.protect_stop ?? columns.protect_stop[number - 1]]));
   return numbers.sort((one, other) => stop.get(one) - stop.get(other) || one - other);
 }
 
-// The keys that wait for somebody: for an approval of a custodian, and those that an owner may destroy. Those that most
-// approvals stand for come first.
+// The keys that wait for somebody: those of whose destruction an approval stands and the caller's lacks, those that the
+// caller guards with no approval yet, and those that the caller may destroy.
 export function waiting(caller, moment) {
-  const me = names.indexOf(caller), approves = [], destroys = [];
-  for (let place = 0; place < hay.length; place++) {
-    const told = learnt.keys[place + 1]?.key;
-    if (!told && (place >= columns.type.length
-      || (!columns.custodians[place].includes(me) && columns.owner[place] !== me))) continue;
-    const key = told ?? listedKey(place + 1);
-    if (!AT_REST.includes(stateAt(key, moment))) continue;
-    if (key.custodians.includes(caller) && !key.approvals.includes(caller)) approves.push(key);
-    if (key.owner === caller && key.approvals.length >= key.need) destroys.push(key);
-  }
-  approves.sort((one, other) => other.approvals.length - one.approvals.length || one.number - other.number);
-  return {approves, destroys};
+  const me = names.indexOf(caller), begun = [], guarded = [], destroyable = [];
+  hay.forEach((_, place) => {
+    const own = ownKey(place + 1);
+    if (!own && !columns.custodians[place].includes(me) && columns.owner[place] !== me) return;
+    const key = own ?? listedKey(place + 1);
+    if (!AT_REST.includes(stateAt(key, moment))) return;
+    if (key.custodians.includes(caller) && !key.approvals.includes(caller)) {
+      (key.approvals.length ? begun : guarded).push(key.number);
+    }
+    if (key.owner === caller && key.approvals.length >= key.need) destroyable.push(key.number);
+  });
+  const approvals = new Map(begun.map((number) => [number, keyAt(number, moment).approvals.length]));
+  begun.sort((one, other) => approvals.get(other) - approvals.get(one) || one - other);
+  return {begun, guarded, destroyable};
 }
 
-// The number of a key that has just these fields, or 0: what an import of them would register a second time.
-let same = null, sameOf = 0;
-export function sameAs(row) {
-  const wordOf = (key) =>
-    JSON.stringify([key.type, key.owner, key.activation, key.protect_stop, key.deactivation, key.purpose]);
-  if (!same || sameOf !== list.made) {
-    [same, sameOf] = [new Map(), list.made];
-    for (let number = 1; number <= known(); number++) {
-      const key = learnt.keys[number]?.key ?? listedKey(number);
-      if (key) same.set(wordOf(key), number);
+// ---- the keys that a row may have made
+
+const wordsOf = ({type, owner, purpose}) => `${type}\n${owner}\n${purpose}`;
+
+// Of the keys that share their words with one of some registrations, those that each may have made.
+export class Made {
+  constructor(registrations, moment) {
+    this.moment = moment;
+    this.keys = new Map(registrations.map((row) => [wordsOf(row), new Map()]));
+    for (let number = 1; number <= last(); number++) {
+      const words = this.keys.size && (ownKey(number) ?? this.listedWords(number));
+      if (words && this.keys.has(wordsOf(words))) this.add(keyAt(number, moment));
     }
   }
-  return same.get(wordOf(row)) ?? 0;
+
+  // The words of a listed key, without the rest.
+  listedWords(number) {
+    const place = number - 1;
+    return place < columns.type.length
+      && {type: types[columns.type[place]], owner: names[columns.owner[place]], purpose: columns.purpose[place]};
+  }
+
+  // A key stands under each of its dates, so that a row with one date of many is not looked for among all.
+  add(key) {
+    const places = this.keys.get(wordsOf(key));
+    for (const date of ["any", ...new Set([key.activation, key.protect_stop, key.deactivation])]) {
+      if (!places.has(date)) places.set(date, []);
+      places.get(date).push(key);
+    }
+  }
+
+  // The number of a key that the registration may have made already, or 0.
+  of(row) {
+    const date = row.activation ?? row.protect_stop ?? row.deactivation ?? "any";
+    const keys = this.keys.get(wordsOf(row))?.get(date) ?? [];
+    return keys.find((key) => mayHaveMade(row, key, this.moment))?.number ?? 0;
+  }
 }
 

@@ -3,15 +3,14 @@
 // checks/desk_rules.py holds the tables to those of the document, and each judgement to the register's. The register is
 // right where the two differ: the page only says beforehand what it can know, and shows what the register said.
 //
-// A key is an object as `GET /keys/<key>` gives it, a command one as a POST takes it, a moment a number of seconds
-// since
-// 1970, a date a moment or null.
+// A key is an object as `GET /keys/<key>` gives it, and a command one as a POST takes it. A moment is a number of
+// seconds since 1970, a date a moment or null.
 
 export const LAST_MOMENT = 253402300799;
 export const GREATEST_NUMBER = 9007199254740991;
 export const MOST_CUSTODIANS = 16;
 export const MOST_KEYS = 1000000;
-export const LEAST_NEED = 2;
+const LEAST_NEED = 2;
 export const OFFICE = "office";
 export const DAY = 86400;
 
@@ -51,8 +50,14 @@ export const COMMANDS = {
 
 // The members of a command beside its kind, each with what its value is.
 export const MEMBERS = {
-  "register": {type: "type", owner: "name", activation: "date", protect_stop: "date", deactivation: "date",
-    purpose: "purpose"},
+  "register": {
+    type: "type",
+    owner: "name",
+    activation: "date",
+    protect_stop: "date",
+    deactivation: "date",
+    purpose: "purpose",
+  },
   "activate": {key: "key"},
   "set": {key: "key", activation: "edit", protect_stop: "edit", deactivation: "edit"},
   "revoke": {key: "key", reason: "reason", occurrence: "date"},
@@ -68,9 +73,16 @@ export const MEMBERS = {
 };
 
 export const RANGES = {
-  key: [1, 4294967295], date: [0, LAST_MOMENT], need: [2, 5], reason: [1, 7], originator: [1, 1200],
-    recipient: [0, 1200],
+  key: [1, 4294967295],
+  date: [0, LAST_MOMENT],
+  need: [2, 5],
+  reason: [1, 7],
+  originator: [1, 1200],
+  recipient: [0, 1200],
 };
+
+// The dates that a registration gives.
+export const SETTABLE = ["activation", "protect_stop", "deactivation"];
 
 export const REASONS = {
   1: "Unspecified", 2: "Key Compromise", 3: "CA Compromise", 4: "Affiliation Changed", 5: "Superseded",
@@ -87,15 +99,20 @@ export const REFUSALS = {
 
 // ---- the form of a command
 
-const NAME = /^[A-Za-z0-9._@-]{1,64}$/;
-const CONTROL = /[\u0000-\u001f\u007f]/;
+export const MOST_LETTERS = 64;
+export const MOST_BYTES = 200;
+export const NO_NAME = /[^A-Za-z0-9._@-]/u;
+export const CONTROL = /[\u0000-\u001f\u007f]/;
+export const HALF = /[\ud800-\udfff]/u;
 
-export const isName = (text) => typeof text === "string" && NAME.test(text);
+export const bytesOf = (text) => new TextEncoder().encode(text).length;
 
-export function isPurpose(text) {
+const isName = (text) =>
+  typeof text === "string" && text.length >= 1 && text.length <= MOST_LETTERS && !NO_NAME.test(text);
+
+function isPurpose(text) {
   if (typeof text !== "string" || CONTROL.test(text) || text.startsWith(" ") || text.endsWith(" ")) return false;
-  const size = new TextEncoder().encode(text).length;
-  return size >= 1 && size <= 200 && text.isWellFormed();
+  return text !== "" && bytesOf(text) <= MOST_BYTES && !HALF.test(text);
 }
 
 const isWithin = (value, [least, most]) => Number.isInteger(value) && value >= least && value <= most;
@@ -123,7 +140,7 @@ export function wrongMembers(command) {
 // ---- moments, periods and states
 
 // The same day so many months later, or that month's last; null past the range of moments.
-export function plusMonths(moment, months) {
+function plusMonths(moment, months) {
   const day = new Date(moment * 1000);
   const month = day.getUTCFullYear() * 12 + day.getUTCMonth() + months;
   const year = Math.floor(month / 12);
@@ -140,7 +157,7 @@ function refusal(number, told = {}) {
 const isSet = (date) => date !== null && date !== undefined;
 
 // The dates after Fill, or after Trim, by a usage period; or their refusal.
-export function fitted(activation, stop, end, [originator, recipient], isTrimmed) {
+function fitted(activation, stop, end, [originator, recipient], isTrimmed) {
   const limit = isSet(activation) ? plusMonths(activation, originator) : null;
   let isPast = false;
   if (isSet(activation) && !isSet(stop)) {
@@ -177,6 +194,35 @@ export function usageAt(key, moment) {
   return {process, protect: state === ACTIVE && isSet(key.protect_stop) && key.protect_stop > moment};
 }
 
+// Whether an Active key's Protect Stop Date is reached: it is due for rotation.
+export function isOverdue(key, moment) {
+  return stateAt(key, moment) === ACTIVE && isSet(key.protect_stop) && key.protect_stop <= moment;
+}
+
+// The spans of a key's line: where it waits for its Activation, where it may protect data, and where it may only
+// process what is protected. A compromise ends the second, a destruction the line. A span that ends with no date ends
+// at Infinity. examples/timeline.py draws by the same rule.
+export function spansOf(key) {
+  const [begin, stop, end, destroyed, compromised] =
+    ["activation", "protect_stop", "deactivation", "destroyed", "compromised"]
+      .map((name) => (isSet(key[name]) ? key[name] : Infinity));
+  const last = Math.min(end, destroyed);
+  const turn = Math.min(Math.max(begin, Math.min(stop, compromised)), last);
+  const spans = [["wait", key.initial, Math.min(begin, destroyed, compromised)]];
+  if (begin < Infinity) spans.push(["protect", begin, turn], ["process", turn, last]);
+  return spans.filter(([, from, to]) => from < to);
+}
+
+// Whether a registration with these fields may have made the key: type, owner, purpose and each date that is given are
+// the key's, and a date that is left out may be any. Where no date is given, the key is in use still: one that ended
+// may be followed by another of its name. examples/check_table.py goes by the same rule.
+export function mayHaveMade(row, key, moment) {
+  if (row.type !== key.type || row.owner !== key.owner || row.purpose !== key.purpose) return false;
+  const given = SETTABLE.filter((name) => isSet(row[name]));
+  if (given.length === 0) return [PRE_ACTIVE, ACTIVE].includes(stateAt(key, moment));
+  return given.every((name) => row[name] === key[name]);
+}
+
 // Whether a key's dates go past a period, as where the office set a shorter one after them.
 export function isLong(key, [originator, recipient]) {
   const isPast = (first, last, months) => {
@@ -188,7 +234,7 @@ export function isLong(key, [originator, recipient]) {
 
 // ---- the judgement
 
-export function ruleOf(command) {
+function ruleOf(command) {
   const isCompromise = command.kind === "revoke" && COMPROMISES.includes(command.reason);
   return COMMANDS[isCompromise ? "revoke for compromise" : command.kind];
 }
@@ -247,9 +293,8 @@ function changed(key, command, caller, moment, period) {
 }
 
 // The judgement of a command: a refusal, or the key as it is afterwards (null of a command about none). `key` is the
-// one
-// that the command names, undefined where it is not known, null where it is known that there is none. Where the page
-// cannot know, the judgement is undefined.
+// key that the command names: undefined where it is not known, null where it is known that there is none. Where the
+// page cannot know, the judgement is undefined.
 export function judged(command, {caller, moment, latest, key, periods, count}) {
   if (wrongMembers(command).length) return refusal(1);
   if (isSet(latest) && moment < latest) return refusal(3, {latest});

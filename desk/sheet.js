@@ -1,17 +1,16 @@
 // What a spreadsheet did to a table of keys: a row is found again among the keys where each of its fields is the key's,
 // or is what a spreadsheet may have made of it. examples/check_table.py tells the same by an export.
-import {keyAt, known} from "./list.js";
+import {COLUMNS} from "./csv.js";
+import {keyAt, last} from "./list.js";
 import {now} from "./register.js";
+import {SETTABLE} from "./rules.js";
 import {momentText} from "./words.js";
 
-export const COLUMNS = ["type", "owner", "activation", "protect_stop", "deactivation", "purpose"];
-const DATES = COLUMNS.slice(2, 5);
-
 const remembered = (make) => {
-  const told = new Map();
+  const values = new Map();
   return (text) => {
-    if (!told.has(text)) told.set(text, make(text));
-    return told.get(text);
+    if (!values.has(text)) values.set(text, make(text));
+    return values.get(text);
   };
 };
 
@@ -33,7 +32,13 @@ function isClose(one, other) {
 }
 
 // How spreadsheets write dates.
-const PARTS = {Y: "(?<Y>\\d{4})", y: "(?<y>\\d{2})", m: "(?<m>\\d{1,2})", d: "(?<d>\\d{1,2})", b: "(?<b>[A-Za-z]{3})"};
+const PARTS = {
+  Y: "(?<Y>\\d{4})",
+  y: "(?<y>\\d{2})",
+  m: "(?<m>\\d{1,2})",
+  d: "(?<d>\\d{1,2})",
+  b: "(?<b>[A-Za-z]{3})",
+};
 const CLOCK = "( \\d{1,2}:\\d{2}(:\\d{2})?( [AaPp][Mm])?)?";
 const FORMS = ["Y-m-d", "Y/m/d", "d\\.m\\.Y", "d\\.m\\.y", "m/d/Y", "m/d/y", "d/m/Y", "d/m/y", "d-m-Y", "d-b", "b-d",
   "d-b-y", "d-b-Y", "d b Y", "m-d", "d-m"]
@@ -79,7 +84,7 @@ function numberTold(was, here) {
 }
 
 // How a spreadsheet made the one text of the other; an empty text where it is no way that is known here.
-export function became(was, here) {
+function became(was, here) {
   if ("=+-@".includes(was[0] ?? " ") && numberOf(was) === null) return FORMULA;
   const one = numberOf(was), other = numberOf(here);
   if (one !== null && other !== null && isClose(one, other)) return numberTold(was, here);
@@ -108,14 +113,14 @@ const formsOf = (text) => {
 
 function fieldsOf(number) {
   const key = keyAt(number, now());
-  const textOf = (name) => (!DATES.includes(name) ? key[name] : key[name] === null ? "" : momentText(key[name]));
+  const textOf = (name) => (!SETTABLE.includes(name) ? key[name] : key[name] === null ? "" : momentText(key[name]));
   return key && COLUMNS.map(textOf);
 }
 
 // The keys that the page knows, by each of their fields.
 function indexOf() {
   const byField = new Map(), keys = [null];
-  for (let number = 1; number <= known(); number++) {
+  for (let number = 1; number <= last(); number++) {
     const fields = fieldsOf(number);
     keys.push(fields ?? null);
     fields?.slice(1).forEach((text, place) => {
@@ -134,8 +139,8 @@ function likely(row, place, {keys, byField}) {
   const shared = new Map();
   row.slice(1).forEach((text, column) => {
     for (const form of text === "" ? [] : formsOf(text)) {
-      const found = byField.get(`${column} ${typeof form} ${form}`) ?? [];
-      if (found.length <= MOST_LIKE) for (const number of found) shared.set(number, (shared.get(number) ?? 0) + 1);
+      const numbers = byField.get(`${column} ${typeof form} ${form}`) ?? [];
+      if (numbers.length <= MOST_LIKE) for (const number of numbers) shared.set(number, (shared.get(number) ?? 0) + 1);
     }
   });
   shared.delete(place + 1);
@@ -149,8 +154,8 @@ function isBefore(one, other) {
   return turn >= 0 && one[turn] < other[turn];
 }
 
-// What a spreadsheet did to the rows: of each {number, told: {column: how}} where a key is found that it came from.
-// `isAsIs` says of which rows nothing changed.
+// What a spreadsheet did to the rows: of each {number, ways: [[column, how]], fields} where a key is known that it came
+// from. `isAsIs` says of which rows nothing changed.
 export function changes(rows, isAsIs) {
   const index = indexOf(), taken = new Set();
   return rows.map((row, place) => {
@@ -163,10 +168,10 @@ export function changes(rows, isAsIs) {
       const least = [0, Number(taken.has(number)), differs.length, Number(number !== place + 1)];
       if (differs.length === 0 || differs.length >= COLUMNS.length - 1) continue;
       if (best && !isBefore(least, best.rank)) continue;
-      const told = differs.map((column) => [column, became(fields[column], row[column])]);
-      if (!told.every(([, how]) => how)) continue;
-      const rank = [told.filter(([, how]) => how === FORMULA).length, ...least.slice(1)];
-      if (!best || isBefore(rank, best.rank)) best = {rank, number, told, fields};
+      const ways = differs.map((column) => [column, became(fields[column], row[column])]);
+      if (!ways.every(([, how]) => how)) continue;
+      const rank = [ways.filter(([, how]) => how === FORMULA).length, ...least.slice(1)];
+      if (!best || isBefore(rank, best.rank)) best = {rank, number, ways, fields};
     }
     if (!best) return null;
     taken.add(best.number);
@@ -184,7 +189,7 @@ const ERROR = /^(#(NAME\?|REF!|VALUE!|DIV\/0!|N\/A|NUM!|NULL!)|Err:\d{3})$/;
 export function seems(column, text) {
   if (ERROR.test(text)) return "what a spreadsheet writes in the place of a formula without a result";
   if (/^#+$/.test(text)) return "what a spreadsheet shows where a column is too narrow";
-  if (DATES.includes(column)) {
+  if (SETTABLE.includes(column)) {
     if (WHOLE.test(text)) return "";
     if (/^\d{5}(\.\d+)?$/.test(text)) return "the number that a spreadsheet keeps for a date";
     return daysOf(text).length ? "a date that a spreadsheet shows in another form" : "";

@@ -1,6 +1,6 @@
 // What the desk says: moments, commands and refusals in words.
 import {el, plain} from "./dom.js";
-import {COMPROMISES, DAY, REASONS, RANGES} from "./rules.js";
+import {COMPROMISES, CONTROL, DAY, HALF, MOST_BYTES, MOST_LETTERS, NO_NAME, RANGES, REASONS, bytesOf} from "./rules.js";
 
 // ---- moments
 
@@ -12,9 +12,9 @@ export function momentText(moment) {
 // The moment of a text without a zone, as a field for dates gives it. The field says UTC, and so it is taken: never as
 // the reader's own time. null where it is none.
 export function momentOf(text) {
-  const found = /^(\d{4})-(\d\d)-(\d\d)T(\d\d):(\d\d)(?::(\d\d))?(Z?)$/.exec(text);
-  if (!found) return null;
-  const [year, month, day, hour, minute, second] = found.slice(1, 7).map((digits) => Number(digits ?? 0));
+  const parts = /^(\d{4})-(\d\d)-(\d\d)T(\d\d):(\d\d)(?::(\d\d))?(Z?)$/.exec(text);
+  if (!parts) return null;
+  const [year, month, day, hour, minute, second] = parts.slice(1, 7).map((digits) => Number(digits ?? 0));
   const moment = Date.UTC(year, month - 1, day, hour, minute, second) / 1000;
   const [least, most] = RANGES.date;
   if (!(moment >= least && moment <= most)) return null;
@@ -23,8 +23,15 @@ export function momentOf(text) {
 
 export const utcText = (moment) => momentText(moment).replace("T", " ").replace("Z", " UTC");
 
-const LOCAL = {year: "numeric", month: "short", day: "numeric", hour: "2-digit", minute: "2-digit", second: "2-digit",
-  timeZoneName: "short"};
+const LOCAL = {
+  year: "numeric",
+  month: "short",
+  day: "numeric",
+  hour: "2-digit",
+  minute: "2-digit",
+  second: "2-digit",
+  timeZoneName: "short",
+};
 let local;
 
 export function localText(moment) {
@@ -32,21 +39,30 @@ export function localText(moment) {
   return local.format(new Date(moment * 1000));
 }
 
+// From so many seconds on, the size of a unit and its word.
+const UNITS = [
+  [366 * DAY, 365.25 * DAY, "year"],
+  [61 * DAY, 30.44 * DAY, "month"],
+  [2 * DAY, DAY, "day"],
+  [7200, 3600, "hour"],
+  [120, 60, "minute"],
+  [0, 1, "second"],
+];
+
 export function away(moment, now) {
   const seconds = Math.abs(moment - now);
-  const told = [[366 * DAY, 365.25 * DAY, "year"], [61 * DAY, 30.44 * DAY, "month"], [2 * DAY, DAY, "day"],
-    [7200, 3600, "hour"], [120, 60, "minute"], [0, 1, "second"]].find(([least]) => seconds >= least);
-  const count = Math.round(seconds / told[1]);
-  const text = `${count} ${told[2]}${count === 1 ? "" : "s"}`;
+  const [, size, unit] = UNITS.find(([least]) => seconds >= least);
+  const text = counted(Math.round(seconds / size), unit);
   return moment === now ? "now" : moment > now ? `in ${text}` : `${text} ago`;
 }
 
 // A moment in UTC and in the reader's own time.
 export function moment(value, now) {
   if (value === null || value === undefined) return el("span", {class: "none"}, "not set");
-  return el("span", {class: "moment"}, el("time", {datetime: momentText(value)}, utcText(value)),
-    el("span", {class: "local"}, ` ${localText(value)}`), now === undefined ? null : el("span", {class: "away"},
-      ` (${away(value, now)})`));
+  return el("span", {class: "moment"},
+    el("time", {datetime: momentText(value)}, utcText(value)),
+    el("span", {class: "local"}, ` ${localText(value)}`),
+    now === undefined ? null : el("span", {class: "away"}, ` (${away(value, now)})`));
 }
 
 // ---- keys and commands
@@ -54,21 +70,36 @@ export function moment(value, now) {
 // A count with its word.
 export const counted = (count, word) => `${count} ${word}${count === 1 ? "" : "s"}`;
 
-const MARKS = {"Pre-Active": "◇", "Active": "●", "Deactivated": "◐", "Compromised": "▲", "Destroyed": "✕",
-  "Destroyed-Compromised": "⊗"};
+const MARKS = {
+  "Pre-Active": "◇",
+  "Active": "●",
+  "Deactivated": "◐",
+  "Compromised": "▲",
+  "Destroyed": "✕",
+  "Destroyed-Compromised": "⊗",
+};
 
-// A state by its word, a mark and a pattern, so that no colour is needed.
-export function state(word) {
-  return el("span", {class: `state ${word.toLowerCase()}`}, el("span", {"aria-hidden": "true"}, `${MARKS[word]} `),
-    word);
+// A state by its word, a mark and a pattern, so that no colour is needed; behind it whether the key is overdue.
+export function state(word, isOverdue = false) {
+  const made = el("span", {class: `state ${word.toLowerCase()}`},
+    el("span", {"aria-hidden": "true"}, `${MARKS[word]} `), word);
+  return isOverdue ? el("span", {}, made, " ", el("strong", {class: "overdue"}, "overdue")) : made;
 }
 
 export const TITLES = {
-  "register": "Register a key", "activate": "Activate now", "set": "Set dates", "revoke": "Revoke",
-    "assign": "Give to another owner",
-  "add-custodian": "Add a custodian", "remove-custodian": "Remove a custodian", "approve": "Approve the destruction",
-  "withdraw": "Withdraw the approval", "destroy": "Destroy", "set-quorum": "Set the approvals needed",
-  "set-period": "Set the periods of a type", "advance": "Bring the register to now",
+  "register": "Register a key",
+  "activate": "Activate now",
+  "set": "Set dates",
+  "revoke": "Revoke",
+  "assign": "Give to another owner",
+  "add-custodian": "Add a custodian",
+  "remove-custodian": "Remove a custodian",
+  "approve": "Approve the destruction",
+  "withdraw": "Withdraw the approval",
+  "destroy": "Destroy",
+  "set-quorum": "Set the approvals needed",
+  "set-period": "Set the periods of a type",
+  "advance": "Bring the register to now",
 };
 
 export const TELLS = {
@@ -125,11 +156,41 @@ export function requestText(text) {
     const when = rest[1] === "-" ? "" : `, compromised ${dateOf(rest[1])}`;
     return `revoked: ${REASONS[rest[0]]}${when}`;
   }
-  const told = {"activate": "activated", "assign": "given to", "add-custodian": "added the custodian",
-    "remove-custodian": "removed the custodian", "approve": "approved the destruction",
-      "withdraw": "withdrew the approval",
-    "destroy": "destroyed", "set-quorum": "set the approvals needed to"};
-  return [told[word] ?? word, ...rest].join(" ");
+  return [DID[word] ?? word, ...rest].join(" ");
+}
+
+const DID = {
+  "activate": "activated",
+  "assign": "given to",
+  "add-custodian": "added the custodian",
+  "remove-custodian": "removed the custodian",
+  "approve": "approved the destruction",
+  "withdraw": "withdrew the approval",
+  "destroy": "destroyed",
+  "set-quorum": "set the approvals needed to",
+};
+
+// ---- values
+
+function nameFault(text) {
+  if (text.length > MOST_LETTERS) return `${text.length} of ${MOST_LETTERS} letters`;
+  const letter = NO_NAME.exec(text)?.[0];
+  if (letter === undefined) return "";
+  return `${letter === " " ? "a space" : plain(letter)} is none of the ASCII letters, digits, and - _ . @ of a name`;
+}
+
+function purposeFault(text) {
+  const size = bytesOf(text);
+  if (size > MOST_BYTES) return `${size} of ${MOST_BYTES} bytes`;
+  const control = CONTROL.exec(text)?.[0];
+  if (control !== undefined) return `the control character ${plain(control)}`;
+  if (HALF.test(text)) return "half of a character";
+  return text.startsWith(" ") ? "a space at its beginning" : text.endsWith(" ") ? "a space at its end" : "";
+}
+
+// What is wrong with the text of a name or a purpose: which letter, or how many; an empty text where nothing is.
+export function textFault(member, text) {
+  return member === "purpose" ? purposeFault(text) : nameFault(text);
 }
 
 // ---- refusals
@@ -137,10 +198,12 @@ export function requestText(text) {
 function wrongState(command, answer) {
   const isCompromise = command.kind === "revoke" && COMPROMISES.includes(command.reason);
   const why = {
-    "activate": "only a Pre-Active key is activated", "set": "dates are set of a Pre-Active or an Active key alone",
+    "activate": "only a Pre-Active key is activated",
+    "set": "dates are set of a Pre-Active or an Active key alone",
     "approve": "a destruction is approved of a Pre-Active, Deactivated or Compromised key: revoke an Active one first",
     "destroy": "a Pre-Active, a Deactivated or a Compromised key is destroyed: revoke an Active one first",
-    "withdraw": "no approval of a destroyed key ends", "remove-custodian": "a destroyed key keeps its custodians",
+    "withdraw": "no approval of a destroyed key ends",
+    "remove-custodian": "a destroyed key keeps its custodians",
     "revoke": isCompromise ? "it is compromised already" : "only an Active key is revoked, but for a compromise",
   }[command.kind];
   return `The key is ${answer.state}, and ${why}.`;

@@ -14,11 +14,12 @@ it:
     other bytes  Schlüssel becomes SchlÃ¼ssel or Schl?ssel
     other marks  quotes, dashes and dots that were typed become typographic ones, and spaces at the ends go
 
-Each such field is printed, with its row (the first after the header row is 1) and its key; so are rows that are keys
-already as they stand, whose import makes a second key, and rows that the register would refuse for their form. With a
-copy of the register (docs/AUDIT.md takes one) it prints the first number that the caller's next import may take. The
-last line is the verdict. The status is 0 where every row is new and would be a request, 1 where not, 2 where a file
-cannot be read.
+Each such field is printed, with its row (the first after the header row is 1) and its key. So are rows that are keys
+already, whose import makes a second key: type, owner, purpose and each date that the row gives are the key's, and of a
+row without dates the key is in use. So are rows that ask for the same key as a row before them, and rows that the
+register would refuse for their form. register_rules.py has to stand beside it. With a copy of the register
+(docs/AUDIT.md takes one) it prints the first number that the caller's next import may take. The last line is the
+verdict. The status is 0 where every row is new and would be a request, 1 where not, 2 where a file cannot be read.
 """
 import argparse
 import collections
@@ -37,10 +38,14 @@ import sys
 import tempfile
 from datetime import datetime
 
+# What is read from beside this file leaves none there.
+sys.dont_write_bytecode = True
+from register_rules import PERIODS, Refused, fitted, moment_of
+
 COLUMNS = "type owner activation protect_stop deactivation purpose".split()
 DATES = COLUMNS[2:5]
-TYPES = ("data-encryption", "authentication", "key-wrapping", "private-signature", "private-authentication",
-         "private-transport", "master")
+WORDS = ("type", "owner", "purpose")
+IN_USE = ("Pre-Active", "Active")
 NAME = re.compile("[A-Za-z0-9._@-]{1,64}")
 MOMENT = re.compile(r"\d{4}-\d\d-\d\dT\d\d:\d\d:\d\dZ")
 CONTROL = re.compile("[\0-\x1f\x7f]")
@@ -146,7 +151,7 @@ def refusals(row):
     if row is None:
         yield "it has another number of fields than the header row"
         return
-    if row["type"] not in TYPES:
+    if row["type"] not in PERIODS:
         yield f"type is {row['type']!r}, which is none of the seven"
     if not NAME.fullmatch(row["owner"]):
         yield f"owner is {row['owner']!r}, which is no name"
@@ -162,9 +167,10 @@ class Keys:
     """The keys of an export, which find a row again."""
 
     def __init__(self, keys):
-        self.keys, self.by_field = keys, collections.defaultdict(list)
-        self.whole = {tuple(key[column] for column in COLUMNS): place for place, key in enumerate(keys)}
+        self.keys, self.by_field, self.by_words = keys, collections.defaultdict(list), collections.defaultdict(list)
         for place, key in enumerate(keys):
+            for date in {"", *(key[column] for column in DATES)}:
+                self.by_words[(*(key[column] for column in WORDS), date)].append(place)
             for column in COLUMNS[1:]:
                 for form in self.forms(key[column]):
                     self.by_field[column, form].append(place)
@@ -175,13 +181,17 @@ class Keys:
         number = number_of(text)
         return {text} | ({decimal.Context(prec=6).plus(number).normalize()} if number is not None else set())
 
-    def same(self, row):
-        """The key that has each field of the row, or None."""
-        place = self.whole.get(tuple(row[column] for column in COLUMNS))
-        if place is None:
-            return None
-        self.taken.add(place)
-        return self.keys[place]
+    def made(self, row):
+        """The key that the row may have made already, or None: each date that it gives is the key's."""
+        given = [column for column in DATES if row[column]]
+        first = row[given[0]] if given else ""
+        for place in self.by_words.get((*(row[column] for column in WORDS), first), ()):
+            key = self.keys[place]
+            is_it = all(row[column] == key[column] for column in given)
+            if is_it and (given or key.get("state", "Active") in IN_USE):
+                self.taken.add(place)
+                return key
+        return None
 
     def likely(self, row, place):
         """The keys that the row may have come from: that at its own place, and those that share most fields with it."""
@@ -225,14 +235,30 @@ class Keys:
 MOST_LIKE = 50
 
 
+def asked_for(row):
+    """The key that a row of the right form asks for: its words, and the dates that it gives or that a period gives."""
+    dates = [moment_of(row[column]) if row[column] else None for column in DATES]
+    with contextlib.suppress(Refused):
+        dates = list(fitted(dates, PERIODS[row["type"]], False).values())
+    return (*(row[column] for column in WORDS), *dates)
+
+
+SORTS = ("changed by a spreadsheet", "there already", "repeated", "of another form", "new")
+
+
 def looked_at(rows, keys):
     """A line for each thing to tell of the rows, and how many rows are of each sort."""
-    counts = collections.Counter()
+    counts, before = collections.Counter(), {}
     for place, row in enumerate(rows):
-        key = keys.same(row) if row else None
+        key = keys.made(row) if row else None
         if key:
             counts["there already"] += 1
-            yield f"row {place + 1}: it is key {key['number']} as it stands, and its import makes a second one"
+            yield f"row {place + 1}: it is key {key['number']} already, and its import makes a second one"
+            continue
+        first = place if row is None or list(refusals(row)) else before.setdefault(asked_for(row), place)
+        if first != place:
+            counts["repeated"] += 1
+            yield f"row {place + 1}: it is row {first + 1} again, and its import makes a second key"
             continue
         key, told = keys.changed(row, place) if row else (None, {})
         for column, how in told.items():
@@ -241,8 +267,7 @@ def looked_at(rows, keys):
         for why in others:
             yield f"row {place + 1}: {why}"
         counts["changed by a spreadsheet" if told else "of another form" if others else "new"] += 1
-    sorts = ("changed by a spreadsheet", "there already", "of another form", "new")
-    yield counts["new"] == len(rows), ", ".join(f"{counts[sort]} {sort}" for sort in sorts)
+    yield counts["new"] == len(rows), ", ".join(f"{counts[sort]} {sort}" for sort in SORTS)
 
 
 def next_first(path, caller):

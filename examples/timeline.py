@@ -274,20 +274,32 @@ class Scale:
             yield f'<text class="year{fewer}" x="{x}%" dx="3" y="16">{year}</text>' if x < 94 else ""
 
 
-def lines_of(key, scale):
-    """A key's line: where it waits, where it may protect data, and where it may only process them."""
-    never = float("inf")
-    begin, stop, end, destroyed, compromised = (never if key[name] is None else key[name] for name in (
+NEVER = float("inf")
+
+
+def spans_of(key):
+    """The spans of a key's line: where it waits for its Activation, where it may protect data, and where it may only
+    process what is protected. A compromise ends the second, a destruction the line. One that ends with no date ends at
+    NEVER. The desk (desk/rules.js) draws by the same rule."""
+    begin, stop, end, destroyed, compromised = (NEVER if key[name] is None else key[name] for name in (
         "activation", "protect_stop", "deactivation", "destroyed", "compromised"))
     last = min(end, destroyed)
     turn = min(max(begin, min(stop, compromised)), last)
-    for kind, one, other in (("wait", key["initial"], min(begin, destroyed, compromised)), ("protect", begin, turn),
-                             ("process", turn, last)):
-        if one < other and (kind == "wait" or begin < never):
-            yield kind, scale.x(one), scale.x(min(other, scale.last))
-    if scale.last < last and begin < never:
+    spans = [("wait", key["initial"], min(begin, destroyed, compromised))]
+    if begin < NEVER:
+        spans += [("protect", begin, turn), ("process", turn, last)]
+    return [(kind, first, until) for kind, first, until in spans if first < until]
+
+
+def lines_of(key, scale):
+    """A key's line in the picture, with an arrow where it goes on beyond."""
+    spans = spans_of(key)
+    for kind, first, until in spans:
+        yield kind, scale.x(first), scale.x(min(until, scale.last))
+    bars = [(first, until) for kind, first, until in spans if kind != "wait"]
+    if bars and scale.last < bars[-1][1]:
         yield ">", 100
-    if begin < scale.first and scale.first < last:
+    if bars and bars[0][0] < scale.first < bars[-1][1]:
         yield "<", 0
 
 

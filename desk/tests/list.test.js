@@ -1,0 +1,62 @@
+// What the desk knows of keys by a list and by what it learnt since, and what is found.
+import assert from "node:assert/strict";
+import {beforeEach, test} from "node:test";
+import {keyAt, known, learnKey, matching, registeredKeys, learnRegistered, requestsOf, take, waiting} from "../list.js";
+import {Store, listOf} from "./shared.js";
+
+const NOW = 1_780_000_000, DAY = 86400;
+const KEY = {type: "master", owner: "Ann.Meyer", purpose: "root", initial: NOW - 900 * DAY};
+const ALL = {text: "", owner: "", type: "", state: "", days: null, waits: false};
+const found = (filter) => matching({...ALL, ...filter}, NOW);
+
+beforeEach(() => {
+  globalThis.sessionStorage = new Store();
+});
+
+test("an owner is found by a part of the name, in whatever case", () => {
+  take(listOf([KEY, {...KEY, owner: "bob"}, {...KEY, owner: "joanna"}]));
+  assert.deepEqual(found({owner: "ANN"}), [1, 3]);
+  assert.deepEqual(found({owner: "ann.meyer"}), [1]);
+  assert.deepEqual(found({owner: "zoe"}), []);
+});
+
+test("all keys are found where nothing is asked, also where others are not known", () => {
+  take(listOf([KEY, KEY]));
+  learnKey({key: {...KEY, number: 9, custodians: [], approvals: [], need: 2}, usage: {}, at: NOW});
+  assert.deepEqual(found({}), [1, 2, 9]);
+  assert.equal(known(), 3);
+  take(listOf([KEY, KEY], {made: NOW + 60}));
+  assert.equal(known(), 2);
+});
+
+test("what is due comes in order of the Protect Stop Dates", () => {
+  const dated = (days) => ({...KEY, activation: NOW - 400 * DAY, protect_stop: NOW + days * DAY,
+    deactivation: NOW + 400 * DAY});
+  take(listOf([dated(50), dated(-5), dated(90), KEY]));
+  assert.deepEqual(found({days: 60}), [2, 1]);
+});
+
+test("a destruction that was begun comes apart from keys that one guards", () => {
+  const custodians = ["bob", "cat"];
+  take(listOf([
+    {...KEY, custodians},
+    {...KEY, custodians, approvals: ["cat"]},
+    {...KEY, custodians, approvals: ["bob"]},
+    {...KEY, owner: "bob", custodians: ["Ann.Meyer", "cat"], approvals: ["Ann.Meyer", "cat"]},
+    {...KEY, custodians, destroyed: NOW - DAY, approvals: ["cat"]},
+  ]));
+  assert.deepEqual(waiting("bob", NOW), {begun: [2], guarded: [1], destroyable: [4]});
+});
+
+test("a key that a row registered is known until the list has it", () => {
+  take(listOf([KEY]));
+  const key = {...KEY, number: 2, activation: null, protect_stop: null, deactivation: null, destroyed: null,
+    compromised: null, custodians: [], approvals: [], need: 2};
+  learnRegistered(key, "ann");
+  assert.equal(keyAt(2, NOW).state, "Pre-Active");
+  assert.deepEqual(requestsOf(2), [{moment: KEY.initial, caller: "ann", text: "register"}]);
+  assert.deepEqual(found({}), [1, 2]);
+  take(listOf([KEY, {...KEY, owner: "bob"}], {made: NOW + 60}));
+  assert.equal(keyAt(2, NOW).owner, "bob");
+  assert.deepEqual(registeredKeys(), []);
+});

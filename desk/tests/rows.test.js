@@ -1,0 +1,89 @@
+// How a table is read, and its rows are judged.
+import assert from "node:assert/strict";
+import {beforeEach, test} from "node:test";
+import {csvOf, records, tableOf} from "../csv.js";
+import {learnRegistered, take} from "../list.js";
+import {judgedRows} from "../rows.js";
+import {Store, cases, listOf} from "./shared.js";
+
+const HEAD = "type,owner,activation,protect_stop,deactivation,purpose";
+const bytes = (text) => new TextEncoder().encode(text);
+const sorts = (rows, caller = "ann") => judgedRows(rows, caller).map(({sort}) => sort);
+
+beforeEach(() => {
+  globalThis.sessionStorage = new Store();
+  take(listOf([]));
+});
+
+test("fields in quotes, blank lines and each line end", () => {
+  assert.deepEqual(records('a,"b ""c"", d"\r\n\n"x\ny",z\r'), [["a", 'b "c", d'], ["x\ny", "z"]]);
+  assert.deepEqual(records("a;b", ";"), [["a", "b"]]);
+});
+
+test("both tables of a spreadsheet are read", () => {
+  const rows = [["master", "ann", "", "", "", "root"]];
+  for (const text of [`${HEAD}\nmaster,ann,,,,root\n`, `\ufeff${HEAD}\r\nmaster,ann,,,,root\r\n`,
+    `\ufeff${HEAD}\nmaster,ann,,,,root\n`.replaceAll(",", ";")]) {
+    assert.deepEqual(tableOf(bytes(text)), {rows});
+  }
+});
+
+test("what is no table is told", () => {
+  assert.match(tableOf(new Uint8Array([255, 254, 65, 0])).fault, /no UTF-8/);
+  assert.match(tableOf(bytes("a,b\n")).fault, /header row is a,b/);
+  assert.match(tableOf(bytes("")).fault, /empty/);
+});
+
+test("what is given back has its reasons, and is a table again", () => {
+  const rows = [["master", "ann", "", "", "", 'a "root", old'], ["master", "ann", "x"]];
+  const text = csvOf(rows, ["refused: DateOrder", "of another form"]);
+  assert.equal(text.split("\n")[0], `${HEAD},reason`);
+  assert.deepEqual(tableOf(bytes(text)).rows, [rows[0], [...rows[1], "", "", ""]]);
+});
+
+const made = cases("made.json");
+for (const [key, rows] of [[made.key, made.rows], [made.ended, made.endedRows]]) {
+  for (const {case: name, row, made: isMade} of rows) {
+    test(`a row of a table that is a key already: ${name}`, () => {
+      take(listOf([key]));
+      assert.equal(sorts([row])[0] === "twice", isMade);
+    });
+  }
+}
+
+test("a row is a key already right after it was registered, also behind the list", () => {
+  const row = ["master", "ann", "2026-02-01T00:00:00Z", "", "", "root"];
+  assert.deepEqual(sorts([row]), ["good"]);
+  const dates = {activation: 1769904000, protect_stop: 1801440000, deactivation: 1801440000};
+  const key = {type: "master", owner: "ann", purpose: "root", initial: 1769904000, ...dates, custodians: [], approvals: [],
+    need: 2};
+  learnRegistered({...key, number: 1}, "ann");
+  assert.deepEqual(sorts([row]), ["twice"]);
+});
+
+test("a row that stands twice in a table is named", () => {
+  const row = ["master", "ann", "2026-02-01T00:00:00Z", "", "", "spare"];
+  const whole = ["master", "ann", "2026-02-01T00:00:00Z", "2027-02-01T00:00:00Z", "2027-02-01T00:00:00Z", "spare"];
+  const judged = judgedRows([row, ["master", "ann", "", "", "", "spare"], row, whole], "ann");
+  assert.deepEqual(judged.map(({sort}) => sort), ["good", "good", "repeated", "repeated"]);
+  assert.match(judged[2].words, /row 1 again/);
+});
+
+test("a wrong row says what is wrong in which field", () => {
+  const [judged] = judgedRows([["Master", "a b", "2026-02-01", "", "", "ü".repeat(150)]], "ann");
+  assert.equal(judged.sort, "wrong");
+  for (const words of [/type is Master/, /owner is a b: a space/, /activation is 2026-02-01/, /300 of 200 bytes/]) {
+    assert.match(judged.words, words);
+  }
+});
+
+test("a table of 20,000 rows is judged beside 20,000 keys within seconds", () => {
+  const rows = Array.from({length: 20_000}, (_, place) => ["master", "ann", "", "", "", `root ${place % 10}`]);
+  const keys = rows.map(([type, owner, , , , purpose]) => ({type, owner, purpose, initial: 1_770_000_000}));
+  take(listOf(keys));
+  const begun = performance.now(), small = judgedRows(rows.slice(0, 2000), "ann");
+  const first = performance.now() - begun, all = judgedRows(rows, "ann");
+  const second = performance.now() - begun - first;
+  assert.ok([...small, ...all].every(({sort}) => sort === "twice"));
+  assert.ok(second < 40 * first + 1000, `2,000 rows took ${first} ms, 20,000 took ${second}`);
+});
