@@ -15,6 +15,7 @@ import sys
 
 TOP = pathlib.Path(__file__).resolve().parent.parent
 DESK = TOP / "desk"
+PATIENCE = 50
 EXPORT = re.compile(r"^export (?:async )?(?:const|let|class|function\*?) (\w+)", re.M)
 IMPORT = re.compile(r"^import \{([^}]*)\} from \"\.\.?/(\w+\.js)\";", re.M)
 
@@ -51,7 +52,11 @@ def tests() -> tuple[int, str]:
     program = shutil.which("node") or shutil.which("nodejs")
     if not program:
         sys.exit("FAILED: node is not installed: apt-get install nodejs")
-    done = subprocess.run([program, "--test", "desk/"], cwd=TOP, capture_output=True, text=True, check=False)
+    try:
+        done = subprocess.run([program, "--test", "desk/"], cwd=TOP, capture_output=True, text=True, check=False,
+                              timeout=PATIENCE)
+    except subprocess.TimeoutExpired as late:
+        return 0, f"no end of the tests in {PATIENCE} s: {(late.stdout or b'')[-2000:].decode(errors='replace')}"
     passed = re.search(r"^(?:#|ℹ) pass (\d+)", done.stdout, re.M)
     count = int(passed[1]) if passed else 0
     return count, "" if done.returncode == 0 and count else done.stdout[-4000:] + done.stderr[-1000:]

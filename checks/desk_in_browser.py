@@ -31,12 +31,9 @@ import collections
 import contextlib
 import os
 import re
-import shutil
-import sqlite3
 import subprocess
 import sys
 import tempfile
-import time
 
 import desk_breaks
 import desk_day
@@ -53,25 +50,15 @@ from register_rules import FORMS
 
 REPLAY = os.path.join(os.path.dirname(os.path.abspath(__file__)), "..", "examples", "replay.py")
 # What Chromium itself writes to the console: of each refusal, and of what was broken on purpose.
-BY_STATUS = re.compile(r"\S+/(requests|keys/\d+(/usage)?|list\.json|favicon\.ico|me|sign-out\?user=\w+) - Failed to load resource: "
-                       r"(the server responded with a status of (40[0149]|412|50[023]) .*|net::ERR_[A-Z_]+)")
+BY_STATUS = re.compile(r"\S+/(requests|keys/\d+(/usage)?|list\.json|favicon\.ico|me|sign-out\?user=\w+|chromewebdata/) - "
+                       r"Failed to load resource: (the server responded with a status of (40[0149]|412|50[023]) .*|net::ERR_[A-Z_]+)")
 
 
-def copied(desk, folder):
-    """A copy of the register and its log, while nothing is sent."""
-    other = os.path.join(folder, f"copy-{time.monotonic_ns()}.keyreg")
-    for end in ("", "-wal"):
-        shutil.copyfile(desk.file + end, other + end)
-    return other
-
-
-def compared(desk, readers, folder, made=()):
+def compared(desk, readers, made=()):
     """Compares the register with what the pages said; how many requests it has."""
-    copy = copied(desk, folder)
-    done = subprocess.run([sys.executable, "-B", REPLAY, copy], capture_output=True, text=True, check=False)
+    done = subprocess.run([sys.executable, "-B", REPLAY, desk.copy()], capture_output=True, text=True, check=False)
     expect(done.returncode == 0, f"replay.py: {done.stdout}{done.stderr}")
-    with contextlib.closing(sqlite3.connect(copy)) as connection:
-        rows = connection.execute("SELECT caller, number, command FROM request").fetchall()
+    rows = desk.requests()
     said = [request for reader in readers for request in reader.said] + list(made)
     kept = {(caller, number): command for caller, number, command in rows}
     for caller, number, command in said:
@@ -108,16 +95,16 @@ def least(folder):
             readers.append(Reader(desk, name))
             stack.callback(readers[-1].close)
         desk_day.destroyed(*readers)
-        count = compared(desk, readers, folder)
+        count = compared(desk, readers)
         quiet(readers)
     return f"a key is registered, approved by two and destroyed in {count} requests, as the pages said"
 
 
-def listed(desk, ann, folder):
+def listed(desk, ann):
     """What the page did stands over a list that is older, before and after a reload, and the newer list says the
     same."""
     for turn in range(3):
-        desk_day.finds(ann, copied(desk, folder))
+        desk_day.finds(ann, desk.copy())
         if turn == 1:
             desk.list()
         ann.reload()
@@ -128,7 +115,8 @@ def pictured(folder, place):
     with contextlib.ExitStack() as stack:
         desk = Desk(folder, EXAMPLE)
         stack.callback(desk.close)
-        reader = Reader(desk, "ann")
+        # In a zone as many readers have it.
+        reader = Reader(desk, "ann", zone="Europe/Berlin")
         stack.callback(reader.close)
         reader.key(1)
         desk_looks.as_seen(reader, 900, 1000)
@@ -157,7 +145,7 @@ def day_of_all(readers, folder):
     desk_day.whole_day(readers, folder)
     given = {command.split(" ")[0] for reader in readers.values() for _, _, command in reader.said}
     expect(given == set(FORMS), f"the day of the pages lacks {set(FORMS) - given}")
-    listed(ann.desk, ann, folder)
+    listed(ann.desk, ann)
     print(f"{desk_sheets.all_tables(bob, folder)} fields that a spreadsheet changed are told")
 
 
@@ -183,7 +171,7 @@ def whole(folder, screens, parts, rows):
             desk_typed.all_typed(readers)
         if "tables" in parts:
             print(desk_tables.all_taken(readers["cat"], folder, rows))
-        count = compared(desk, readers.values(), folder)
+        count = compared(desk, readers.values())
         if "looks" in parts:
             ann = readers["ann"]
             desk_day.register(ann, "key-wrapping", "ann", "a key that is looked at", desk_day.day(-9), "", "")
@@ -192,7 +180,7 @@ def whole(folder, screens, parts, rows):
             ann.open("table")
             ann.one(".buttons button", lambda button: button.text == "Put the table away").click()
             number += desk_screens.all_screens(readers, folder, screens)
-            count = compared(desk, readers.values(), folder)
+            count = compared(desk, readers.values())
             print(f"{number} parts of {len(PAGES)} pages and three screens of them have their names and roles, "
                   "each at three widths")
         quiet(readers.values())

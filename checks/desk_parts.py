@@ -8,7 +8,9 @@ import contextlib
 import json
 import os
 import re
+import shutil
 import socket
+import sqlite3
 import struct
 import subprocess
 import sys
@@ -154,6 +156,18 @@ class Desk:
         expect(done.returncode == 0, f"list.py: {done.stderr}")
         return done.stdout
 
+    def copy(self):
+        """A copy of the register and its log, while nothing is sent."""
+        place = f"{self.file}-copy-{time.monotonic_ns()}"
+        for end in ("", "-wal"):
+            shutil.copyfile(self.file + end, place + end)
+        return place
+
+    def requests(self):
+        """The caller, the number and the command of each accepted request, in their order."""
+        with contextlib.closing(sqlite3.connect(self.copy())) as connection:
+            return connection.execute("SELECT caller, number, command FROM request ORDER BY rowid").fetchall()
+
     def close(self):
         self.kill()
         self.line.close()
@@ -163,7 +177,7 @@ class Desk:
 class Reader:
     """A browser of a user of the desk. What the page says of requests is written down in `said`."""
 
-    def __init__(self, desk, user, width=1000, height=1400):
+    def __init__(self, desk, user, width=1000, height=1400, zone=ZONE):
         self.desk, self.user, self.said = desk, user, []
         self.place = f"http://{HOST}:{desk.line.port}/"
         words = webdriver.ChromeOptions()
@@ -171,7 +185,7 @@ class Reader:
                      f"--host-resolver-rules=MAP {HOST} 127.0.0.1, MAP * ~NOTFOUND", f"--window-size={width},{height}"):
             words.add_argument(word)
         words.set_capability("goog:loggingPrefs", {"browser": "ALL", "performance": "ALL"})
-        os.environ["TZ"] = ZONE
+        os.environ["TZ"] = zone
         self.driver = webdriver.Chrome(service=Service("/usr/bin/chromedriver"), options=words)
         # The password is given once, as a person types it; then the page is opened by its own address.
         self.driver.get(f"http://{user}:{PASSWORDS[user]}@{HOST}:{desk.line.port}/me")

@@ -8,13 +8,14 @@ import time
 from desk_day import HEAD, chosen, day, put_away, second
 from registers import expect
 
-COUNTS = "{} rows, judged before they are sent: {} would be accepted, {} refused, {} of another form, {} there already, " \
-         "{} repeated, 0 changed by a spreadsheet"
+SORTS = ("would be accepted", "refused", "of another form", "there already", "repeated", "changed by a spreadsheet")
 
 
-def judged(reader, *counts):
-    reader.wait(lambda: COUNTS.format(*counts) in reader.text(),
-                f"the rows are not {COUNTS.format(*counts)}: {reader.text()[:600]}", 60)
+def judged(reader, rows, *counts):
+    """So many rows are shown, and so many of each sort."""
+    sorts = ", ".join(f"{count} {sort}" for count, sort in zip((*counts, 0), SORTS))
+    words = f"{rows} row{'s' * (rows != 1)}, judged before they are sent: {sorts}"
+    reader.wait(lambda: words in reader.text(), f"the rows are not {words}: {reader.text()[:600]}", 60)
 
 
 def sent(reader, rows, patience=300):
@@ -71,14 +72,13 @@ def all_reached(reader, folder):
     expect(len(reader.find("table.rows tbody tr")) == 300, "not all rows are reached")
     place = reader.run("return document.activeElement.closest('tr')?.querySelector('th')?.textContent")
     expect(place == "199", f"the focus is at row {place}, and the first that came is 199")
-    view = reader.one(".field select")
-    view.send_keys("of another form")
+    reader.fill(reader.one("main"), "Rows shown", "wrong")
     reader.wait(lambda: [row.text for row in reader.find("table.rows tbody th")] == ["260"], "the filter does not hold")
     expect("Master, which is none of the seven" in reader.text("table.rows"), reader.text("table.rows"))
-    view.send_keys("refused")
+    reader.fill(reader.one("main"), "Rows shown", "refused")
     reader.wait(lambda: [row.text for row in reader.find("table.rows tbody th")] == ["250"], "the filter does not hold")
     reader.one(".marks button", lambda button: button.text == "Send these 1").click()
-    view.send_keys("would be accepted")
+    reader.fill(reader.one("main"), "Rows shown", "good")
     reader.wait(lambda: len(reader.find("table.rows tbody th")) == 200, "the filter does not hold")
     reader.one(".marks button", lambda button: button.text == "Leave these out").click()
     sent(reader, 1)
@@ -102,17 +102,17 @@ LEAVES = "const event = new Event('beforeunload', {cancelable: true}); dispatchE
 def asks_before(reader, folder):
     """A page is left without asking; with a table half sent it asks."""
     expect(not reader.run(LEAVES), "the page asks before anything is sent")
-    chosen(reader, folder, HEAD + "".join(f"master,ann,,,,half sent {place}\n" for place in range(400)))
-    judged(reader, 400, 400, 0, 0, 0, 0)
+    chosen(reader, folder, HEAD + "".join(f"master,ann,,,,half sent {place}\n" for place in range(120)))
+    judged(reader, 120, 120, 0, 0, 0, 0)
     expect(not reader.run(LEAVES), "the page asks before a row is sent")
     reader.one(".buttons button.send").click()
     reader.one(".buttons button", lambda button: button.text == "Stop").click()
     reader.one(".buttons button", lambda button: button.text == "Go on")
     accepted = reader.run("return [...document.querySelectorAll('.progress .count')][0].textContent").split(" ")[0]
-    expect(0 < int(accepted) < 400 and reader.run(LEAVES), f"{accepted} of 400 rows are sent, and the page does not ask")
+    expect(0 < int(accepted) < 120 and reader.run(LEAVES), f"{accepted} of 120 rows are sent, and the page does not ask")
     reader.one(".buttons button", lambda button: button.text == "Go on").click()
-    reader.wait(lambda: "400 of 400 rows answered" in reader.text(".progress"), "the rest is not sent", 200)
-    reader.said += [(reader.user, None, f"register master ann - - - half sent {place}") for place in range(400)]
+    reader.wait(lambda: "120 of 120 rows answered" in reader.text(".progress"), "the rest is not sent", 200)
+    reader.said += [(reader.user, None, f"register master ann - - - half sent {place}") for place in range(120)]
     reader.wait(lambda: not reader.run(LEAVES), "the page asks when all is sent")
     put_away(reader)
 
@@ -139,7 +139,7 @@ def full_store(reader, folder):
 def long_table(reader, folder, count):
     """Rows a second at the beginning and at the end of a long table, and the letters that it takes in the store. Each row
     is one request."""
-    rows = [f"data-encryption,ann,{day(-5)}Z,,,disks of the long table {place}, hall {place % 97}" for place in range(count)]
+    rows = [f"data-encryption,ann,{day(-5)}Z,,,disks of the long table {place} in hall {place % 97}" for place in range(count)]
     chosen(reader, folder, HEAD + "\n".join(rows) + "\n")
     judged(reader, count, count, 0, 0, 0, 0)
     reader.logs()
@@ -156,8 +156,8 @@ def long_table(reader, folder, count):
     letters = reader.run("return Object.values(sessionStorage).reduce((sum, text) => sum + text.length, 0)")
     expect(letters < 150 * count, f"the store has {letters} letters of a table of {count} rows")
     expect(min(taken) >= 10 and taken[-1] >= taken[0] / 2, f"rows a second by quarters: {taken}")
-    reader.said += [(reader.user, None, f"register data-encryption ann {second(day(-5))} - - disks of the long table {place}, "
-                     f"hall {place % 97}") for place in range(count)]
+    reader.said += [(reader.user, None, f"register data-encryption ann {second(day(-5))} - - disks of the long table {place} "
+                     f"in hall {place % 97}") for place in range(count)]
     put_away(reader)
     return f"{count} rows were sent at {taken[0]:.0f} a second at first and {taken[-1]:.0f} at the end; the store has " \
            f"{letters} letters"

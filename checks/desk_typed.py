@@ -1,6 +1,7 @@
 """What was typed stays and is helped: a refusal leaves a form as it was, half a date is no date, a wrong value says
 what is wrong in it, names are offered and a new one is confirmed, and the focus is where the next key is typed. What
 is seen of keys stands whole, in its order, and says what is overdue."""
+import re
 import time
 
 from desk_day import day, refused, register
@@ -12,7 +13,9 @@ LONG = "signing of the firmware images of the metering gateways, field trial of 
 
 
 def value_of(reader, form, name):
-    return reader.run("return arguments[0].elements[arguments[1]].value", form, name)
+    """The value of a field; a browser leaves seconds out that are none."""
+    value = reader.run("return arguments[0].elements[arguments[1]].value", form, name)
+    return f"{value}:00" if re.fullmatch(r"\d{4}-\d\d-\d\dT\d\d:\d\d", value) else value
 
 
 def stays(reader):
@@ -84,6 +87,7 @@ def wrong_values(reader):
 
 def names_offered(reader, key):
     """Names that are known are offered. An unknown one is said, and not sent until it is confirmed."""
+    register(reader, "master", "bob", "a key of another owner")
     reader.desk.list()
     reader.reload()
     reader.key(key)

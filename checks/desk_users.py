@@ -1,7 +1,8 @@
 """Who sends: a browser has one password for all its pages. Where another user's is given in it, the page that shows the
 first one sends nothing more, and what waited acts once, for its own user. Signing out makes the browser forget."""
+import base64
 import contextlib
-import sqlite3
+import http.client
 
 from behind_nginx import HOST
 from desk_breaks import waits
@@ -12,13 +13,15 @@ from registers import expect
 
 def requests_of(desk):
     """The caller and the command of each accepted request, in their order."""
-    with contextlib.closing(sqlite3.connect(f"file:{desk.file}?mode=ro", uri=True)) as connection:
-        return connection.execute("SELECT caller, command FROM request ORDER BY rowid").fetchall()
+    return [(caller, command) for caller, _, command in desk.requests()]
 
 
-def logs_in_beside(reader, user):
-    """Another page of the same browser is given another user's password."""
+def logs_in_beside(reader, user, is_seen=False):
+    """Another page of the same browser is given another user's password. `is_seen` is whether the first page knows that
+    it was left meanwhile."""
     first = reader.driver.current_window_handle
+    if not is_seen:
+        reader.run("document.addEventListener('visibilitychange', (event) => event.stopImmediatePropagation(), true)")
     reader.driver.switch_to.new_window("tab")
     reader.driver.get(f"http://{user}:{PASSWORDS[user]}@{HOST}:{reader.desk.line.port}/me")
     expect(reader.text("body") == user, f"the other page is of {reader.text('body')!r}")
@@ -51,8 +54,7 @@ def other_beside(reader):
     expect(requests_of(reader.desk) == before, f"accepted was {requests_of(reader.desk)[len(before):]}")
     goes_on_as(reader, "office")
     expect(f"It is of the user {reader.user}" in reader.text("#kept"), "whose request waits is not said")
-    logs_in_beside(reader, reader.user)
-    reader.open("periods")
+    logs_in_beside(reader, reader.user, is_seen=True)
     reader.wait(lambda: reader.find("#other button"), "the page of the office goes on as another user")
     goes_on_as(reader, reader.user)
     is_accepted, words = reader.answer(f"register master {reader.user} - - - in whose name")
@@ -93,14 +95,28 @@ def before_a_page(reader):
     reader.reload()
 
 
+def asked_to_sign_out(desk, user, leaves):
+    """The status and the text of what nginx answers a user whose browser asks to sign another one out, or the same."""
+    connection = http.client.HTTPConnection("127.0.0.1", desk.line.port, timeout=60)
+    token = base64.b64encode(f"{user}:{PASSWORDS[user]}".encode()).decode()
+    connection.request("GET", f"/sign-out?user={leaves}", headers={"Host": HOST, "Authorization": f"Basic {token}"})
+    with contextlib.closing(connection):
+        reply = connection.getresponse()
+        return reply.status, reply.read().decode()
+
+
 def signs_out(reader):
     """The browser forgets the password, and another user's leads on to the desk."""
+    status, text = asked_to_sign_out(reader.desk, reader.user, reader.user)
+    expect(status == 401 and "You are signed out" in text, f"signing out is answered {status}: {text}")
+    status, text = asked_to_sign_out(reader.desk, "office", reader.user)
+    expect(status == 303, f"another user who signs in there gets {status}: {text}")
     reader.open("find")
-    expect("Sign out" in reader.text("header"), "no way to sign out is seen")
-    reader.one("#who a").click()
-    reader.wait(lambda: "You are signed out" in reader.text("body"), "it is not said that the user is signed out")
+    reader.one("#who a", lambda link: link.text == "Sign out").click()
+    # The browser asks for another password over an empty page, which is left unanswered here.
+    reader.wait(lambda: "You:" not in reader.text("body"), "the page stands as it was")
     reader.driver.get(f"{reader.place}me")
-    expect(reader.text("body") != reader.user, "the browser still knows the password")
+    expect(reader.user not in reader.text("body"), "the browser still knows the password")
     reader.driver.get(f"http://office:{PASSWORDS['office']}@{HOST}:{reader.desk.line.port}/sign-out?user={reader.user}")
     reader.wait(lambda: "You: office" in reader.text("#who"), "another user does not come to the desk")
     reader.driver.get(f"http://{reader.user}:{PASSWORDS[reader.user]}@{HOST}:{reader.desk.line.port}/me")

@@ -58,6 +58,8 @@ PARTS = (
     Part("killed_migrations.py 16", 90),
     Part("killed_runs.py 20", 90),
     Part("documents.py", 90),
+    Part("desk_code.py", 60),
+    Part("desk_rules.py", 60),
     Part("every_command.py", 30),
     Part("read_export.py", 30),
     Part("given.py", 30),
@@ -71,7 +73,7 @@ PARTS = (
 COMMANDS = {
     "bash": "bash", "chromedriver": "chromium-driver", "chromium": "chromium", "cmp": "diffutils",
     "curl": "curl", "gcc": "gcc libc6-dev", "groff": "groff-base", "mandoc": "mandoc",
-    "nginx": "nginx-light", "openssl": "openssl", "sqlite3": "sqlite3", "strace": "strace",
+    "nginx": "nginx-light", "node": "nodejs", "openssl": "openssl", "sqlite3": "sqlite3", "strace": "strace",
 }
 MODULES = {"jsonschema": "python3-jsonschema", "selenium": "python3-selenium", "yaml": "python3-yaml"}
 # Debian's modules belong to its own interpreter.

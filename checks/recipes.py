@@ -57,7 +57,7 @@ KINDS = (
         "they stand for their shapes": "*/Commands.antt",
         "their refusals": "*/CustodyRefusal.antt crates/register_core/src/decision.rt",
         "any command would do": "crates/test_desk_trials/src/desks.rt docs/COSTS.md "
-                                "checks/desk_keyboard.py checks/desk_screens.py",
+                                "checks/desk_keyboard.py",
     }),
     Kind("Add a shape of fields", r"\bTypeAndPeriod\b|type_and_period|\bDateEdits\b", {
         "the kinds that have it": "*/CommandKind.antt */command_fields.rt",
