@@ -127,9 +127,9 @@ fi
 # ---- an office gets up again after each accident, by the blocks of OPERATING
 file=/var/lib/keyreg/office.keyreg
 post() { # post CALLER NUMBER COMMAND: a request that is accepted.
-    local told
-    told=$(curl -s -m 20 http://127.0.0.1:8420/requests -H "Caller: $1" -H "Request-Number: $2" -d "$3")
-    [[ $told == *'"moment":'* ]] || echo "FAILED $1 $2 $3: $told"
+    local reply
+    reply=$(curl -s -m 20 http://127.0.0.1:8420/requests -H "Caller: $1" -H "Request-Number: $2" -d "$3")
+    [[ $reply == *'"moment":'* ]] || echo "FAILED $1 $2 $3: $reply"
 }
 requests_of() { # Of a register that nobody writes to at the moment.
     local folder
