@@ -35,7 +35,8 @@ Description=What is tried
 [Service]
 Type=oneshot
 TimeoutStartSec=infinity
-ExecStart=/bin/bash -c '/bin/bash /tried.sh @PARTS@ > /tried.log 2>&1; echo end >> /tried.log; systemctl poweroff --force'
+ExecStart=/bin/bash -c '/bin/bash /tried.sh @PARTS@ > /tried.log 2>&1; echo end >> /tried.log'
+ExecStart=/bin/systemctl poweroff --force
 """
 SECONDS = 900
 
