@@ -329,7 +329,7 @@ def browsed(root: pathlib.Path, units: pathlib.Path) -> None:
         reader.run("sessionStorage.clear()")
         reader.open("find")
         reader.reload()
-        reader.wait(lambda: f"{number} of {number} keys" in reader.text(), "the list does not come")
+        reader.wait(lambda: f"{number} of {number} key" in reader.text(), "the list does not come")
         fault(USER in reader.text("body"), f"the page does not name {USER}")
     finally:
         reader.close()
