@@ -6,17 +6,23 @@ the register takes the same requests, with a foreign host and a forged name, as 
 before it sends another page's request it refuses. The desk, the user's name and the list are for users alone, and the
 desk comes with its content policy.
 
+All of it is tried twice: with the file as it stands, and by TLS, after the edit that the file's head names, with a
+certificate that is made here. By TLS a client that names another host in its first message gets no connection.
+
     checks/behind_nginx.py
 
-It needs Debian's nginx, and installs nginx-light where it is root. Build the program first: ./keyreg </dev/null
+It needs Debian's nginx, and installs nginx-light where it is root, and openssl. Build the program first:
+./keyreg </dev/null
 """
 import base64
 import json
 import os
 import pathlib
+import re
 import shutil
 import socket
 import sqlite3
+import ssl
 import subprocess
 import tempfile
 import time
@@ -51,20 +57,43 @@ def program():
     return found
 
 
+def certified(folder):
+    """A certificate for the host and its key, in the folder."""
+    done = subprocess.run(["openssl", "req", "-x509", "-newkey", "rsa:2048", "-nodes", "-days", "2", "-subj", f"/CN={HOST}",
+                           "-addext", f"subjectAltName=DNS:{HOST}", "-keyout", f"{folder}/key.pem", "-out",
+                           f"{folder}/certificate.pem"], capture_output=True, text=True, check=False)
+    expect(done.returncode == 0, f"openssl: {done.stderr}")
+
+
+def by_tls(text, folder):
+    """The file after the edit that its head names."""
+    edit = re.search(r"(?m)^# +(sed -i .*) /etc/nginx/conf\.d/keyreg\.conf$", text)
+    expect(edit, f"{CONF.name} names no edit for TLS")
+    place = pathlib.Path(folder, "edited.conf")
+    place.write_text(text, encoding="ascii")
+    subprocess.run(["sh", "-c", f'{edit[1]} "$0"', place], check=True)
+    return place.read_text(encoding="ascii")
+
+
 class Guard:
     """nginx with the example's file, on ports of its own. The desk's list is handed out of the folder's `list`."""
 
-    def __init__(self, register_port, words=None):
-        self.port, self.folder = free_port(), tempfile.TemporaryDirectory()
+    def __init__(self, register_port, words=None, tls=False):
+        self.port, self.folder, self.tls = free_port(), tempfile.TemporaryDirectory(), tls
         folder = self.folder.name
         # nginx reads the list and the desk as another user.
         os.chmod(folder, 0o755)
         self.list_folder = os.path.join(folder, "list")
         os.mkdir(self.list_folder)
-        text = CONF.read_text(encoding="ascii")
-        for old, new in (("8420", str(register_port)), ("8421", str(self.port)),
-                         ("/etc/nginx/keyreg.users", f"{folder}/users"), ("/usr/local/share/keyreg/desk", str(DESK)),
-                         ("/var/lib/keyreg-list", self.list_folder)):
+        text, listens_at = CONF.read_text(encoding="ascii"), [("127.0.0.1:8421", f"127.0.0.1:{self.port}")]
+        if tls:
+            certified(folder)
+            text = by_tls(text, folder)
+            listens_at = [("listen 443", f"listen 127.0.0.1:{self.port}"),
+                          ("/etc/ssl/certs/keyreg.pem", f"{folder}/certificate.pem"),
+                          ("/etc/ssl/private/keyreg.pem", f"{folder}/key.pem")]
+        for old, new in (*listens_at, ("8420", str(register_port)), ("/etc/nginx/keyreg.users", f"{folder}/users"),
+                         ("/usr/local/share/keyreg/desk", str(DESK)), ("/var/lib/keyreg-list", self.list_folder)):
             expect(old in text, f"no {old} in {CONF.name}")
             text = text.replace(old, new)
         users = "".join(f"{name}:{{PLAIN}}{word}\n" for name, word in (words or USERS).items())
@@ -78,6 +107,15 @@ class Guard:
             expect(time.monotonic() < late, "nginx does not listen")
             time.sleep(0.01)
 
+    def connected(self, name=HOST):
+        """A connection to it, by TLS with this name in its first message."""
+        connection = socket.create_connection(("127.0.0.1", self.port), timeout=PATIENCE)
+        if not self.tls:
+            return connection
+        context = ssl.create_default_context(cafile=f"{self.folder.name}/certificate.pem")
+        context.check_hostname = name == HOST
+        return context.wrap_socket(connection, server_hostname=name)
+
     def __enter__(self):
         return self
 
@@ -88,9 +126,14 @@ class Guard:
         self.folder.cleanup()
 
 
-def asked(port, given):
+def connected(place):
+    """A connection to a guard, or to a port."""
+    return socket.create_connection(("127.0.0.1", place), timeout=PATIENCE) if type(place) is int else place.connected()
+
+
+def asked(place, given):
     """The status, the body's name or value, and the head of the reply to these bytes."""
-    with socket.create_connection(("127.0.0.1", port), timeout=PATIENCE) as connection:
+    with connected(place) as connection:
         connection.sendall(given)
         reply = received(connection)
     lines, _, body = reply.partition(b"\r\n\r\n")
@@ -98,12 +141,12 @@ def asked(port, given):
     return int(lines.split()[1]), json.loads(body) if is_json else None, lines.decode().lower()
 
 
-def posted(port, body, *fields, user=None, word=None, host=HOST):
+def posted(place, body, *fields, user=None, word=None, host=HOST):
     given = json.dumps(body).encode()
     if user:
         token = base64.b64encode(f"{user}:{word or USERS[user]}".encode()).decode()
         fields = (*fields, f"Authorization: Basic {token}")
-    return asked(port, head("POST /requests HTTP/1.1", f"Host: {host}", *fields, f"Content-Length: {len(given)}",
+    return asked(place, head("POST /requests HTTP/1.1", f"Host: {host}", *fields, f"Content-Length: {len(given)}",
                             "Connection: close") + given)
 
 
@@ -112,19 +155,19 @@ def behind(guard):
     forged = ("Caller: office", "caller: office")
     number = iter(f"Request-Number: {place}" for place in range(1, 99))
     for user, word in ((None, None), ("office", "another"), ("nobody", "desk")):
-        status, told, _ = posted(guard.port, PERIOD, *forged, next(number), user=user, word=word)
+        status, told, _ = posted(guard, PERIOD, *forged, next(number), user=user, word=word)
         expect((status, told) == (401, None), f"{user} with {word}: {status}, {told}")
-    status, told, _ = posted(guard.port, PERIOD, *forged, next(number), user="alice.meyer")
+    status, told, _ = posted(guard, PERIOD, *forged, next(number), user="alice.meyer")
     expect((status, told) == (409, {"name": "NotOffice", "refused": 21}), f"a forged caller: {status}, {told}")
-    status, told, _ = posted(guard.port, KEY, "Caller: bob", next(number), user="alice.meyer")
+    status, told, _ = posted(guard, KEY, "Caller: bob", next(number), user="alice.meyer")
     expect(status == 200 and told["key"] == 1, f"alice.meyer registers: {status}, {told}")
-    for host in ("evil.example", "127.0.0.1", f"127.0.0.1:{guard.port}", "evil.example:80"):
-        status, told, _ = posted(guard.port, PERIOD, next(number), user="office", host=host)
-        expect((status, told) == (421, None), f"the host {host}: {status}, {told}")
-    status, _, lines = asked(guard.port, head("OPTIONS /requests HTTP/1.1", f"Host: {HOST}", "Origin: http://evil.example",
+    for host in ("evil.example", "127.0.0.1", f"127.0.0.1:{guard.port}", "evil.example:80", f"{HOST}.evil.example"):
+        status, told, _ = posted(guard, PERIOD, next(number), user="office", host=host)
+        expect((status, told) == (421, None), f"the host {host}{' by TLS' * guard.tls}: {status}, {told}")
+    status, _, lines = asked(guard, head("OPTIONS /requests HTTP/1.1", f"Host: {HOST}", "Origin: http://evil.example",
                                               "Access-Control-Request-Method: POST", "Connection: close"))
     expect(status == 401 and "access-control" not in lines, f"a preflight: {status}, {lines}")
-    status, told, _ = posted(guard.port, PERIOD, "Caller: alice.meyer", next(number), user="office")
+    status, told, _ = posted(guard, PERIOD, "Caller: alice.meyer", next(number), user="office")
     expect((status, told["key"]) == (200, 0), f"the office: {status}, {told}")
 
 
@@ -132,7 +175,7 @@ def got(guard, path, user=None, word=None):
     """The status, the head and the body of what a GET of the path brings."""
     token = base64.b64encode(f"{user}:{word or USERS.get(user, '')}".encode()).decode()
     fields = [f"Authorization: Basic {token}"] if user else []
-    with socket.create_connection(("127.0.0.1", guard.port), timeout=PATIENCE) as connection:
+    with guard.connected() as connection:
         connection.sendall(head(f"GET {path} HTTP/1.1", f"Host: {HOST}", "Connection: close", *fields))
         reply = received(connection)
     lines, _, body = reply.partition(b"\r\n\r\n")
@@ -158,12 +201,12 @@ def desk(guard):
 
 def stalled(guard):
     """A client that sends half a body holds up nobody."""
-    with socket.create_connection(("127.0.0.1", guard.port), timeout=PATIENCE) as connection:
+    with guard.connected() as connection:
         token = base64.b64encode(b"office:desk").decode()
         connection.sendall(head("POST /requests HTTP/1.1", f"Host: {HOST}", f"Authorization: Basic {token}",
                                 "Request-Number: 50", "Content-Length: 100") + b'{"kind"')
         begun = time.monotonic()
-        status, told, _ = posted(guard.port, {"kind": "advance"}, "Request-Number: 51", user="office")
+        status, told, _ = posted(guard, {"kind": "advance"}, "Request-Number: 51", user="office")
         expect(status == 200 and time.monotonic() - begun < 5, f"beside a client that stalls: {status}, {told}")
 
 
@@ -180,21 +223,42 @@ def without(port):
     expect(status == 400, f"a request of a page that may set no header: {status}, {told}")
 
 
-def main():
+def other_names(guard):
+    """By TLS who names another host in the first message, or none, gets no connection; without TLS nothing is given."""
+    for name in ("evil.example", f"{HOST}.evil.example", None):
+        try:
+            guard.connected(name).close()
+        except ssl.SSLError:
+            continue
+        expect(False, f"by TLS {name or 'a client that names no host'} is connected")
+    status, _, _ = asked(guard.port, head("GET /me HTTP/1.1", f"Host: {HOST}", "Connection: close"))
+    expect(status == 400, f"without TLS the port of TLS answers {status}")
+
+
+def tried(tls):
+    """What reaches a register by way of nginx, and beside it."""
     with Served() as served:
-        with Guard(served.port) as guard:
+        with Guard(served.port, tls=tls) as guard:
             behind(guard)
             stalled(guard)
             desk(guard)
+            if tls:
+                other_names(guard)
         without(served.port)
         served.process.kill()
         served.process.wait()
         with sqlite3.connect(served.file) as connection:
             rows = connection.execute("SELECT caller, number FROM request ORDER BY rowid").fetchall()
         connection.close()
-    wanted = [("alice.meyer", 5), ("office", 10), ("office", 51), ("office", 60)]
+    wanted = [("alice.meyer", 5), ("office", 11), ("office", 51), ("office", 60)]
     expect(rows == wanted, f"accepted were {rows}, not {wanted}")
-    print("behind nginx a caller is the user who sent the request, and a foreign host is refused; without it both are taken")
+
+
+def main():
+    tried(tls=False)
+    tried(tls=True)
+    print("behind nginx, without TLS and by it, a caller is the user who sent the request, and a foreign host is refused; "
+          "without it both are taken")
 
 
 if __name__ == "__main__":

@@ -287,7 +287,8 @@ def path_faults():
             plain = re.sub(r"\[[^]]*\]\([^)]*\)|^\[.*\]: .*", "", line)
             named = re.findall(FILE, plain)
             named += [text.split()[0] for text in QUOTED.findall(line) if FOLDER.match(text)]
-            named = [text for text in named if "<" not in text and ">" not in text]
+            # A whole path is the machine's.
+            named = [text for text in named if "<" not in text and ">" not in text and not text.startswith("/")]
             count += len(targets) + len(named)
             told = [link_fault(document, target) for target in targets]
             told += [f"no file {text}" for text in dict.fromkeys(named)

@@ -3,32 +3,46 @@
 
     checks/packaged.py [--base FOLDER] [--mirror URL]
 
-As root, with debootstrap, lintian, strace, systemd, tmux and binutils of Debian (`apt-get install
-debootstrap lintian strace systemd tmux binutils zsh fish`). The root is Debian's base, which debootstrap
-fetches, or a copy of FOLDER with the packages of MORE. `./package` is called first, of the program that
-is built or of KEYREG.
+As root, with debootstrap, lintian, strace, systemd, tmux, binutils and a browser of Debian (`apt-get install
+debootstrap lintian strace systemd tmux binutils zsh fish chromium chromium-driver python3-selenium nginx-light`).
+The root is Debian's base, which debootstrap fetches, or a copy of FOLDER with the packages of MORE.
+`./package` is called first, of the program that is built or of KEYREG.
 
 What is asked: lintian has no error; the package installs; the program is in the path there and runs the
 worked first row; `man keyreg` shows its page; bash, zsh and fish of the root complete (`checks/completed.py`);
 the package needs the libraries that the program loads and no more; one exchange is served; the service's
 exposure is at most 1.5 by systemd, and each call of the system that a served life makes is one that the
 service may make; the pages name no file that is not there, and the commands of the installed README,
-OPERATING and AUDIT print there what stands there; after the removal no file is there that was not before.
-The tar file leaves the folders of /usr/local their owners and modes, runs and completes, and goes by the
-words of OPERATING. And the completions have the options of `--help`.
+OPERATING and AUDIT print there what stands there; the desk is set up by the words of the installed OPERATING,
+and a user who is added so registers a key in a browser and finds it; after the removal, by the words too, no
+file is there that was not before. The tar file leaves the folders of /usr/local their owners and modes, runs
+and completes, its desk is set up and used likewise, and it goes by the words of OPERATING. And the completions
+have the options of `--help`.
+
+From the base on all is in a network of its own, in which the ports of the units and of nginx are free.
 """
 import argparse
+import contextlib
+import ctypes
+import fcntl
+import os
 import pathlib
+import pty
 import re
 import shutil
 import socket
+import struct
 import subprocess
 import sys
 import tempfile
+import time
+import types
 
 import commands
 import completed
+from in_systemd import blocks_of
 from registers import PROGRAM
+from serving import listens
 
 TOP = pathlib.Path(__file__).resolve().parent.parent
 sys.path.insert(0, str(TOP / "examples"))
@@ -36,9 +50,10 @@ from client import Client  # noqa: E402
 
 PACKAGES = TOP / "packages"
 TOOLS = ("debootstrap", "lintian", "strace", "systemd-analyze", "tmux", "readelf", "zsh", "fish", "dpkg-deb")
-MORE = "man-db,bash-completion,zsh,fish,python3,sqlite3,curl"
-# What dpkg and man keep of their own, which no package can take away.
-OWN = re.compile(r"/var/(lib/dpkg/|log/|cache/(man|debconf|ldconfig)/)|/etc/ld\.so\.cache$|/(proc|sys|dev|tmp|run)/")
+MORE = "man-db,bash-completion,zsh,fish,python3,sqlite3,curl,systemd,nginx-light,openssl"
+# What dpkg, apt, man, nginx and the users' programs keep of their own, which no package can take away.
+OWN = re.compile(r"/var/(lib/(dpkg|apt|nginx)/|log/|cache/(man|apt|debconf|ldconfig)/)|/etc/ld\.so\.cache$"
+                 r"|/etc/g?(passwd|group|shadow)-$|/(proc|sys|dev|tmp|run)/")
 FIRST_ROW = "100 ann 1 register data-encryption bob 0 - - payroll disks\n"
 FIRST_REPLY = "ok 1 Active 100\n"
 EXPOSURE = 1.5
@@ -50,6 +65,9 @@ BEGUN = {"bash": "PS1='{prompt}'; bind 'set page-completions off'; . /usr/share/
 LIBRARIES = {"libc.so.6": "libc6", "libm.so.6": "libc6", "ld-linux-x86-64.so.2": "libc6",
              "ld-linux-aarch64.so.1": "libc6", "libgcc_s.so.1": "libgcc-s1"}
 PAGES = ("README.md", "docs/OPERATING.md", "docs/AUDIT.md")
+# Where nginx listens, by its file, and the user whom the page adds, with a password.
+DESK_PORT, USER, PASSWORD = 8421, "alice.meyer", "wonder-land"
+SECONDS = 60
 faults: list[str] = []
 
 
@@ -75,6 +93,13 @@ def inside(root: pathlib.Path, folder: str, *more: str) -> list[str]:
             "LC_ALL=C.UTF-8", "TZ=UTC", *more]
 
 
+def as_root(root: pathlib.Path, words: str) -> list[str]:
+    """The words of a page, typed by root in the root; the first that fails ends them. No systemd runs there: units are
+    enabled, and none is started."""
+    return inside(root, "/root", "PATH=/usr/local/sbin:/usr/local/bin:/usr/sbin:/usr/bin:/sbin:/bin", "HOME=/root",
+                  "SYSTEMD_OFFLINE=1", "bash", "-e", "-c", words.replace(" --now", ""))
+
+
 def files_of(root: pathlib.Path) -> set[str]:
     """The paths in a root, but for what dpkg and man keep of their own."""
     paths = call("find", root, "-xdev", "-printf", "/%P\n").stdout.splitlines()
@@ -90,6 +115,15 @@ def base_of(root: pathlib.Path, base: str | None, mirror: str) -> None:
     if done.returncode:
         sys.exit(f"FAILED: no base of Debian: {done.stdout[-2000:]}{done.stderr}")
     (root / "etc/hostname").write_text("packaged\n")
+
+
+def go_alone() -> None:
+    """A network of its own for this process and what it starts: 127.0.0.1, where each port is free."""
+    new_network, set_flags, up_and_running = 0x40000000, 0x8914, 0x41
+    if ctypes.CDLL(None, use_errno=True).unshare(new_network):
+        sys.exit(f"FAILED: no network of its own: {os.strerror(ctypes.get_errno())}")
+    with socket.socket() as link:
+        fcntl.ioctl(link, set_flags, struct.pack("16sh", b"lo", up_and_running))
 
 
 def completes(root: pathlib.Path) -> None:
@@ -228,6 +262,100 @@ def exposed(root: pathlib.Path) -> None:
     print(f"the service's exposure is {told and told[1]}")
 
 
+# ---- the desk, by the words of the page
+
+
+def in_terminal(words: list[str], answer: str) -> tuple[int, str]:
+    """Runs a command in a terminal, and types the answer where a password is asked for; its status and its words."""
+    process, terminal = pty.fork()
+    if not process:
+        os.execvp(words[0], words)
+    shown, answered = "", 0
+    with contextlib.suppress(OSError):
+        while piece := os.read(terminal, 4096):
+            shown += piece.decode(errors="replace")
+            while shown.lower().count("password:") > answered:
+                os.write(terminal, f"{answer}\n".encode())
+                answered += 1
+    os.close(terminal)
+    return os.waitstatus_to_exitcode(os.waitpid(process, 0)[1]), shown
+
+
+def head_words(unit: pathlib.Path) -> str:
+    """The first lines that a unit's head has a person type."""
+    return "\n".join(re.findall(r"(?m)^#     (.*)", re.search(r"(?:^#     .*\n)+", unit.read_text(), re.M)[0]))
+
+
+def unit_words(root: pathlib.Path, unit: pathlib.Path) -> list[str]:
+    """What a unit starts, as its user does, in the root."""
+    user, line = (re.search(rf"(?m)^{name}=(.*)", unit.read_text())[1] for name in ("User", "ExecStart"))
+    return inside(root, "/", "setpriv", f"--reuid={user}", f"--regid={user}", "--clear-groups", "sh", "-c",
+                  f"umask 077; exec {line}")
+
+
+def row_words(page: pathlib.Path, name: str) -> str:
+    """What the row of this name in the table of *Packages* has a person type; a name of a unit is no command."""
+    row = re.search(rf"(?m)^\| {name} \| (.*) \|$", page.read_text("utf-8"))[1]
+    return "\n".join(words for words in re.findall(r"`([^`]*)`", row) if " " in words)
+
+
+@contextlib.contextmanager
+def running(words: list[str], number: int):
+    """A program that runs meanwhile, once it listens."""
+    with subprocess.Popen(words, stdin=subprocess.DEVNULL) as process:
+        try:
+            late = time.monotonic() + SECONDS
+            while not listens(number) and process.poll() is None and time.monotonic() < late:
+                time.sleep(0.05)
+            fault(listens(number), f"nothing listens at {number}: {words[-1]}")
+            yield
+        finally:
+            process.terminate()
+
+
+def browsed(root: pathlib.Path, units: pathlib.Path) -> None:
+    """The user whom the page added registers a key in a browser, and finds it by the list."""
+    import desk_day
+    from desk_parts import PASSWORDS, Reader
+    PASSWORDS[USER] = PASSWORD
+    reader = Reader(types.SimpleNamespace(line=types.SimpleNamespace(port=DESK_PORT)), USER)
+    try:
+        number = desk_day.register(reader, "master", USER, "root of vault 2")
+        done = call(*unit_words(root, units / "keyreg-list.service"))
+        fault(done.returncode == 0, f"keyreg-list: {done.stdout}{done.stderr}")
+        reader.run("sessionStorage.clear()")
+        reader.open("find")
+        reader.reload()
+        reader.wait(lambda: f"{number} of {number} keys" in reader.text(), "the list does not come")
+        fault(USER in reader.text("body"), f"the page does not name {USER}")
+    finally:
+        reader.close()
+
+
+def desk(root: pathlib.Path, docs: pathlib.Path, units: pathlib.Path) -> None:
+    """The desk stands by the words of the installed pages, serves a browser, and goes by them."""
+    page = docs / "docs/OPERATING.md"
+    done = call(*as_root(root, head_words(units / "keyreg.service")))
+    fault(done.returncode == 0, f"the words of keyreg.service: {done.stdout}{done.stderr}")
+    status, shown = in_terminal(as_root(root, "\n".join(blocks_of(page)["the-desk"][0])), PASSWORD)
+    fault(status == 0, f"the words of The desk: {shown}")
+    nginx = as_root(root, "exec nginx -g 'daemon off;'")
+    done = call(*unit_words(root, units / "keyreg-list.service"))
+    fault(done.returncode == 0, f"keyreg-list: {done.stdout}{done.stderr}")
+    with running(unit_words(root, units / "keyreg.service"), 8420), running(nginx, DESK_PORT):
+        try:
+            browsed(root, units)
+        except SystemExit as ended:
+            fault(False, f"{page.relative_to(root)}: the desk in a browser: {ended}")
+    list_mode = call(*there(root), "stat", "-c", "%U:%G %a", "/var/lib/keyreg-list/list.json").stdout.strip()
+    fault(list_mode == "keyreg:www-data 640", f"list.json is {list_mode}")
+    for name in ("remove what was set up of the desk", "remove registers for good"):
+        # Folders that are not there are none to remove.
+        done = call(*as_root(root, row_words(page, name).replace("rm -r ", "rm -rf ")))
+        fault(done.returncode == 0, f"{name}: {done.stdout}{done.stderr}")
+    print(f"{page.relative_to(root)}: the desk was set up and used by its words", flush=True)
+
+
 def typed_of_tar(plain: pathlib.Path) -> tuple[str, str]:
     """What OPERATING has a person type to install a tar file of this name, and to remove it."""
     operating = (TOP / "docs/OPERATING.md").read_text("utf-8")
@@ -259,6 +387,8 @@ def unpacked(root: pathlib.Path) -> None:
     fault(found == "/usr/local/bin/keyreg\n", f"keyreg in the path is {found!r}")
     completes(root)
     read_there(root, root / "usr/local/share/doc/keyreg")
+    desk(root, root / "usr/local/share/doc/keyreg", root / "usr/local/lib/systemd/system")
+    call(*as_root(root, "systemctl disable keyreg keyreg-list.timer"))
     done = call(*inside(root, "/tmp"), "sh", "-c", remove)
     fault(done.returncode == 0, f"{remove}: {done.stderr}")
     left = sorted(path for path in files_of(root) - before if not (root / path.lstrip("/")).is_dir())
@@ -286,6 +416,7 @@ def main() -> int:
         root, trace = pathlib.Path(folder) / "root", pathlib.Path(folder) / "trace"
         root.mkdir()
         base_of(root, given.base, given.mirror)
+        go_alone()
         before = files_of(root)
         shutil.copy(package, root / "tmp" / package.name)
         done = call(*there(root), "dpkg", "--install", f"/tmp/{package.name}")
@@ -297,8 +428,11 @@ def main() -> int:
         served(root, trace)
         may_call(root / "usr/lib/systemd/system/keyreg.service", trace)
         exposed(root)
-        done = call(*there(root), "dpkg", "--purge", "keyreg")
-        fault(done.returncode == 0, f"dpkg --purge: {done.stdout}{done.stderr}")
+        desk(root, root / "usr/share/doc/keyreg", root / "usr/lib/systemd/system")
+        words = row_words(root / "usr/share/doc/keyreg/docs/OPERATING.md", "remove")
+        words = words.replace("keyreg keyreg-", "keyreg keyreg-list.timer keyreg-", 1)
+        done = call(*as_root(root, words))
+        fault(done.returncode == 0, f"{words}: {done.stdout}{done.stderr}")
         left = sorted(files_of(root) - before)
         fault(not left, f"left behind: {left}")
         fault("keyreg" not in call(*there(root), "dpkg", "-l").stdout, "dpkg knows keyreg still")

@@ -7,14 +7,16 @@ timeline.py.
 
 Each night has a folder in FOLDER, by its moment, with copy.keyreg, export.csv and keys.html. `last` leads to the last
 one where nothing failed; a night that fails stays to be looked at, and the next is held to the good one before it.
-Folders beyond --nights (30) are removed, that of `last` never.
+Folders beyond --nights (30) are removed, that of `last` never. Without `last` a night is held to none before it: after
+a register was set right or restored, remove `last` (docs/OPERATING.md, Set right).
 
 --keyreg  the program; else the one in the path
 --stale   so many seconds ago the latest accepted moment is at most
 --room    so many hundredths of the disk are free at least; else 10
 
 It prints a line for each step. The status is 0 where nothing differs, 1 where one of these fails: the copy, replay.py
-with any status, the export, the picture, a moment that is too old, a disk that is too full; 2 where words are wrong.
+with any status, the export, the picture, a moment that is too old, or after the clock by more than 60 seconds, a disk
+that is too full; 2 where words are wrong.
 """
 import argparse
 import os
@@ -28,10 +30,14 @@ from datetime import datetime, timezone
 
 # What is read from beside this file leaves none there.
 sys.dont_write_bytecode = True
+from register_rules import text_of
 from replay import is_copied
 
 HERE = pathlib.Path(__file__).resolve().parent
 NAME, LAST, TRIES = "copy.keyreg", "last", 20
+# So many seconds the latest moment may be after the clock: a time service may set the clock back by some, and a request line
+# may come from a machine whose clock is ahead by some.
+AHEAD = 60
 
 
 class Failed(Exception):
@@ -73,6 +79,9 @@ def watched(night, stale, room):
     (night / (NAME + "-shm")).unlink(missing_ok=True)
     age = int(time.time()) - latest
     print(f"latest accepted moment: {age} seconds ago", flush=True)
+    if age < -AHEAD:
+        raise Failed(f"the latest accepted moment, {text_of(latest)}, is after the clock: until then each request is "
+                     "refused")
     disk = shutil.disk_usage(night)
     free = 100 * disk.free / disk.total
     print(f"disk: {free:.0f} in a hundred free", flush=True)

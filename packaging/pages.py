@@ -6,7 +6,8 @@
 The pages go to FOLDER as they stand in the sources, but
 
 - a paragraph, an item of a list or a row of a table that speaks of what only the sources have (`checks/`, `crates/`,
-  `./package`, `rt`) is left out, so such a sentence has a paragraph of its own there; so are commands in `bash`;
+  `./package`, `rt`, a build) is left out, so such a sentence has a paragraph of its own there; so are commands in
+  `bash`;
 - the program is `keyreg`, in the path, and examples are told to be copied from EXAMPLES, where the package has them;
 - a link to what the package has not is its text.
 """
@@ -22,7 +23,7 @@ BESIDE = ("docs/openapi.yaml", "docs/costs.svg")
 PICTURES = ("docs/desk.png",)
 # A file of checks/ that a page uses.
 MOVED = {"checks/version_1.sql": "examples/version_1.sql"}
-SOURCES = re.compile(r"checks/|crates/|bench/|\./package\b|\.ci/run|`rt[ `]|CONTRIBUTING")
+SOURCES = re.compile(r"checks/|crates/|bench/|\./package\b|\.ci/run|`rt[ `]|CONTRIBUTING|proves and builds")
 NOTE = """What is named here without a link is with the sources of keyreg. Commands are typed in a folder of your own,
 beside a copy of the examples:
 
