@@ -169,6 +169,18 @@ def behind(guard):
     expect(status == 401 and "access-control" not in lines, f"a preflight: {status}, {lines}")
     status, told, _ = posted(guard, PERIOD, "Caller: alice.meyer", next(number), user="office")
     expect((status, told["key"]) == (200, 0), f"the office: {status}, {told}")
+    whom_the_page_shows(guard)
+
+
+def whom_the_page_shows(guard):
+    """A request that says for which user it is acts for that one alone; without a password it is asked for."""
+    key = {**KEY, "owner": "another"}
+    for user, shows, wanted in (("office", "alice.meyer", 412), ("office", "offic", 412), ("office", "office:office", 412),
+                                (None, "office", 401)):
+        status, told, _ = posted(guard, key, f"Desk-User: {shows}", "Request-Number: 90", user=user)
+        expect((status, told) == (wanted, None), f"{user} for {shows}: {status}, {told}")
+    told = posted(guard, KEY, "Desk-User: alice.meyer", "Request-Number: 5", user="alice.meyer")[1]
+    expect(told and told["key"] == 1, f"a request again, for its own user: {told}")
 
 
 def got(guard, path, user=None, word=None):

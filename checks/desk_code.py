@@ -16,6 +16,8 @@ import sys
 TOP = pathlib.Path(__file__).resolve().parent.parent
 DESK = TOP / "desk"
 PATIENCE = 50
+# Comments and texts, in which a name is no use of it.
+PLAIN = re.compile(r"^\s*//.*$|\"[^\"\n]*\"", re.M)
 EXPORT = re.compile(r"^export (?:async )?(?:const|let|class|function\*?) (\w+)", re.M)
 IMPORT = re.compile(r"^import \{([^}]*)\} from \"\.\.?/(\w+\.js)\";", re.M)
 
@@ -31,7 +33,7 @@ def name_faults(modules: dict[str, str]) -> list[str]:
     used: dict[str, set[str]] = {file: set() for file in modules}
     faults = []
     for file, text in modules.items():
-        body = IMPORT.sub("", text)
+        body = PLAIN.sub("", IMPORT.sub("", text))
         for source, names in imported(text).items():
             used[source] |= names
             faults += [f"{file}: {source} exports no {name}" for name in sorted(names - exported[source])]

@@ -73,7 +73,8 @@ PARTS = (
 COMMANDS = {
     "bash": "bash", "chromedriver": "chromium-driver", "chromium": "chromium", "cmp": "diffutils",
     "curl": "curl", "gcc": "gcc libc6-dev", "groff": "groff-base", "mandoc": "mandoc",
-    "nginx": "nginx-light", "node": "nodejs", "openssl": "openssl", "sqlite3": "sqlite3", "strace": "strace",
+    "nginx": "nginx-light", "node": "nodejs", "openssl": "openssl", "sqlite3": "sqlite3",
+    "strace": "strace",
 }
 MODULES = {"jsonschema": "python3-jsonschema", "selenium": "python3-selenium", "yaml": "python3-yaml"}
 # Debian's modules belong to its own interpreter.

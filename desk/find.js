@@ -104,7 +104,7 @@ export function findPage(place, given) {
     el("form", {class: "find", role: "search", oninput: look, onchange: look, onsubmit: go},
       field("Number, owner, type or purpose", fields.text,
         el("button", {type: "submit"}, "Show the key of this number")),
-      field("Owner, or a part of the name", fields.owner,
+      field("Owner, or a part", fields.owner,
         el("datalist", {id: "owners"}, names.map((value) => el("option", {value})))),
       field("Type", fields.type), field("State now", fields.state), field("Due within days", fields.days, hint),
       el("div", {class: "field check"}, fields.waits,

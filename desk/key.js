@@ -171,7 +171,8 @@ function picture(key, at) {
   const kinds = spansOf(key).map(([kind]) => kind);
   return el("figure", {}, line(key, at), el("figcaption", {},
     LEGEND.filter(([kind]) => kinds.includes(kind)).map(([kind, words]) =>
-      [el("span", {class: `swatch ${kind}`}), ` ${words} `]), "The letters stand at the dates above."));
+      el("span", {class: "legend"}, el("span", {class: `swatch ${kind}`}), ` ${words}`)),
+    el("span", {class: "legend"}, "The letters stand at the dates above.")));
 }
 
 function show(place, number, desk, note) {

@@ -37,7 +37,8 @@ test("what is no table is told", () => {
 test("what is given back has its reasons, and is a table again", () => {
   const rows = [["master", "ann", "", "", "", 'a "root", old'], ["master", "ann", "x"]];
   const text = csvOf(rows, ["refused: DateOrder", "of another form"]);
-  assert.equal(text.split("\n")[0], `${HEAD},reason`);
+  assert.equal(text, `${HEAD},reason\nmaster,ann,,,,"a ""root"", old",refused: DateOrder\n`
+    + "master,ann,x,,,,of another form\n");
   assert.deepEqual(tableOf(bytes(text)).rows, [rows[0], [...rows[1], "", "", ""]]);
 });
 

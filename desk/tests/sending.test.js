@@ -1,6 +1,7 @@
 // How requests are sent and kept: each acts once, for its own user, and a table's answers are kept beside it.
 import assert from "node:assert/strict";
 import {beforeEach, test} from "node:test";
+import {judgedRows} from "../rows.js";
 import {Store} from "./shared.js";
 
 // A module of its own for each test: who reads the page is said once.
@@ -94,6 +95,7 @@ test("a table is kept packed, with its answers, and comes back after a reload", 
   table.keepMarks();
   table.note({accepted: true, number: 1000, key: 1, moment: 1_770_000_000, state: "Active"});
   table.note({accepted: false, number: 1001, refused: 20, name: "Full"});
+  assert.deepEqual(judgedRows(rows.slice(0, 2), "ann").map(({sort}) => sort), ["twice", "good"]);
   await restore("bob");
   assert.equal(current(), table);
   await restore("ann");
@@ -113,8 +115,12 @@ test("a table that is too large for the store is not kept, and leaves room for r
   const {takeIn, putAway} = await import("../taken.js");
   sessionStorage.room = 120_000;
   const rows = Array.from({length: 20_000}, (_, place) => ["master", "ann", "", "", "", `${Math.sin(place)}`]);
-  const table = await takeIn("keys.csv", rows, "ann");
-  assert.equal(table.isKept, false);
+  assert.equal((await takeIn("keys.csv", rows, "ann")).isKept, false);
   assert.equal(sessionStorage.getItem("keyreg.table"), null);
+  // A table for which there is room, and hardly any beside it.
+  sessionStorage.room = Infinity;
+  assert.equal((await takeIn("keys.csv", rows, "ann")).isKept, true);
+  sessionStorage.room = sessionStorage.getItem("keyreg.table").length + 50_000;
+  assert.equal((await takeIn("keys.csv", rows, "ann")).isKept, false);
   await putAway();
 });
