@@ -64,8 +64,8 @@ function sayOther() {
   isOther = true;
   document.body.classList.add("other");
   replace(place("other"), el("div", {class: "note"},
-    el("p", {}, el("strong", {}, "Nothing is sent any more. "), "This browser sends as another user by now, and not as ",
-      name(desk.me), ", whom this page shows: somebody gave another password in it."),
+    el("p", {}, el("strong", {}, "Nothing is sent any more. "), "This browser sends as another user by now, and not ",
+      "as ", name(desk.me), ", whom this page shows: somebody gave another password in it."),
     el("p", {}, "What waits for an answer is kept for ", name(desk.me), ", and acts once."),
     el("button", {type: "button", onclick: () => location.reload()}, "Load the page anew")));
   putKept();

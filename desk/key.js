@@ -45,8 +45,10 @@ function lettersOf(dates, place) {
 const percent = (value) => `${value.toFixed(2)}%`;
 
 function bar([kind, from, to], place, top) {
-  const [left, right] = [place(from), place(to)];
-  if (kind === "wait") return svg("line", {class: kind, x1: percent(left), x2: percent(right), y1: top + 8, y2: top + 8});
+  const [left, right] = [place(from), place(to)], middle = top + 8;
+  if (kind === "wait") {
+    return svg("line", {class: kind, x1: percent(left), x2: percent(right), y1: middle, y2: middle});
+  }
   const [y, height] = kind === "protect" ? [top, 16] : [top + 5, 6];
   return svg("rect", {class: kind, x: percent(left), y, width: percent(right - left), height});
 }
