@@ -114,9 +114,12 @@ def asks_before(reader, folder):
     chosen(reader, folder, HEAD + "".join(f"master,ann,,,,half sent {place}\n" for place in range(120)))
     judged(reader, 120, 120, 0, 0, 0, 0)
     expect(not reader.run(LEAVES), "the page asks before a row is sent")
+    reader.desk.line.delay = 0.2
     reader.one(".buttons button.send").click()
+    reader.wait(lambda: not reader.text(".progress .count").startswith("0 "), "no row is answered")
     reader.one(".buttons button", lambda button: button.text == "Stop").click()
     reader.one(".buttons button", lambda button: button.text == "Go on")
+    reader.desk.line.delay = 0.0
     accepted = int(reader.text(".progress .count").split(" ")[0])
     expect(0 < accepted < 120 and reader.run(LEAVES), f"{accepted} of 120 rows are sent, and the page does not ask")
     reader.one(".buttons button", lambda button: button.text == "Go on").click()

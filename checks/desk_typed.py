@@ -35,7 +35,21 @@ def stays(reader):
     typed = [value_of(reader, form, name) for name in ("activation-edit", "activation", "protect_stop-edit",
                                                        "protect_stop", "deactivation-edit")]
     expect(typed == ["set", day(9), "set", day(5), "keep"], f"after a refusal the dates are {typed}")
+    answered_meanwhile(reader, key)
     return key
+
+
+def answered_meanwhile(reader, key):
+    """A request waits, another form is filled in, and the answer comes: that form stays, and the page."""
+    reader.key(key)
+    reader.desk.line.todo = ["503"]
+    reader.submit("set-quorum", [("Approvals needed", "5")])
+    reader.wait(lambda: "Not answered yet" in reader.text("#kept"), "it is not told that a request waits")
+    reader.open("register")
+    reader.put(reader.one("form.command.register").find_element(By.NAME, "purpose"), LONG)
+    reader.answer(f"set-quorum {key} 5")
+    form = reader.one("form.command.register")
+    expect(value_of(reader, form, "purpose") == LONG, "an answer to another request empties a form")
 
 
 def typed_letters(reader, field, *keys):
