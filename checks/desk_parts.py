@@ -70,6 +70,9 @@ class Line:
 
     def serve(self, browser):
         with contextlib.suppress(OSError), browser, socket.create_connection(("127.0.0.1", self.to)) as other:
+            # As nginx has it: the second part of an answer does not wait until the first is acknowledged.
+            for end in (browser, other):
+                end.setsockopt(socket.IPPROTO_TCP, socket.TCP_NODELAY, 1)
             threading.Thread(target=self.answers, args=(other, browser), daemon=True).start()
             while given := browser.recv(1 << 20):
                 if given.startswith(b"POST /requests"):
