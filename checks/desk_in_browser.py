@@ -171,7 +171,9 @@ def whole(folder, screens, parts, rows):
         if "typed" in parts:
             desk_typed.all_typed(readers)
         if "tables" in parts:
-            print(desk_tables.all_taken(readers["cat"], folder, rows))
+            readers["third"] = Reader(desk, "cat", is_logged=False)
+            stack.callback(readers["third"].close)
+            print(desk_tables.all_taken(readers["cat"], readers["third"], folder, rows))
         count = compared(desk, readers.values())
         if "looks" in parts:
             ann = readers["ann"]

@@ -56,6 +56,8 @@ class Line:
 
     def __init__(self, port):
         self.to, self.todo, self.done, self.posts, self.open = port, [], [], [], True
+        # How often a key or its usage was asked for.
+        self.keys_asked = 0
         self.server = socket.create_server(("127.0.0.1", 0), backlog=64)
         self.port = self.server.getsockname()[1]
         threading.Thread(target=self.take, daemon=True).start()
@@ -81,6 +83,7 @@ class Line:
                     self.posts.append(re.search(rb"(?i)request-number: *(\d+)", given)[1].decode())
                     if self.todo and not self.post(self.todo.pop(0), given, browser):
                         return
+                self.keys_asked += given.startswith(b"GET /keys/")
                 other.sendall(given)
 
     @staticmethod
@@ -184,14 +187,16 @@ class Desk:
 class Reader:
     """A browser of a user of the desk. What the page says of requests is written down in `said`."""
 
-    def __init__(self, desk, user, width=1000, height=1400, zone=ZONE):
-        self.desk, self.user, self.said = desk, user, []
+    def __init__(self, desk, user, width=1000, height=1400, zone=ZONE, is_logged=True):
+        self.desk, self.user, self.said, self.is_logged = desk, user, [], is_logged
         self.place = f"http://{HOST}:{desk.line.port}/"
         words = webdriver.ChromeOptions()
         for word in ("--headless=new", "--no-sandbox", "--disable-dev-shm-usage", "--disable-gpu", "--lang=en-US",
                      f"--host-resolver-rules=MAP {HOST} 127.0.0.1, MAP * ~NOTFOUND", f"--window-size={width},{height}"):
             words.add_argument(word)
-        words.set_capability("goog:loggingPrefs", {"browser": "ALL", "performance": "ALL"})
+        # What is written down of each exchange takes longer than the exchange.
+        if is_logged:
+            words.set_capability("goog:loggingPrefs", {"browser": "ALL", "performance": "ALL"})
         os.environ["TZ"] = zone
         self.driver = webdriver.Chrome(service=Service("/usr/bin/chromedriver"), options=words)
         # The password is given once, as a person types it; then the page is opened by its own address.
@@ -217,7 +222,9 @@ class Reader:
             with contextlib.suppress(StaleElementReferenceException):
                 if found := is_so():
                     return found
-            expect(time.monotonic() < late, f"{self.user}: {told}; the page says\n{self.text('body')[:3000]}")
+            # The page's text is read where it fails alone: that takes the page longer than much that is waited for.
+            if time.monotonic() >= late:
+                expect(False, f"{self.user}: {told}; the page says\n{self.text('body')[:3000]}")
             time.sleep(0.03)
 
     def text(self, selector="main"):
@@ -330,7 +337,9 @@ class Reader:
         return told
 
     def logs(self):
-        """What the console says, and each address that was asked for."""
+        """What the console says, and each address that was asked for; nothing where that is not written down."""
+        if not self.is_logged:
+            return [], []
         console = [entry["message"] for entry in self.driver.get_log("browser")]
         asked = []
         for entry in self.driver.get_log("performance"):

@@ -154,18 +154,17 @@ def long_table(reader, folder, count):
     rows = [f"data-encryption,ann,{day(-5)}Z,,,{purpose}" for purpose in purposes]
     chosen(reader, folder, HEAD + "\n".join(rows) + "\n")
     judged(reader, count, count, 0, 0, 0, 0)
-    reader.logs()
-    before, taken = len(reader.desk.line.posts), []
+    line, taken = reader.desk.line, []
+    before, keys_asked = len(line.posts), line.keys_asked
     reader.one(".buttons button.send").click()
     for part in range(1, 5):
-        begun, first = time.monotonic(), len(reader.desk.line.posts)
-        reader.wait(lambda part=part: len(reader.desk.line.posts) - before >= count * part // 4,
-                    "the rows are not sent", count)
-        taken.append((len(reader.desk.line.posts) - first) / (time.monotonic() - begun))
+        begun, first = time.monotonic(), len(line.posts)
+        reader.wait(lambda part=part: len(line.posts) - before >= count * part // 4, "the rows are not sent", count)
+        taken.append((len(line.posts) - first) / (time.monotonic() - begun))
     reader.wait(lambda: f"{count} of {count} rows answered: {count} accepted" in reader.text(".progress"),
                 "not all came", 60)
-    asked = [place for place in reader.logs()[1] if "/requests" in place or "/keys/" in place]
-    expect(len(asked) <= count + 1, f"{count} rows took {len(asked)} exchanges")
+    exchanges = len(line.posts) - before + line.keys_asked - keys_asked
+    expect(exchanges == count, f"{count} rows took {exchanges} exchanges")
     letters = reader.run("return Object.values(sessionStorage).reduce((sum, text) => sum + text.length, 0)")
     expect(letters < 150 * count, f"the store has {letters} letters of a table of {count} rows")
     expect(min(taken) >= 10 and taken[-1] >= taken[0] / 2, f"rows a second by quarters: {taken}")
@@ -176,12 +175,12 @@ def long_table(reader, folder, count):
             f"the store has {letters} letters")
 
 
-def all_taken(reader, folder, count):
-    """All of it; what is said of the long table."""
+def all_taken(reader, other, folder, count):
+    """All of it, the long table by another browser; what is said of that."""
     reader.driver.execute_cdp_cmd("Browser.setDownloadBehavior", {"behavior": "allow", "downloadPath": folder})
     both_of_spreadsheets(reader, folder)
     taken_twice(reader, folder)
     all_reached(reader, folder)
     asks_before(reader, folder)
     full_store(reader, folder)
-    return long_table(reader, folder, count)
+    return long_table(other, folder, count)
