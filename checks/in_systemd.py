@@ -35,7 +35,8 @@ Description=What is tried
 [Service]
 Type=oneshot
 TimeoutStartSec=infinity
-ExecStart=/bin/bash -c '/bin/bash /tried.sh @PARTS@ > /tried.log 2>&1; echo end >> /tried.log; systemctl poweroff --force'
+ExecStart=/bin/bash -c '/bin/bash /tried.sh @PARTS@ > /tried.log 2>&1; echo end >> /tried.log'
+ExecStart=/bin/systemctl poweroff --force
 """
 SECONDS = 900
 
@@ -49,11 +50,11 @@ def run(*words, **more):
 
 def blocks_of(page):
     """The blocks of commands of a page, fenced as `sh` or indented, by the names of their headings' links."""
-    found, heading, block, fence = {}, "", [], None
+    by_heading, heading, block, fence = {}, "", [], None
     for line in [*page.read_text("utf-8").split("\n"), ""]:
         if line.startswith("```"):
             if fence == "sh":
-                found[heading].append(block)
+                by_heading[heading].append(block)
             fence, block = (line[3:], []) if fence is None else (None, [])
         elif fence is not None:
             block.append(line)
@@ -61,13 +62,13 @@ def blocks_of(page):
             block.append(line[4:])
         else:
             if block:
-                found[heading].append(block)
+                by_heading[heading].append(block)
             block = []
             if line.startswith("#"):
                 heading = re.sub(r"[^\w -]", "", line.lstrip("# ").lower()).replace(" ", "-")
-                found[heading] = []
+                by_heading[heading] = []
         before = line.strip()
-    return found
+    return by_heading
 
 
 def furnish(root, base, mirror, parts):

@@ -127,9 +127,9 @@ fi
 # ---- an office gets up again after each accident, by the blocks of OPERATING
 file=/var/lib/keyreg/office.keyreg
 post() { # post CALLER NUMBER COMMAND: a request that is accepted.
-    local told
-    told=$(curl -s -m 20 http://127.0.0.1:8420/requests -H "Caller: $1" -H "Request-Number: $2" -d "$3")
-    [[ $told == *'"moment":'* ]] || echo "FAILED $1 $2 $3: $told"
+    local reply
+    reply=$(curl -s -m 20 http://127.0.0.1:8420/requests -H "Caller: $1" -H "Request-Number: $2" -d "$3")
+    [[ $reply == *'"moment":'* ]] || echo "FAILED $1 $2 $3: $reply"
 }
 requests_of() { # Of a register that nobody writes to at the moment.
     local folder
@@ -182,7 +182,8 @@ su keyreg -s /bin/sh -c "echo '4070908800 clock.job 4 advance' | keyreg run --fi
 systemctl start keyreg
 until_holds 60 gets 8420 200
 holds "future: a night fails" fails night
-holds "future: it says why" sh -c 'journalctl -u keyreg-nightly -o cat -n 8 | grep -q "2099-01-01T00:00:00Z, is after the clock"'
+says() { journalctl -u "$1" -o cat -n 30 | grep -q "$2"; }
+holds "future: it says why" says keyreg-nightly "2099-01-01T00:00:00Z, is after the clock"
 holds "future: an advance fails" fails systemctl start keyreg-advance
 holds "future: the standby has it too" follows
 stop_units
@@ -212,7 +213,7 @@ systemctl stop keyreg
 typed a-file-that-is-refused 1 "s#moved\.keyreg#$file#g"
 holds "refused: it is" grep -qx "keyreg: NotARegister" /tmp/typed
 systemctl start keyreg
-holds "refused: the service ends" until_holds 30 sh -c 'journalctl -u keyreg -o cat -n 30 | grep -qx "keyreg: NotARegister"'
+holds "refused: the service ends" until_holds 30 says keyreg "keyreg: NotARegister"
 holds "refused: a night fails" fails night
 stop_units
 edit="s#aside_refused/moved\.keyreg#aside_refused/office.keyreg#g; s#moved\.keyreg#$file#g"

@@ -301,14 +301,14 @@ def row_words(page: pathlib.Path, name: str) -> str:
 
 @contextlib.contextmanager
 def running(words: list[str], number: int):
-    """A program that runs meanwhile, once it listens."""
+    """A program that runs meanwhile, once it listens; whether it does."""
     with subprocess.Popen(words, stdin=subprocess.DEVNULL) as process:
         try:
             late = time.monotonic() + SECONDS
             while not listens(number) and process.poll() is None and time.monotonic() < late:
                 time.sleep(0.05)
             fault(listens(number), f"nothing listens at {number}: {words[-1]}")
-            yield
+            yield listens(number)
         finally:
             process.terminate()
 
@@ -316,9 +316,12 @@ def running(words: list[str], number: int):
 def browsed(root: pathlib.Path, units: pathlib.Path) -> None:
     """The user whom the page added registers a key in a browser, and finds it by the list."""
     import desk_day
-    from desk_parts import PASSWORDS, Reader
+    from desk_parts import PASSWORDS, Reader, WebDriverException
     PASSWORDS[USER] = PASSWORD
-    reader = Reader(types.SimpleNamespace(line=types.SimpleNamespace(port=DESK_PORT)), USER)
+    try:
+        reader = Reader(types.SimpleNamespace(line=types.SimpleNamespace(port=DESK_PORT)), USER)
+    except WebDriverException as ended:
+        raise OSError(ended.msg) from None
     try:
         number = desk_day.register(reader, "master", USER, "root of vault 2")
         done = call(*unit_words(root, units / "keyreg-list.service"))
@@ -326,7 +329,7 @@ def browsed(root: pathlib.Path, units: pathlib.Path) -> None:
         reader.run("sessionStorage.clear()")
         reader.open("find")
         reader.reload()
-        reader.wait(lambda: f"{number} of {number} keys" in reader.text(), "the list does not come")
+        reader.wait(lambda: f"{number} of {number} key" in reader.text(), "the list does not come")
         fault(USER in reader.text("body"), f"the page does not name {USER}")
     finally:
         reader.close()
@@ -342,11 +345,12 @@ def desk(root: pathlib.Path, docs: pathlib.Path, units: pathlib.Path) -> None:
     nginx = as_root(root, "exec nginx -g 'daemon off;'")
     done = call(*unit_words(root, units / "keyreg-list.service"))
     fault(done.returncode == 0, f"keyreg-list: {done.stdout}{done.stderr}")
-    with running(unit_words(root, units / "keyreg.service"), 8420), running(nginx, DESK_PORT):
-        try:
-            browsed(root, units)
-        except SystemExit as ended:
-            fault(False, f"{page.relative_to(root)}: the desk in a browser: {ended}")
+    with running(unit_words(root, units / "keyreg.service"), 8420), running(nginx, DESK_PORT) as is_there:
+        if is_there:
+            try:
+                browsed(root, units)
+            except (SystemExit, OSError) as ended:
+                fault(False, f"{page.relative_to(root)}: the desk in a browser: {ended}")
     list_mode = call(*there(root), "stat", "-c", "%U:%G %a", "/var/lib/keyreg-list/list.json").stdout.strip()
     fault(list_mode == "keyreg:www-data 640", f"list.json is {list_mode}")
     for name in ("remove what was set up of the desk", "remove registers for good"):

@@ -94,7 +94,7 @@ def last_requests(connection, names, count):
 
 
 def by_key(connection, table, names):
-    """The places of the names that a table has of each key, in order of the names' bytes, by the numbers of the keys."""
+    """The places of the names that a table has of each key, by the names' bytes, and by the numbers of the keys."""
     rows = connection.execute(f"SELECT key_no, name FROM {table} WHERE typeof(key_no) = 'integer' "
                               "ORDER BY key_no, name COLLATE BINARY")
     for key, group in itertools.groupby(rows, operator.itemgetter(0)):

@@ -35,8 +35,8 @@ from replay import is_copied
 
 HERE = pathlib.Path(__file__).resolve().parent
 NAME, LAST, TRIES = "copy.keyreg", "last", 20
-# So many seconds the latest moment may be after the clock: a time service may set the clock back by some, and a request line
-# may come from a machine whose clock is ahead by some.
+# So many seconds the latest moment may be after the clock: a time service may set the clock back by some, and a
+# request line may come from a machine whose clock is ahead by some.
 AHEAD = 60
 
 
