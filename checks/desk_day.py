@@ -268,10 +268,13 @@ def taken_in(reader, folder, good=40):
     # A row that the page would not send is sent all the same where the reader wants it.
     order = next(row for row in reader.find("table.rows tbody tr") if "another order" in row.text)
     order.find_element(By.TAG_NAME, "input").click()
+    # So that it is stopped before it ends.
+    reader.desk.line.delay = 0.2
     reader.one(".buttons button.send", lambda button: button.text == f"Send {good + 1} rows").click()
     reader.wait(lambda: " 3 accepted" in reader.text() or "accepted: key" in reader.text(), "no row is accepted")
     reader.one(".buttons button", lambda button: button.text == "Stop").click()
     reader.one(".buttons button", lambda button: button.text == "Go on")
+    reader.desk.line.delay = 0.0
     stopped = len(reader.find("table.rows tr.accepted"))
     expect(0 < stopped < good, f"it was stopped after {stopped} rows")
     reader.reload()

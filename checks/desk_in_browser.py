@@ -50,8 +50,9 @@ from register_rules import FORMS
 
 REPLAY = os.path.join(os.path.dirname(os.path.abspath(__file__)), "..", "examples", "replay.py")
 # What Chromium itself writes to the console: of each refusal, and of what was broken on purpose.
-BY_STATUS = re.compile(r"\S+/(requests|keys/\d+(/usage)?|list\.json|favicon\.ico|me|sign-out\?user=\w+|chromewebdata/) - "
-                       r"Failed to load resource: (the server responded with a status of (40[0149]|412|50[023]) .*|net::ERR_[A-Z_]+)")
+BY_STATUS = re.compile(
+    r"\S+/(requests|keys/\d+(/usage)?|list\.json|favicon\.ico|me|sign-out\?user=\w+|chromewebdata/) - "
+    r"Failed to load resource: (the server responded with a status of (40[0149]|412|50[023]) .*|net::ERR_[A-Z_]+)")
 
 
 def compared(desk, readers, made=()):

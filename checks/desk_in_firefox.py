@@ -148,7 +148,8 @@ def main() -> None:
         if screenshot:
             pathlib.Path(screenshot).write_bytes(base64.b64decode(firefox.call("WebDriver:TakeScreenshot", {})))
         rows = [(caller, command) for caller, _, command in desk.requests()]
-        expect(rows == [(USER, f"register data-encryption {USER} 1801470600 - - {PURPOSE}")], f"the register has {rows}")
+        wanted = [(USER, f"register data-encryption {USER} 1801470600 - - {PURPOSE}")]
+        expect(rows == wanted, f"the register has {rows}")
     print("in Firefox the first page comes, and a key is registered")
 
 

@@ -48,7 +48,10 @@ class Line:
         lose    the connection is broken before the request goes on
         500, 503  the request goes on, and the browser gets this status in the place of the answer
         refuse  the same with an answer of a page that is no register's
+
+    `delay` is how many seconds it keeps each POST.
     """
+    delay = 0.0
     BODIES = {"500": b'{"end":31,"name":"Store"}', "503": b'{"end":30,"name":"Memory"}', "refuse": b"<html>busy</html>"}
 
     def __init__(self, port):
@@ -67,10 +70,14 @@ class Line:
 
     def serve(self, browser):
         with contextlib.suppress(OSError), browser, socket.create_connection(("127.0.0.1", self.to)) as other:
+            # As nginx has it: the second part of an answer does not wait until the first is acknowledged.
+            for end in (browser, other):
+                end.setsockopt(socket.IPPROTO_TCP, socket.TCP_NODELAY, 1)
             threading.Thread(target=self.answers, args=(other, browser), daemon=True).start()
             while given := browser.recv(1 << 20):
                 if given.startswith(b"POST /requests"):
                     given = self.whole(browser, given)
+                    time.sleep(self.delay)
                     self.posts.append(re.search(rb"(?i)request-number: *(\d+)", given)[1].decode())
                     if self.todo and not self.post(self.todo.pop(0), given, browser):
                         return

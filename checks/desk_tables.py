@@ -1,6 +1,6 @@
-"""A table is taken once: rows that are keys already are known, right after they were registered too; all rows and reasons
-are reached; a long table is sent as fast at its end as at its beginning and leaves the window's store room; and a page
-with a table half sent asks before it is left."""
+"""A table is taken once: rows that are keys already are known, right after they were registered too; all rows and
+reasons are reached; a long table is sent as fast at its end as at its beginning and leaves the window's store room; and
+a page with a table half sent asks before it is left."""
 import csv
 import pathlib
 import time
@@ -37,7 +37,7 @@ def both_of_spreadsheets(reader, folder):
 
 
 def taken_twice(reader, folder):
-    """The same file a second time: at once, after a reload, and with a newer list. Its rows leave the later dates out."""
+    """The same file a second time: at once, after a reload, and with a newer list. Its rows leave dates out."""
     rows = [f"data-encryption,ann,{day(-5)}Z,,,taken twice {place}" for place in range(12)]
     text = HEAD + "\n".join([*rows, "master,ann,,,,taken twice without dates", rows[0]]) + "\n"
     chosen(reader, folder, text)
@@ -96,7 +96,16 @@ def all_reached(reader, folder):
     put_away(reader)
 
 
-LEAVES = "const event = new Event('beforeunload', {cancelable: true}); dispatchEvent(event); return event.defaultPrevented"
+LEAVES = """const event = new Event("beforeunload", {cancelable: true});
+dispatchEvent(event);
+return event.defaultPrevented;"""
+FILLS = """let text = "x".repeat(1 << 20);
+for (let place = 0; text.length; place++) {
+  try { sessionStorage.setItem(`full.${place}`, text); } catch { text = text.slice(0, text.length / 2 | 0); }
+}"""
+EMPTIES = """for (const name of Object.keys(sessionStorage).filter((name) => name.startsWith("full."))) {
+  sessionStorage.removeItem(name);
+}"""
 
 
 def asks_before(reader, folder):
@@ -105,11 +114,14 @@ def asks_before(reader, folder):
     chosen(reader, folder, HEAD + "".join(f"master,ann,,,,half sent {place}\n" for place in range(120)))
     judged(reader, 120, 120, 0, 0, 0, 0)
     expect(not reader.run(LEAVES), "the page asks before a row is sent")
+    reader.desk.line.delay = 0.2
     reader.one(".buttons button.send").click()
+    reader.wait(lambda: not reader.text(".progress .count").startswith("0 "), "no row is answered")
     reader.one(".buttons button", lambda button: button.text == "Stop").click()
     reader.one(".buttons button", lambda button: button.text == "Go on")
-    accepted = reader.run("return [...document.querySelectorAll('.progress .count')][0].textContent").split(" ")[0]
-    expect(0 < int(accepted) < 120 and reader.run(LEAVES), f"{accepted} of 120 rows are sent, and the page does not ask")
+    reader.desk.line.delay = 0.0
+    accepted = int(reader.text(".progress .count").split(" ")[0])
+    expect(0 < accepted < 120 and reader.run(LEAVES), f"{accepted} of 120 rows are sent, and the page does not ask")
     reader.one(".buttons button", lambda button: button.text == "Go on").click()
     reader.wait(lambda: "120 of 120 rows answered" in reader.text(".progress"), "the rest is not sent", 200)
     reader.said += [(reader.user, None, f"register master ann - - - half sent {place}") for place in range(120)]
@@ -122,8 +134,7 @@ def full_store(reader, folder):
     before = len(reader.desk.line.posts)
     chosen(reader, folder, HEAD + "master,ann,,,,into a full store\n")
     judged(reader, 1, 1, 0, 0, 0, 0)
-    reader.run("let text = 'x'.repeat(1 << 20); for (let place = 0; text.length; place++) {"
-               "try { sessionStorage.setItem(`full.${place}`, text); } catch { text = text.slice(0, text.length / 2 | 0); } }")
+    reader.run(FILLS)
     reader.forget()
     reader.one(".buttons button.send").click()
     reader.wait(lambda: "store for this window is full" in reader.text("#said"), "a table stands still in silence")
@@ -131,15 +142,16 @@ def full_store(reader, folder):
     reader.submit("register", [("Type", "master"), ("Owner", "ann"), ("Purpose", "into a full store")])
     reader.wait(lambda: "store for this window is full" in reader.text("#said"), "a form does nothing in silence")
     expect(len(reader.desk.line.posts) == before, "a request was sent without its number being kept")
-    reader.run("for (const name of Object.keys(sessionStorage)) if (name.startsWith('full.')) sessionStorage.removeItem(name)")
+    reader.run(EMPTIES)
     reader.open("table")
     put_away(reader)
 
 
 def long_table(reader, folder, count):
-    """Rows a second at the beginning and at the end of a long table, and the letters that it takes in the store. Each row
-    is one request."""
-    rows = [f"data-encryption,ann,{day(-5)}Z,,,disks of the long table {place} in hall {place % 97}" for place in range(count)]
+    """Rows a second at the beginning and at the end of a long table, and the letters that it takes in the store. Each
+    row is one request."""
+    purposes = [f"disks of the long table {place} in hall {place % 97}" for place in range(count)]
+    rows = [f"data-encryption,ann,{day(-5)}Z,,,{purpose}" for purpose in purposes]
     chosen(reader, folder, HEAD + "\n".join(rows) + "\n")
     judged(reader, count, count, 0, 0, 0, 0)
     reader.logs()
@@ -147,20 +159,21 @@ def long_table(reader, folder, count):
     reader.one(".buttons button.send").click()
     for part in range(1, 5):
         begun, first = time.monotonic(), len(reader.desk.line.posts)
-        reader.wait(lambda part=part: len(reader.desk.line.posts) - before >= count * part // 4, "the rows are not sent",
-                    count)
+        reader.wait(lambda part=part: len(reader.desk.line.posts) - before >= count * part // 4,
+                    "the rows are not sent", count)
         taken.append((len(reader.desk.line.posts) - first) / (time.monotonic() - begun))
-    reader.wait(lambda: f"{count} of {count} rows answered: {count} accepted" in reader.text(".progress"), "not all came", 60)
+    reader.wait(lambda: f"{count} of {count} rows answered: {count} accepted" in reader.text(".progress"),
+                "not all came", 60)
     asked = [place for place in reader.logs()[1] if "/requests" in place or "/keys/" in place]
     expect(len(asked) <= count + 1, f"{count} rows took {len(asked)} exchanges")
     letters = reader.run("return Object.values(sessionStorage).reduce((sum, text) => sum + text.length, 0)")
     expect(letters < 150 * count, f"the store has {letters} letters of a table of {count} rows")
     expect(min(taken) >= 10 and taken[-1] >= taken[0] / 2, f"rows a second by quarters: {taken}")
-    reader.said += [(reader.user, None, f"register data-encryption ann {second(day(-5))} - - disks of the long table {place} "
-                     f"in hall {place % 97}") for place in range(count)]
+    reader.said += [(reader.user, None, f"register data-encryption ann {second(day(-5))} - - {purpose}")
+                    for purpose in purposes]
     put_away(reader)
-    return f"{count} rows were sent at {taken[0]:.0f} a second at first and {taken[-1]:.0f} at the end; the store has " \
-           f"{letters} letters"
+    return (f"{count} rows were sent at {taken[0]:.0f} a second at first and {taken[-1]:.0f} at the end; "
+            f"the store has {letters} letters")
 
 
 def all_taken(reader, folder, count):

@@ -18,10 +18,11 @@ def requests_of(desk):
 
 def logs_in_beside(reader, user, is_seen=False):
     """Another page of the same browser is given another user's password. `is_seen` is whether the first page knows that
-    it was left meanwhile."""
+    it was left meanwhile; else it does not ask by itself who sends."""
     first = reader.driver.current_window_handle
     if not is_seen:
-        reader.run("document.addEventListener('visibilitychange', (event) => event.stopImmediatePropagation(), true)")
+        reader.run("document.addEventListener('visibilitychange', (event) => event.stopImmediatePropagation(), true);"
+                   "for (let timer = setTimeout(() => {}); timer > 0; timer--) clearTimeout(timer);")
     reader.driver.switch_to.new_window("tab")
     reader.driver.get(f"http://{user}:{PASSWORDS[user]}@{HOST}:{reader.desk.line.port}/me")
     expect(reader.text("body") == user, f"the other page is of {reader.text('body')!r}")

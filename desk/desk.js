@@ -1,6 +1,7 @@
 // The desk: which page is shown, what is sent, and what is said of it.
 import {el, name, plain, replace} from "./dom.js";
 import {findPage, periodsPage, registerPage, tellNewer, waitsPage} from "./find.js";
+import {keepingForms} from "./forms.js";
 import {keyPage} from "./key.js";
 import {latest, learnKey, learnMoment, learnPeriod, learnRequest, list, load} from "./list.js";
 import {
@@ -64,8 +65,8 @@ function sayOther() {
   isOther = true;
   document.body.classList.add("other");
   replace(place("other"), el("div", {class: "note"},
-    el("p", {}, el("strong", {}, "Nothing is sent any more. "), "This browser sends as another user by now, and not as ",
-      name(desk.me), ", whom this page shows: somebody gave another password in it."),
+    el("p", {}, el("strong", {}, "Nothing is sent any more. "), "This browser sends as another user by now, and not ",
+      "as ", name(desk.me), ", whom this page shows: somebody gave another password in it."),
     el("p", {}, "What waits for an answer is kept for ", name(desk.me), ", and acts once."),
     el("button", {type: "button", onclick: () => location.reload()}, "Load the page anew")));
   putKept();
@@ -118,12 +119,13 @@ async function learn(answer, command) {
   }
 }
 
-// Shows what an answer changed. Where it is a refusal, what was typed stays.
+// Shows what an answer changed. What was typed stays, but in the form whose command was accepted.
 async function settle(answer, command) {
   await learn(answer, command);
+  const isHere = pageOf().word === "register";
   // Without an event, which would take the focus from the answer.
-  if (answer.accepted && command.kind === "register") history.pushState(null, "", `#key/${answer.key}`);
-  if (answer.accepted || command.key) await show({isNew: answer.accepted});
+  if (answer.accepted && command.kind === "register" && isHere) history.pushState(null, "", `#key/${answer.key}`);
+  await show(answer.accepted ? command.kind : null);
   sayAnswer(answer, command);
 }
 
@@ -215,23 +217,25 @@ function pageOf() {
   return {word: word || "find", number: Number(number), given: new URLSearchParams(given ?? "")};
 }
 
-// Shows the page of the address. With `isNew` its forms are new; else what was typed into them stays.
-async function show({isNew = true} = {}) {
+// Shows the page of the address. Where it stands already, what was typed into its forms stays, but of the kind `sent`.
+async function show(sent = null) {
   const mine = ++turn, {word, number, given} = pageOf(), main = place("main");
+  const page = word === "key" ? `key/${number}` : word, isSame = main.dataset.page === page;
+  const put = (render) => (isSame ? keepingForms(main, render, sent) : render());
   delete main.dataset.page;
-  replace(place("pages"), PAGES.map(([page, title]) =>
-    el("li", {}, el("a", {href: `#${page}`, "aria-current": page === word ? "page" : null}, title))));
+  replace(place("pages"), PAGES.map(([to, title]) =>
+    el("li", {}, el("a", {href: `#${to}`, "aria-current": to === word ? "page" : null}, title))));
   const isCurrent = () => mine === turn;
   if (!await isReader()) return;
   if (!isCurrent()) return;
-  if (word === "key" && number >= 1 && number <= 4294967295) await keyPage(main, number, desk, {isCurrent, isNew});
+  if (word === "key" && number >= 1 && number <= 4294967295) await keyPage(main, number, desk, {isCurrent, put});
   else if (word === "waits") waitsPage(main, desk);
-  else if (word === "register") registerPage(main, desk);
+  else if (word === "register") put(() => registerPage(main, desk));
   else if (word === "table") tablePage(main, desk);
-  else if (word === "periods") periodsPage(main, desk);
+  else if (word === "periods") put(() => periodsPage(main, desk));
   else findPage(main, given);
   if (!isCurrent()) return;
-  main.dataset.page = word === "key" ? `key/${number}` : word;
+  main.dataset.page = page;
   document.title = `${main.querySelector("h1").textContent} - keys`;
   tellTimes();
 }

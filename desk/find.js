@@ -14,7 +14,8 @@ const HEADS = ["Key", "State", "Owner", "Type", "Protect Stop", "Approvals", "Pu
 
 function row(number, at) {
   const key = keyAt(number, at);
-  const stop = key.protect_stop === null ? "" : el("span", {class: "moment"}, el("time", {}, utcText(key.protect_stop)), " ",
+  const stop = key.protect_stop === null ? "" : el("span", {class: "moment"},
+    el("time", {}, utcText(key.protect_stop)), " ",
     el("span", {class: "away"}, `(${away(key.protect_stop, at)})`));
   const approvals = key.custodians.length ? `${key.approvals.length} of ${key.need}` : "";
   return [el("a", {href: `#key/${number}`}, String(number)), state(key.state, isOverdue(key, at)), name(key.owner),

@@ -233,8 +233,9 @@ export function commandForm(kind, {desk, key, isOwners = true}) {
 
 // ---- what was typed stays
 
-// Shows a page anew: in forms that are there again stands what was typed into them, and one that was open is open.
-export function keepingForms(place, show) {
+// Shows a page anew: in forms that are there again, but of the kind that was sent, stands what was typed into them, and
+// one that was open is open.
+export function keepingForms(place, show, sent = null) {
   const before = [...place.querySelectorAll("form.command")].map((form) => ({
     kind: form.dataset.kind,
     isOpen: form.closest("details")?.open,
@@ -243,7 +244,7 @@ export function keepingForms(place, show) {
   show();
   for (const {kind, isOpen, values} of before) {
     const form = place.querySelector(`form.command[data-kind='${kind}']`);
-    if (!form || isOpen === false) continue;
+    if (!form || isOpen === false || kind === sent) continue;
     if (isOpen) form.closest("details").open = true;
     // What is done with a date is put back behind the date, which sets it.
     values.sort(([one], [other]) => one.endsWith("-edit") - other.endsWith("-edit"));

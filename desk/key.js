@@ -45,8 +45,10 @@ function lettersOf(dates, place) {
 const percent = (value) => `${value.toFixed(2)}%`;
 
 function bar([kind, from, to], place, top) {
-  const [left, right] = [place(from), place(to)];
-  if (kind === "wait") return svg("line", {class: kind, x1: percent(left), x2: percent(right), y1: top + 8, y2: top + 8});
+  const [left, right] = [place(from), place(to)], middle = top + 8;
+  if (kind === "wait") {
+    return svg("line", {class: kind, x1: percent(left), x2: percent(right), y1: middle, y2: middle});
+  }
   const [y, height] = kind === "protect" ? [top, 16] : [top + 5, 6];
   return svg("rect", {class: kind, x: percent(left), y, width: percent(right - left), height});
 }
@@ -190,13 +192,12 @@ function show(place, number, desk, note) {
     heard ? acts(key, desk, at) : null, history(number, at));
 }
 
-// Shows the key as it is known, asks the register, and shows it as it is. What is typed into a form meanwhile stays;
-// with `isNew` the forms are new.
-export async function keyPage(place, number, desk, {isCurrent, isNew}) {
+// Shows the key as it is known, by `put`, asks the register, and shows it as it is. What is typed into a form meanwhile
+// stays.
+export async function keyPage(place, number, desk, {isCurrent, put}) {
   const before = learntOf(number);
-  const put = (note) => keepingForms(place, () => show(place, number, desk, note));
-  if (isNew) show(place, number, desk, "");
-  else put("");
+  const again = (note) => keepingForms(place, () => show(place, number, desk, note));
+  put(() => show(place, number, desk, ""));
   try {
     const heard = await keyOf(number);
     if (!isCurrent()) return;
@@ -206,10 +207,10 @@ export async function keyPage(place, number, desk, {isCurrent, isNew}) {
     }
     learnKey(heard);
     const isSame = before && JSON.stringify([before.key, before.usage]) === JSON.stringify([heard.key, heard.usage]);
-    if (!isSame) put("");
+    if (!isSame) again("");
   } catch (fault) {
     if (fault instanceof AnotherUser) return;
     if (!(fault instanceof Unanswered)) throw fault;
-    if (isCurrent()) put("The register does not answer now. What stands here is older.");
+    if (isCurrent()) again("The register does not answer now. What stands here is older.");
   }
 }

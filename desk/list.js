@@ -26,8 +26,8 @@ const learnt = {
   requests: stored("requests", {}),
   latest: stored("latest", 0),
 };
-// The keys of which a row of a table was accepted, as they were foretold: {number: {key, caller}}. The table is kept, and
-// they follow from it after a reload.
+// The keys of which a row of a table was accepted, as they were foretold: {number: {key, caller}}. The table is kept,
+// and they follow from it after a reload.
 let registered = new Map();
 let columns = noColumns(), names = [], types = Object.keys(PERIODS);
 // What is looked through for a text, in small letters, by key; and how many keys there are in it.

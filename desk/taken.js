@@ -81,7 +81,8 @@ class Table {
     this.counts[answer.key ? "accepted" : "refused"] += 1;
   }
 
-  // Notes the register's answer to a row. Of one that was accepted the key is known from then on, without asking for it.
+  // Notes the register's answer to a row. Of one that was accepted the key is known from then on, without being asked
+  // for.
   note(answer) {
     const place = answer.number - this.first;
     if (this.answers[place]) return;
@@ -134,7 +135,8 @@ class Table {
   async keepAll() {
     forgetAll();
     const {name, rows, caller} = this;
-    this.isKept = keep(TABLE, await packed(JSON.stringify({name, rows, caller}))) && keep(`${TABLE}.room`, " ".repeat(ROOM));
+    const text = await packed(JSON.stringify({name, rows, caller}));
+    this.isKept = keep(TABLE, text) && keep(`${TABLE}.room`, " ".repeat(ROOM));
     sessionStorage.removeItem(`${TABLE}.room`);
     if (!this.isKept) forgetAll();
     this.keepMarks();
@@ -180,7 +182,8 @@ function answersOf(count) {
 export async function restore(caller) {
   const away = sessionStorage.getItem(AWAY), text = sessionStorage.getItem(TABLE);
   try {
-    for (const {key, caller: other} of away === null ? [] : JSON.parse(await unpacked(away))) learnRegistered(key, other);
+    const keys = away === null ? [] : JSON.parse(await unpacked(away));
+    for (const {key, caller: other} of keys) learnRegistered(key, other);
     if (text === null) return;
     const table = JSON.parse(await unpacked(text));
     if (table.caller !== caller || !table.rows.every((row) => Array.isArray(row))) return;

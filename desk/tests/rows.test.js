@@ -56,8 +56,8 @@ test("a row is a key already right after it was registered, also behind the list
   const row = ["master", "ann", "2026-02-01T00:00:00Z", "", "", "root"];
   assert.deepEqual(sorts([row]), ["good"]);
   const dates = {activation: 1769904000, protect_stop: 1801440000, deactivation: 1801440000};
-  const key = {type: "master", owner: "ann", purpose: "root", initial: 1769904000, ...dates, custodians: [], approvals: [],
-    need: 2};
+  const words = {type: "master", owner: "ann", purpose: "root", initial: 1769904000};
+  const key = {...words, ...dates, custodians: [], approvals: [], need: 2};
   learnRegistered({...key, number: 1}, "ann");
   assert.deepEqual(sorts([row]), ["twice"]);
 });
