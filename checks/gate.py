@@ -64,6 +64,7 @@ PARTS = (
     Part("manual.py", 30),
     Part("unseen.py", 30),
     Part("recipes.py", 30),
+    Part("wrong_bodies.py --texts", 30),
 )
 
 # What the scripts call, by the Debian package that has it. Those of one command stand together:
