@@ -81,6 +81,7 @@ GATE = (
     Part("manual.py", 30),
     Part("unseen.py", 30),
     Part("recipes.py", 30),
+    Part("wrong_bodies.py --texts", 30),
 )
 
 # What --all runs besides: what takes longer, and what wants root or packages of its own.

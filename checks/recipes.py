@@ -29,7 +29,7 @@ LINK = re.compile(r"\(#([\w-]+)\)")
 SUFFIXES = (".rt", ".antt", ".edit")
 # The folders that a build, a package and Python make.
 MADE = ("out", "packages", "__pycache__")
-INNER = ("", "src", "src/tests", "proofs", "specs", "must-fail")
+INNER = ("", "src", "src/tests", "proofs", "specs", "must-fail", "more-must-fail")
 
 
 class Kind(NamedTuple):
@@ -44,7 +44,7 @@ class Kind(NamedTuple):
 ALWAYS = {
     "the recipes": "docs/RECIPES.md checks/recipes.py",
     "the page that checks/theorem.py makes": "docs/THEOREM.md",
-    "wrong bodies, of which rt tells those whose lines changed": "crates/*/must-fail/*",
+    "wrong bodies, of which rt and checks/wrong_bodies.py tell those whose lines changed": "crates/*/*must-fail/*",
 }
 KINDS = (
     Kind("Add a command", r"\b[Ww]ithdraw\b", {
