@@ -102,7 +102,6 @@ REST = (
     Part("table_checked.py", 600),
     Part("full_register.py", 1800),
     Part("mutated.py --seconds 60", 900),
-    Part("wrong_bodies.py --texts", 60),
 )
 
 # What the scripts call, by the Debian package that has it. Those of one command stand together:
