@@ -1,6 +1,6 @@
 """The day on which each command is accepted: the request lines of examples/every_command.txt, and what stands beside
 each in examples/every_command.tsv, row by row. That is its reply, and the name of the file in which a crate's test has
-it as a table: `repeats` of test_desk_trials, `requests` of test_fault_trials, or `-` for none.
+it as a table: `steps` of test_desk_trials, `requests` of test_fault_trials, or `-` for none.
 
 The lines of `requests` are about keys that time moves, moments apart. The others, SHORT, are a day by themselves.
 """

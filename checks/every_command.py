@@ -26,8 +26,7 @@ from registers import PROGRAM, TOP, keyreg
 from register_rules import COMPROMISES, FORMS, Key, Refused, Register
 
 HAS_PROGRAM = os.access(PROGRAM, os.X_OK)
-REPEATS, STEPS, TRIALS = (f"crates/test_{name}.rt" for name in (
-    "desk_trials/src/repeats", "desk_trials/src/steps", "fault_trials/src/requests"))
+STEPS, TRIALS = (f"crates/test_{name}.rt" for name in ("desk_trials/src/steps", "fault_trials/src/requests"))
 # The commands whose refusals look at a key's custodians and approvals.
 LOOKS = {"assign", "add-custodian", "remove-custodian", "approve", "withdraw", "destroy"}
 # Of the former those that look at how many approvals are needed too.
@@ -96,19 +95,6 @@ def table_faults(path: str, rows: list[tuple[str, ...]], wanted: list[tuple[str,
                         for place, row in enumerate(wanted[other_first:other_last], other_first))
 
 
-def repeats_row(asked: Asked) -> tuple[str, ...]:
-    moment, caller, number, command = asked.text.split(" ", 3)
-    return moment, f"{caller} {number}", command, asked.reply
-
-
-def stands_fault(day: list[Asked]) -> Iterator[str]:
-    """The last moment and the keys that the test of repeats expects."""
-    found = re.search(r"ran\.stands == \((\d+), (\d+)\)", read(REPEATS))
-    wanted = (str(day[-1].request.moment), str(sum(asked.request.word == "register" for asked in day)))
-    if not found or found.groups() != wanted:
-        yield f"{REPEATS}: ran.stands is not ({', '.join(wanted)})"
-
-
 # ---- the steps of each line
 
 def steps_of(asked: Asked, key: Key | None, latest: int) -> int:
@@ -130,18 +116,16 @@ def steps_of(asked: Asked, key: Key | None, latest: int) -> int:
 
 
 def step_faults(day: list[Asked]) -> Iterator[str]:
-    table = re.search(r"const STEPS: \[u64; \d+\] = \[(.*?)\];", read(STEPS), re.S)
-    found, register = [int(number) for number in re.findall(r"\d+", table[1])] if table else [], Register()
-    if len(found) != len(day):
-        yield f"{STEPS}: STEPS has {len(found)} numbers, and the table {len(day)} lines"
-    for place, asked in enumerate(day):
+    found = dict(re.findall(r'^ +\("([^"]+)", "[^"]+", (\d+)\),$', read(STEPS), re.M))
+    register = Register()
+    for asked in day:
         wanted = steps_of(asked, register.keys.get(asked.request.named), register.latest)
         try:
             register.answer(asked.request)
         except Refused:
             return
-        if place < len(found) and found[place] != wanted:
-            yield f"{STEPS}: {asked.text}: STEPS has {found[place]}, and by the rule it takes {wanted}"
+        if found.get(asked.text) != str(wanted):
+            yield f"{STEPS}: {asked.text}: {found.get(asked.text)} stands there, and by the rule it takes {wanted}"
 
 
 def document_faults(day: list[Asked]) -> Iterator[str]:
@@ -153,16 +137,16 @@ def document_faults(day: list[Asked]) -> Iterator[str]:
 
 
 def main() -> int:
-    repeats, trials = alone("repeats"), alone("requests")
-    days = {"the day": DAY, "the short day": SHORT, "repeats": repeats, "requests": trials}
+    steps, trials = alone("steps"), alone("requests")
+    days = {"the day": DAY, "the short day": SHORT, "steps": steps, "requests": trials}
     faults = [fault for name, day in days.items() for kind in (kind_faults, reply_faults) for fault in kind(name, day)]
-    faults += table_faults(REPEATS, rows_in(REPEATS, "DAY"), list(map(repeats_row, repeats)))
-    faults += table_faults(TRIALS, rows_in(TRIALS, "DAY"), [(asked.text, asked.reply) for asked in trials])
-    faults += [*stands_fault(repeats), *step_faults(repeats), *document_faults(trials)]
+    for path, day in ((STEPS, steps), (TRIALS, trials)):
+        faults += table_faults(path, rows_in(path, "DAY"), [(asked.text, asked.reply) for asked in day])
+    faults += [*step_faults(steps), *document_faults(trials)]
     faults += [] if HAS_PROGRAM else [f"no program at {PROGRAM}, so it was not asked: ./keyreg </dev/null builds it"]
     print(*faults, sep="\n", end="\n" if faults else "")
     print(f"{len(DAY)} lines with {len(document_kinds())} kinds of request, of which tables of crates have "
-          f"{len(repeats)} and {len(trials)}: {len(faults)} faults")
+          f"{len(steps)} and {len(trials)}: {len(faults)} faults")
     return 1 if faults else 0
 
 

@@ -42,8 +42,8 @@ GIVEN = "a line\n"
 WANTED = "words: run --file x\na line\n"
 FUNCTIONS = 3
 LINE = re.compile(
-    r"keyreg: (\d+)(?:-(\d+))? of (\d+), about \d+ min left: ([\w, ]+), (\d+) functions, (\d+ min \d+ s) *")
-ENDED = re.compile(r"^keyreg: (\w+) is proved \((\d+) of (\d+)\), about \d+ min left$", re.M)
+    r"keyreg: (\d+)(?:-(\d+))? of (\d+): ([\w, ]+), (\d+) functions, (\d+ min \d+ s) *")
+ENDED = re.compile(r"^keyreg: (\w+) is proved \((\d+) of (\d+)\)$", re.M)
 
 
 def write_program(text):
@@ -114,7 +114,7 @@ def crates_below(top=TOP, crate="keyreg"):
 CRATES = crates_below()
 TOTAL = len(CRATES)
 # The program logic that is told to the script, and that the copy has.
-LOGIC = re.search(r"logic ([0-9a-f]{16})", (TOP / "README.md").read_text(encoding="utf-8"))[1]
+LOGIC = re.search(r"logic ([0-9a-f]{16})", (TOP / "crates/register_words/src/words.rt").read_text("utf-8"))[1]
 CORES = len(os.sched_getaffinity(0))
 
 
@@ -278,7 +278,7 @@ def without_the_kit(copy):
     """Where `rt` is not there, or has another program logic, one line says so, and nothing is begun."""
     environ, folder = copy.environ, copy.told.parent / "no-rt"
     folder.mkdir()
-    for name in ("bash", "awk", "sed", "dirname", "readlink", "find", "head", "cut", "flock", "touch", "mkdir", "cat"):
+    for name in ("bash", "sed", "tac", "dirname", "readlink", "find", "head", "cut", "flock", "touch", "mkdir", "cat"):
         (folder / name).symlink_to(shutil.which(name))
     cases = {"there is no rt": {"PATH": str(folder)}, f"another program logic than {LOGIC}": {"LOGIC": "0" * 16}}
     for said, changed in cases.items():
@@ -307,38 +307,6 @@ def silent(copy):
     if [name for name in names[:slow] if "moment_core" in needs(name)] or "streams" not in names[:slow]:
         yield f"without a terminal: no line for each crate as it ends: {names}"
     yield from in_order(copy, CORES)
-    first = called[2].split("is proved")[0]
-    script = copy.words[0].read_text(encoding="utf-8")
-    for cores in ("four", "two"):
-        minutes = re.search(rf"^minutes_on_{cores}='([^']+)'$", script, re.M)[1]
-        if not re.search(rf"\b{minutes}\b[^0-9]*\bon {cores}\b", first):
-            yield f"no {minutes} minutes on {cores} cores before the first crate: {first}"
-        if script.count(minutes) != 1:
-            yield f"{minutes} stands more than once in ./keyreg"
-
-
-# What a proof of `keyreg` may use, as ./keyreg has it, and what LLVM takes behind it, in seconds.
-MOST_JOBS, LLVM = 3, 100
-
-
-def time_left(copy):
-    """What is said to be left is what docs/GATE.md has, as many times as the crates before took longer than there."""
-    gate = copy.top / "docs" / "GATE.md"
-    text = gate.read_text(encoding="utf-8")
-    # Two crates alone have a time: a second and a half for the first one, and some hours for the last one.
-    times = {**dict.fromkeys(CRATES, "0.0"), "moment_core": "0.025", "keyreg": "300"}
-    gate.write_text("".join(f"| `{name}` | {minutes} | | | |\n" for name, minutes in times.items()), encoding="utf-8")
-    ahead = 300 * 60 // min(CORES, MOST_JOBS) + LLVM
-    for slower in (1, 3):
-        copy.tells(f"wait-moment_core={slower + 0.2}")
-        copy.renew()
-        called = copy.call()
-        yield from copy.built(called, "a machine that is slower")
-        told = re.search(r"moment_core is proved .* about (\d+) min left", called[2])
-        least, most = (ahead * part // 60 for part in (slower, slower + 2))
-        if not told or not least <= int(told[1]) <= most:
-            yield f"{slower} times as slow: {least} to {most} minutes are left, and {told and told[0]} is told"
-    gate.write_text(text, encoding="utf-8")
 
 
 def terminal(copy):
@@ -520,7 +488,7 @@ def main():
     found = []
     with tempfile.TemporaryDirectory() as folder:
         copy = Copy(pathlib.Path(folder), int(sys.argv[1]) if len(sys.argv) > 1 else 3)
-        tests = (silent, time_left, one_core, without_the_kit, terminal, used_at_once, built_again, failed, interrupted,
+        tests = (silent, one_core, without_the_kit, terminal, used_at_once, built_again, failed, interrupted,
                  pressed, together)
         for test in tests:
             try:

@@ -1,19 +1,22 @@
 #!/usr/bin/env python3
-"""The gate's scripts: they show from outside the program that `rt ci` built.
+"""The scripts that show from outside the program that `rt ci` built.
 
     checks/gate.py [PART..]
+    checks/gate.py --all [PART..]
     checks/gate.py --furnish
     rt ci | checks/gate.py --behind-proofs
 
-Each part of the table below is run, or those that are named, as many side by side as two cores take.
-Each has a limit of seconds by the clock, after which it is killed and has failed. KEYREG names
-another program than the one that stands.
+Each part of the table GATE below is run, with --all of the table REST too, or those that are named,
+as many side by side as two cores take. Each has a limit of seconds by the clock, after which it is
+killed and has failed. KEYREG names another program than the one that stands.
 
 A part that passes gets one line, one that fails its output too. The last line counts the passed
-and the failed. The status is 0 where none failed.
+and the failed, and with --all those that were left out for want of a package or of root, each of
+which has a line that says so. The status is 0 where none failed.
 
---furnish        looks for each command and module that the scripts use, and runs none. Root installs
-                 what is missing from Debian's packages; where something is missing then, it fails
+--all            root installs from Debian's packages what the parts use
+--furnish        looks for each command and module that the gate's parts use, and runs none. Root
+                 installs what is missing; where something is missing then, it fails
 --behind-proofs  passes on what `rt ci` prints. Where that is green, all parts are run over the
                  program of this repository. The last line counts those of `rt ci` too
 """
@@ -36,17 +39,20 @@ COUNTS = re.compile(rb"(\d+) passed, (\d+) failed\s*")
 
 
 class Part(NamedTuple):
-    """A script under checks/ with its words, its limit in seconds, and how many cores it keeps."""
+    """A script under checks/ with its words, its limit in seconds, how many cores it keeps, the commands that it uses
+    beside those of COMMANDS, and whether root alone runs it."""
     words: str
     seconds: int
     cores: int = 1
+    commands: tuple[str, ...] = ()
+    is_roots: bool = False
 
     def name(self) -> str:
         return self.words.split()[0].removesuffix(".py")
 
 
 # Those that keep both cores come first, then the longest.
-PARTS = (
+GATE = (
     Part("want_of_memory.py", 600, cores=2),
     Part("power_cuts.py --points 60 --choices 1", 120, cores=2),
     Part("exchanges_by_curl.py --bound 20", 120),
@@ -58,14 +64,44 @@ PARTS = (
     Part("killed_migrations.py 16", 90),
     Part("killed_runs.py 20", 90),
     Part("documents.py", 90),
+    Part("behind_nginx.py", 60),
     Part("desk_code.py", 60),
     Part("desk_rules.py", 60),
+    Part("migrated_by_sqlite3.py", 60),
+    Part("rebuilt_by_sqlite3.py", 60),
+    Part("fresh_answers.py", 60),
+    Part("audit.py", 60),
     Part("every_command.py", 30),
+    Part("read_by_sqlite3.py", 30),
+    Part("written_by_sqlite3.py", 30),
+    Part("repeats_memory.py", 30),
+    Part("unreadable_file.py", 30),
     Part("read_export.py", 30),
     Part("given.py", 30),
     Part("manual.py", 30),
     Part("unseen.py", 30),
     Part("recipes.py", 30),
+    Part("wrong_bodies.py --texts", 30),
+)
+
+# What --all runs besides: what takes longer, and what wants root or packages of its own.
+ROOT_OF_DEBIAN = ("debootstrap", "systemd-nspawn")
+REST = (
+    Part("desk_in_browser.py", 3600, cores=2),
+    Part("desk_in_firefox.py", 300, commands=("firefox-esr",)),
+    Part("timeline_drawn.py", 900, cores=2, commands=("pdftotext",)),
+    Part("packaged.py", 1800, commands=(*ROOT_OF_DEBIAN, "lintian", "tmux", "zsh", "fish", "readelf"), is_roots=True),
+    Part("in_systemd.py", 3600, commands=ROOT_OF_DEBIAN, is_roots=True),
+    Part("same_package.py", 900, commands=("readelf",)),
+    Part("completed.py", 300, commands=("tmux", "zsh", "fish")),
+    Part("client_tried.py", 900),
+    Part("followed.py", 900),
+    Part("restored.py", 900),
+    Part("replayed.py", 900),
+    Part("rebuilt.py", 900),
+    Part("table_checked.py", 600),
+    Part("full_register.py", 1800),
+    Part("mutated.py --seconds 60", 900),
 )
 
 # What the scripts call, by the Debian package that has it. Those of one command stand together:
@@ -75,6 +111,12 @@ COMMANDS = {
     "curl": "curl", "gcc": "gcc libc6-dev", "groff": "groff-base", "mandoc": "mandoc",
     "nginx": "nginx-light", "node": "nodejs", "openssl": "openssl", "sqlite3": "sqlite3",
     "strace": "strace",
+}
+# What parts of REST call besides.
+MORE_COMMANDS = {
+    "debootstrap": "debootstrap", "firefox-esr": "firefox-esr", "fish": "fish", "lintian": "lintian",
+    "pdftotext": "poppler-utils", "readelf": "binutils", "systemd-nspawn": "systemd-container systemd",
+    "tmux": "tmux", "zsh": "zsh",
 }
 MODULES = {"jsonschema": "python3-jsonschema", "selenium": "python3-selenium", "yaml": "python3-yaml"}
 # Debian's modules belong to its own interpreter.
@@ -98,9 +140,9 @@ def has_command(name: str) -> bool:
     return bool(shutil.which(name) or shutil.which(name, path="/usr/sbin"))
 
 
-def missing() -> dict[str, str]:
-    """What is not there, each with its package."""
-    found = {name: package for name, package in COMMANDS.items() if not has_command(name)}
+def missing(commands: dict[str, str]) -> dict[str, str]:
+    """Which of these commands, and which modules, are not there, each with its package."""
+    found = {name: package for name, package in commands.items() if not has_command(name)}
     if all(missing_modules(python) for python in INTERPRETERS):
         found |= {name: MODULES[name] for name in missing_modules(INTERPRETERS[-1])}
     return found
@@ -118,13 +160,35 @@ def install(packages: list[str]) -> None:
                        stdin=subprocess.DEVNULL, stdout=sys.stderr)
 
 
-def furnish() -> bool:
-    """Whether all that the scripts use is there, or could be installed."""
-    if wanted := missing():
+def furnish(commands: dict[str, str]) -> dict[str, str]:
+    """What is not there of what the scripts use, and could not be installed, each with its package."""
+    if wanted := missing(commands):
         install(sorted({name for packages in wanted.values() for name in packages.split()}))
-    for name, package in missing().items():
+    return missing(commands)
+
+
+def is_furnished() -> bool:
+    """Whether all that the gate's parts use is there, or could be installed."""
+    lacking = furnish(COMMANDS)
+    for name, package in lacking.items():
         print(f"gate: {name} is not there: Debian's package {package} has it", flush=True)
-    return not missing()
+    return not lacking
+
+
+def that_can_run(parts: list[Part]) -> list[Part]:
+    """Those of the parts for which all is there. Of each other one a line says why it is left out."""
+    lacking, can = furnish(COMMANDS | MORE_COMMANDS), []
+    for part in parts:
+        wanted = {name: package for name, package in lacking.items()
+                  if name in part.commands or name not in MORE_COMMANDS}
+        whys = [f"no {name} (Debian's {package})" for name, package in wanted.items()]
+        if part.is_roots and os.geteuid() != 0:
+            whys.append("not root")
+        if whys:
+            print(f"{part.name()}: left out: {', '.join(whys)}", flush=True)
+        else:
+            can.append(part)
+    return can
 
 
 # ---- the proofs
@@ -216,27 +280,28 @@ def run(parts: list[Part], has_given_program: bool) -> int:
     return failed
 
 
-def chosen(names: list[str]) -> list[Part]:
-    known = [part.name() for part in PARTS]
+def chosen(names: list[str], table: tuple[Part, ...]) -> list[Part]:
+    known = [part.name() for part in table]
     if wrong := [name for name in names if name not in known]:
         sys.exit(f"gate: no part {', '.join(wrong)}; there are {', '.join(known)}")
-    return [part for part in PARTS if not names or part.name() in names]
+    return [part for part in table if not names or part.name() in names]
 
 
 def main() -> None:
     words = argparse.ArgumentParser()
+    words.add_argument("--all", action="store_true")
     words.add_argument("--furnish", action="store_true")
     words.add_argument("--behind-proofs", action="store_true")
     words.add_argument("parts", nargs="*", metavar="PART")
     told = words.parse_args()
-    if told.parts and (told.furnish or told.behind_proofs):
-        words.error("parts are named alone")
-    parts = chosen(told.parts)
+    if told.furnish + told.behind_proofs + bool(told.all or told.parts) > 1:
+        words.error("--furnish and --behind-proofs stand alone")
+    parts = chosen(told.parts, GATE + REST if told.all else GATE)
     # Whoever ends the gate ends what it began.
     signal.signal(signal.SIGTERM, lambda *_: sys.exit(1))
     passed, failed = pass_on() if told.behind_proofs else (0, 0)
-    given = None if told.behind_proofs else os.environ.get("KEYREG")
-    if failed == 0 and not furnish():
+    given, left_out = None if told.behind_proofs else os.environ.get("KEYREG"), 0
+    if failed == 0 and not (told.all or is_furnished()):
         failed = 1
     elif told.furnish:
         return
@@ -244,9 +309,10 @@ def main() -> None:
         print(f"gate: no program at {given or PROGRAM}", flush=True)
         failed = 1
     elif failed == 0:
-        failed = run(parts, has_given_program=bool(given))
-        passed += len(parts) - failed
-    print(f"{passed} passed, {failed} failed", flush=True)
+        can = that_can_run(parts) if told.all else parts
+        failed, left_out = run(can, has_given_program=bool(given)), len(parts) - len(can)
+        passed += len(can) - failed
+    print(f"{passed} passed, {failed} failed" + f", {left_out} left out" * told.all, flush=True)
     sys.exit(1 if failed else 0)
 
 

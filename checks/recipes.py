@@ -29,7 +29,7 @@ LINK = re.compile(r"\(#([\w-]+)\)")
 SUFFIXES = (".rt", ".antt", ".edit")
 # The folders that a build, a package and Python make.
 MADE = ("out", "packages", "__pycache__")
-INNER = ("", "src", "src/tests", "proofs", "specs", "must-fail")
+INNER = ("", "src", "src/tests", "proofs", "specs", "must-fail", "more-must-fail")
 
 
 class Kind(NamedTuple):
@@ -44,7 +44,7 @@ class Kind(NamedTuple):
 ALWAYS = {
     "the recipes": "docs/RECIPES.md checks/recipes.py",
     "the page that checks/theorem.py makes": "docs/THEOREM.md",
-    "wrong bodies, of which rt tells those whose lines changed": "crates/*/must-fail/*",
+    "wrong bodies, of which rt and checks/wrong_bodies.py tell those whose lines changed": "crates/*/*must-fail/*",
 }
 KINDS = (
     Kind("Add a command", r"\b[Ww]ithdraw\b", {
@@ -56,8 +56,7 @@ KINDS = (
     Kind("Add a command", r"\b(Activate|Assign|AddCustodian|Approve)\b", {
         "they stand for their shapes": "*/Commands.antt",
         "their refusals": "*/CustodyRefusal.antt crates/register_core/src/decision.rt",
-        "any command would do": "crates/test_desk_trials/src/desks.rt docs/COSTS.md "
-                                "checks/desk_keyboard.py",
+        "any command would do": "docs/COSTS.md checks/desk_keyboard.py",
     }),
     Kind("Add a shape of fields", r"\bTypeAndPeriod\b|type_and_period|\bDateEdits\b", {
         "the kinds that have it": "*/CommandKind.antt */command_fields.rt",
@@ -80,6 +79,7 @@ KINDS = (
     Kind("Add a command about no key", r"\bSetPeriod\b|set-period|\bset_period\b|\bPeriodSet\b", {
         "a day or a year of an office": "docs/AUDIT.md examples/office.txt examples/year.txt",
         "what a period means for keys": "*/UnsetPeriods.antt */register_core/src/laws.rt */KeyRowsOf.antt */exports.rt "
+                                        "*/test_desk_trials/src/desks.rt "
                                         "*/ListedRows.antt bench/tables.py checks/rules_tried.py",
         "who the office is": "checks/behind_nginx.py checks/client_tried.py",
         "what they look at beside the day": "checks/want_of_memory.py checks/large_office.py checks/mutated.py",
@@ -102,7 +102,7 @@ KINDS = (
     Kind("Add a version of the tables",
          r"Version::Second|Version\.TheVariants\.\{[^}]*Second|first_version|\bmigrate\b|\bversion_1\b",
          {"it copies the file": "checks/commands.py packaging/pages.py"}),
-    Kind("Add a test", r"\bis_need_of_no_key_refused\b", {"its module": "*/openings.rt"}),
+    Kind("Add a test", r"\btable_wrongly_imported\b", {"its module": "*/imports.rt"}),
 )
 
 

@@ -1,15 +1,15 @@
-//! Tests of the crates below the store: what no contract says of them, and outcomes that were
-//! worked out elsewhere. They stand here, since a library that has tests is proved once more for
-//! them.
+//! Tests of the crates below the desk: outcomes that were worked out elsewhere, printed text, and each
+//! call that takes memory once on its happy path. They stand here, since a library that has tests is
+//! proved once more for them.
 #![tactic(auto)]
 
 #[cfg(test)]
-mod lifecycle;
-#[cfg(test)]
-mod lines;
+mod asked;
 #[cfg(test)]
 mod moments;
 #[cfg(test)]
-mod periods;
+mod printed;
 #[cfg(test)]
-mod requests;
+mod replies;
+#[cfg(test)]
+mod transitions;

@@ -1,83 +1,78 @@
 //! Sums with calendar months and days, compared with the worked rows and with the calendar of
-//! Python's datetime.
+//! Python's datetime, and texts of moments.
 mod sums;
 
-use moment_core::{LAST_SECOND, Moment};
+use moment_core::Moment;
 use sums::SUMS;
 
-/// What is added to a moment.
-#[derive(Clone, Copy, Debug, PartialEq, Eq)]
-enum Added {
-    Months(u16),
-    Days(u32),
-}
-
-/// A moment, what is added, and the sum: in seconds, `None` past the last moment.
-type Addition = (u64, Added, Option<u64>);
-
-const MONTHS_ADDED: [Addition; 6] = [
-    (2_592_000, Added::Months(1), Some(5_011_200)),
-    (LAST_SECOND, Added::Months(0), Some(LAST_SECOND)),
-    (LAST_SECOND, Added::Months(1), None),
-    (0, Added::Months(24), Some(63_072_000)),
-    (63_072_000, Added::Months(36), Some(157_766_400)),
-    (1_709_164_800, Added::Months(36), Some(1_803_772_800)),
+/// A moment, months, and the moment so many months later, in seconds, or 0 past the last one: worked
+/// rows.
+static MONTHS_ADDED: [(u64, u16, u64); 6] = [
+    (2_592_000, 1, 5_011_200),
+    (253_402_300_799, 0, 253_402_300_799),
+    (253_402_300_799, 1, 0),
+    (0, 24, 63_072_000),
+    (63_072_000, 36, 157_766_400),
+    (1_709_164_800, 36, 1_803_772_800),
 ];
 
-const DAYS_ADDED: [Addition; 5] = [
-    (0, Added::Days(1), Some(86_400)),
-    (68_169_600, Added::Days(1), Some(68_256_000)),
-    (LAST_SECOND, Added::Days(0), Some(LAST_SECOND)),
-    (LAST_SECOND, Added::Days(1), None),
-    (LAST_SECOND - 86_400, Added::Days(1), Some(LAST_SECOND)),
+/// The same of days.
+static DAYS_ADDED: [(u64, u32, u64); 5] = [
+    (0, 1, 86_400),
+    (68_169_600, 1, 68_256_000),
+    (253_402_300_799, 0, 253_402_300_799),
+    (253_402_300_799, 1, 0),
+    (253_402_214_399, 1, 253_402_300_799),
 ];
 
-/// Whether the moment so much later is this one.
-fn is_sum(seconds: u64, added: Added, sum: Option<u64>) -> bool {
-    let Some(moment) = Moment::new(seconds) else {
-        return false;
-    };
-    let later = match added {
-        Added::Months(months) => moment.plus_months(months),
-        Added::Days(days) => moment.plus_days(days),
-    };
-    later.map(Moment::seconds) == sum
+fn months_later(seconds: u64, months: u16) -> Option<u64> {
+    Some(Moment::new(seconds)?.plus_months(months)?.seconds())
 }
 
-/// The first addition that has another sum, if there is one.
-fn wrong_addition(additions: &[Addition]) -> Option<Addition> {
-    additions
-        .iter()
-        .copied()
-        .find(|(seconds, added, sum)| !is_sum(*seconds, *added, *sum))
+fn days_later(seconds: u64, days: u32) -> Option<u64> {
+    Some(Moment::new(seconds)?.plus_days(days)?.seconds())
 }
 
-#[test]
-fn months_added(rt: HostRuntime) {
-    assert_eq!(rt; wrong_addition(&MONTHS_ADDED), None);
-}
-
-#[test]
-fn days_added(rt: HostRuntime) {
-    assert_eq!(rt; wrong_addition(&DAYS_ADDED), None);
-}
-
-#[test]
-fn sums_of_months(rt: HostRuntime) {
-    for (seconds, months, sum) in &SUMS {
-        let sum = if *sum == 0 { None } else { Some(*sum) };
-        assert!(rt;
-            is_sum(*seconds, Added::Months(*months), sum),
-            "{seconds} plus {months} months"
-        );
+/// The first of these moments whose sum is another, if there is one.
+fn wrong_months(rows: &[(u64, u16, u64)]) -> Option<u64> {
+    for (seconds, months, sum) in rows {
+        if months_later(*seconds, *months).unwrap_or(0) != *sum {
+            return Some(*seconds);
+        }
     }
+    None
 }
 
-const TEXTS: [(u64, &[u8; 20]); 4] = [
+fn wrong_days() -> Option<u64> {
+    for (seconds, days, sum) in &DAYS_ADDED {
+        if days_later(*seconds, *days).unwrap_or(0) != *sum {
+            return Some(*seconds);
+        }
+    }
+    None
+}
+
+#[test]
+fn sums_are_the_calendars(rt: HostRuntime) {
+    assert!(rt; wrong_months(&MONTHS_ADDED).is_none());
+    assert!(rt; wrong_months(&SUMS).is_none());
+    assert!(rt; wrong_days().is_none());
+}
+
+static TEXTS: [(u64, &[u8; 20]); 4] = [
     (0, b"1970-01-01T00:00:00Z"),
     (951_782_400, b"2000-02-29T00:00:00Z"),
     (63_072_100, b"1972-01-01T00:01:40Z"),
-    (LAST_SECOND, b"9999-12-31T23:59:59Z"),
+    (253_402_300_799, b"9999-12-31T23:59:59Z"),
+];
+
+static NO_TEXTS: [&[u8]; 6] = [
+    b"1970-02-30T00:00:00Z",
+    b"1970-01-01T24:00:00Z",
+    b"1970-01-01T00:00:60Z",
+    b"1970-01-01t00:00:00Z",
+    b"1969-12-31T23:59:59Z",
+    b"",
 ];
 
 /// Whether this is the moment's text, and is read as it.
@@ -88,25 +83,22 @@ fn is_text(seconds: u64, text: &[u8; 20]) -> bool {
     }
 }
 
-#[test]
-fn texts(rt: HostRuntime) {
+/// The moment of a wrong text, or the place of a text of no moment that is read as one.
+fn wrong_text() -> Option<u64> {
     for (seconds, text) in &TEXTS {
-        assert!(rt; is_text(*seconds, text), "{seconds}");
+        if !is_text(*seconds, text) {
+            return Some(*seconds);
+        }
     }
+    for (place, text) in NO_TEXTS.iter().enumerate() {
+        if Moment::read(text).is_some() {
+            return Some(place as u64);
+        }
+    }
+    None
 }
 
-const NO_TEXTS: [&[u8]; 6] = [
-    b"1970-02-30T00:00:00Z",
-    b"1970-01-01T24:00:00Z",
-    b"1970-01-01T00:00:60Z",
-    b"1970-01-01t00:00:00Z",
-    b"1969-12-31T23:59:59Z",
-    b"",
-];
-
 #[test]
-fn no_texts(rt: HostRuntime) {
-    for text in &NO_TEXTS {
-        assert!(rt; Moment::read(text).is_none());
-    }
+fn texts_are_of_their_moments(rt: HostRuntime) {
+    assert!(rt; wrong_text().is_none());
 }

@@ -12,8 +12,6 @@ pub struct FreshRun<W> {
     pub outcome: Outcome,
     pub read_failed: bool,
     pub write_failed: bool,
-    /// The writer's last interrupted turns in a row.
-    pub idle: u64,
     /// The desk's latest moment, in seconds, and its number of keys.
     pub stands: (u64, u32),
     pub writer: W,
@@ -45,7 +43,6 @@ pub fn fresh_run<R: Read + Drop, W: Write + Drop>(
         outcome,
         read_failed: reader.has_failed(),
         write_failed: writer.has_failed(),
-        idle: writer.interruptions_in_a_row(),
         stands: (desk.latest().seconds(), desk.count()),
         writer: writer.into_inner(),
     })

@@ -6,231 +6,110 @@ use register_desk::{Desk, End, Finish, Outcome, Watched};
 use register_report::{MAX_ROWS, import};
 use sqlite::MemStore;
 use std::alloc::Global;
-use std::io::{Read, Write};
 use std::test::Fail;
-use test_faulty_devices::{BrokenAfter, Interrupted, OneByte, Trouble, Troubled};
 
-/// The table of the worked row *imported*.
-const IMPORTED: &str =
-    "type,owner,activation,protect_stop,deactivation,purpose\ndata-encryption,bob,1970-01-01T00:00:00Z,,,\"disks, payroll\"\nmaster,bob,1970-01-01,,,x\n";
+/// A table that is imported into an empty register at 100, of the caller ann.
+#[derive(Clone, Copy)]
+struct Table {
+    /// The number of its first row.
+    first: u64,
+    bytes: &'static [u8],
+    replies: &'static str,
+    end: Finish,
+    /// How many keys there are then.
+    keys: u32,
+}
 
-const IMPORTED_REPLIES: &str = "ok 1 Active 100\nrefused 1 BadLine\n";
+const AT_END: Finish = Finish::AtEnd { rest: 0 };
 
-/// Two rows that no row of *imported* is like.
-const TWO_ROWS: &str =
-    "type,owner,activation,protect_stop,deactivation,purpose\nmaster,bob,,,,a\nmaster,bob,,,,b\n";
+const BAD_HEADER: Finish = Finish::Ended(End::BadHeader);
 
-const LAST_NUMBER: u64 = 9_007_199_254_740_991;
+const READ_FAULT: Finish = Finish::Ended(End::ReadFault);
+
+#[rattlefmt::skip]
+static TABLES: [Table; 14] = [
+    // The worked rows *imported*, *imported under the last number* and *imported without a header*.
+    Table { first: 1, replies: "ok 1 Active 100\nrefused 1 BadLine\n", end: AT_END, keys: 1,
+        bytes: b"type,owner,activation,protect_stop,deactivation,purpose\ndata-encryption,bob,1970-01-01T00:00:00Z,,,\"disks, payroll\"\nmaster,bob,1970-01-01,,,x\n" },
+    Table { first: 9_007_199_254_740_991, replies: "ok 1 Pre-Active 100\nrefused 1 BadLine\n", end: AT_END, keys: 1,
+        bytes: b"type,owner,activation,protect_stop,deactivation,purpose\nmaster,bob,,,,a\nmaster,bob,,,,b\n" },
+    Table { first: 1, replies: "", end: BAD_HEADER, keys: 0, bytes: b"" },
+    Table { first: 1, replies: "", end: BAD_HEADER, keys: 0,
+        bytes: b"type,owner,activation,protect_stop,deactivation\nmaster,bob,,,\n" },
+    // Others without their header.
+    Table { first: 1, replies: "", end: BAD_HEADER, keys: 0, bytes: b"\n\n" },
+    Table { first: 1, replies: "", end: BAD_HEADER, keys: 0,
+        bytes: b"type,owner,activation,protect_stop,deactivation,purpose,number\n" },
+    Table { first: 1, replies: "", end: BAD_HEADER, keys: 0,
+        bytes: b"owner,type,activation,protect_stop,deactivation,purpose\nmaster,bob,,,,a\n" },
+    Table { first: 1, replies: "", end: BAD_HEADER, keys: 0, bytes: b"master,bob,,,,a\n" },
+    // The header alone; odd ends of lines, blank lines and quotes; rows of other lengths; a quote that stays open.
+    Table { first: 1, replies: "", end: AT_END, keys: 0, bytes: b"type,owner,activation,protect_stop,deactivation,purpose" },
+    Table { first: 1, replies: "ok 1 Pre-Active 100\nok 2 Pre-Active 100\n", end: AT_END, keys: 2,
+        bytes: b"type,owner,activation,protect_stop,deactivation,purpose\r\n\r\nmaster,bob,,,,a\r\n\n\"master\",bob,\"\",,,\"b\"\"c\"" },
+    Table { first: 1, replies: "refused 1 BadLine\nrefused 1 BadLine\nok 1 Pre-Active 100\n", end: AT_END, keys: 1,
+        bytes: b"type,owner,activation,protect_stop,deactivation,purpose\nmaster,bob,,,a\nmaster,bob,,,,a,b\nmaster,bob,,,,c\n" },
+    Table { first: 1, replies: "refused 1 BadLine\n", end: AT_END, keys: 0,
+        bytes: b"type,owner,activation,protect_stop,deactivation,purpose\nmaster,bob,,,,\"a\nmaster,bob,,,,b\n" },
+    // A record that is no text ends the import, after the rows before it.
+    Table { first: 1, replies: "ok 1 Pre-Active 100\n", end: READ_FAULT, keys: 1,
+        bytes: b"type,owner,activation,protect_stop,deactivation,purpose\nmaster,bob,,,,a\nmaster,bob,,,,\xff\nmaster,bob,,,,c\n" },
+    Table { first: 1, replies: "", end: READ_FAULT, keys: 0,
+        bytes: b"type,owner,activation,protect_stop,deactivation,purp\xff\nmaster,bob,,,,a\n" },
+];
 
 /// How many rows an import answers at most.
 pub fn most_rows() -> u64 {
     MAX_ROWS
 }
 
-pub(crate) const AT_END: Finish = Finish::AtEnd { rest: 0 };
-
-/// Imports the table into the desk at this moment, of the caller ann, from this number on.
-fn run_import<R: Read + Drop, W: Write>(
-    alloc: Global,
-    desk: &mut Desk<MemStore>,
-    (moment, first): (u64, u64),
-    table: R,
-    writer: &mut Watched<W>,
-) -> Option<Outcome> {
-    if first == 0 || first > LAST_NUMBER || writer.has_failed() {
-        return None;
-    }
-    let moment = Moment::new(moment)?;
-    let caller = Name::new(b"ann")?;
-    let mut table = Watched::new(table);
-    Some(import(alloc, desk, moment, &caller, first, &mut table, writer))
-}
-
-/// Whether an import at the moment, from this number on, ends so and writes these lines, each
+/// Whether an import of the table at this moment, in seconds, ends so and writes these lines, each
 /// whole.
-pub(crate) fn replies_to<R: Read + Drop>(
-    alloc: Global,
-    desk: &mut Desk<MemStore>,
-    at: (u64, u64),
-    table: R,
-    replies: &str,
-    end: Finish,
-) -> bool {
+fn is_answered(alloc: Global, desk: &mut Desk<MemStore>, table: &Table, seconds: u64) -> bool {
+    let (Some(moment), Some(caller)) = (Moment::new(seconds), Name::new(b"ann")) else {
+        return false;
+    };
+    if table.first == 0 || table.first > 9_007_199_254_740_991 {
+        return false;
+    }
+    let mut reader = Watched::new(table.bytes);
     let mut writer = Watched::new(Vec::new(alloc));
-    let outcome = run_import(alloc, desk, at, table, &mut writer);
+    let outcome = import(
+        alloc,
+        desk,
+        moment,
+        &caller,
+        table.first,
+        &mut reader,
+        &mut writer,
+    );
     let expected = Outcome {
         read: 0,
-        written: replies.len() as u64,
-        replies: replies.lines().count() as u64,
-        end,
+        written: table.replies.len() as u64,
+        replies: table.replies.lines().count() as u64,
+        end: table.end,
     };
-    outcome == Some(expected)
-        && !writer.has_failed()
-        && writer.into_inner().as_slice() == replies.as_bytes()
+    outcome == expected && writer.into_inner().as_slice() == table.replies.as_bytes()
 }
 
-/// Whether an import of this table into an empty register, at 100 and from 1 on, is answered so and
-/// leaves so many keys.
-fn is_answered(
-    alloc: Global,
-    table: &[u8],
-    replies: &str,
-    end: Finish,
-    keys: u32,
-) -> Result<bool, Fail> {
+/// Whether the table is imported into an empty register as it should be, and sent again at 200 is
+/// answered alike and registers nothing.
+fn is_imported_once(alloc: Global, table: &Table) -> Result<bool, Fail> {
     let mut desk = make_desk(alloc)?;
-    Ok(replies_to(alloc, &mut desk, (100, 1), table, replies, end) && desk.count() == keys)
-}
-
-/// Whether an import of *imported* at the moment is answered so, and leaves one key and the moment
-/// 100.
-fn is_imported(alloc: Global, desk: &mut Desk<MemStore>, moment: u64) -> bool {
-    let table = IMPORTED.as_bytes();
-    replies_to(alloc, desk, (moment, 1), table, IMPORTED_REPLIES, AT_END)
-        && desk.count() == 1
-        && desk.latest().seconds() == 100
-}
-
-/// Whether a table that is sent twice is imported once.
-pub fn is_table_imported_once(alloc: Global) -> Result<bool, Fail> {
-    let mut desk = make_desk(alloc)?;
-    if !is_imported(alloc, &mut desk, 100) || !is_imported(alloc, &mut desk, 200) {
-        return Ok(false);
-    }
-    match desk.show(1)? {
-        Some(record) => Ok(record.key.purpose.text() == "disks, payroll"),
-        None => Ok(false),
-    }
-}
-
-/// Whether no row is registered under a number past the last one.
-pub fn is_last_number_the_last(alloc: Global) -> Result<bool, Fail> {
-    let mut desk = make_desk(alloc)?;
-    let (table, replies) = (
-        TWO_ROWS.as_bytes(),
-        "ok 1 Pre-Active 100\nrefused 1 BadLine\n",
-    );
     Ok(
-        replies_to(alloc, &mut desk, (100, LAST_NUMBER), table, replies, AT_END)
-            && desk.count() == 1,
+        is_answered(alloc, &mut desk, table, 100)
+            && is_answered(alloc, &mut desk, table, 200)
+            && desk.count() == table.keys
+            && desk.latest().seconds() == (if table.keys > 0 { 100 } else { 0 }),
     )
 }
 
-/// Tables that do not begin with the header row.
-#[rattlefmt::skip]
-static WITHOUT_HEADER: [&str; 6] = [
-    "",
-    "\n\n",
-    "type,owner,activation,protect_stop,deactivation\nmaster,bob,,,\n",
-    "type,owner,activation,protect_stop,deactivation,purpose,number\n",
-    "owner,type,activation,protect_stop,deactivation,purpose\nmaster,bob,,,,a\n",
-    "master,bob,,,,a\n",
-];
-
-/// A table without its header of which something is registered, if there is one.
-pub fn headless_table_imported(alloc: Global) -> Result<Option<&'static str>, Fail> {
-    let end = Finish::Ended(End::BadHeader);
-    for table in &WITHOUT_HEADER {
-        if !is_answered(alloc, table.as_bytes(), "", end, 0)? {
-            return Ok(Some(table));
+/// The place of a table that is not imported as it should be, if there is one.
+pub fn table_wrongly_imported(alloc: Global) -> Result<Option<usize>, Fail> {
+    for (place, table) in TABLES.iter().enumerate() {
+        if !is_imported_once(alloc, table)? {
+            return Ok(Some(place));
         }
     }
     Ok(None)
-}
-
-/// Tables, the replies to them, and how many keys they leave: the header alone; odd ends of lines,
-/// blank lines and quotes; rows of other lengths; a quote that stays open.
-#[rattlefmt::skip]
-static TABLES: [(&str, &str, u32); 4] = [
-    ("type,owner,activation,protect_stop,deactivation,purpose", "", 0),
-    (
-        "type,owner,activation,protect_stop,deactivation,purpose\r\n\r\nmaster,bob,,,,a\r\n\n\"master\",bob,\"\",,,\"b\"\"c\"",
-        "ok 1 Pre-Active 100\nok 2 Pre-Active 100\n",
-        2,
-    ),
-    (
-        "type,owner,activation,protect_stop,deactivation,purpose\nmaster,bob,,,a\nmaster,bob,,,,a,b\nmaster,bob,,,,c\n",
-        "refused 1 BadLine\nrefused 1 BadLine\nok 1 Pre-Active 100\n",
-        1,
-    ),
-    (
-        "type,owner,activation,protect_stop,deactivation,purpose\nmaster,bob,,,,\"a\nmaster,bob,,,,b\n",
-        "refused 1 BadLine\n",
-        0,
-    ),
-];
-
-/// An odd table that is not answered as it should be, if there is one.
-pub fn odd_table_at_fault(alloc: Global) -> Result<Option<&'static str>, Fail> {
-    for (table, replies, keys) in &TABLES {
-        if !is_answered(alloc, table.as_bytes(), replies, AT_END, *keys)? {
-            return Ok(Some(table));
-        }
-    }
-    Ok(None)
-}
-
-const READ_FAULT: Finish = Finish::Ended(End::ReadFault);
-
-/// Whether a record that is no text ends the import, after the rows before it.
-pub fn is_import_ended_by_no_text(alloc: Global) -> Result<bool, Fail> {
-    let row: &[u8] =
-        b"type,owner,activation,protect_stop,deactivation,purpose\nmaster,bob,,,,a\nmaster,bob,,,,\xff\nmaster,bob,,,,c\n";
-    let first: &[u8] =
-        b"type,owner,activation,protect_stop,deactivation,purp\xff\nmaster,bob,,,,a\n";
-    Ok(
-        is_answered(alloc, row, "ok 1 Pre-Active 100\n", READ_FAULT, 1)?
-            && is_answered(alloc, first, "", READ_FAULT, 0)?,
-    )
-}
-
-/// Whether a reader that fails ends the import, and the same table is taken up again later, from one
-/// that is interrupted.
-pub fn is_import_ended_by_reader(alloc: Global) -> Result<bool, Fail> {
-    let table = TWO_ROWS.as_bytes();
-    let mut desk = make_desk(alloc)?;
-    let interrupted = Interrupted::new(OneByte(table));
-    let broken = BrokenAfter(&table[..table.len() - 1]);
-    let (one, both) = (
-        "ok 1 Pre-Active 100\n",
-        "ok 1 Pre-Active 100\nok 2 Pre-Active 200\n",
-    );
-    Ok(
-        replies_to(alloc, &mut desk, (100, 1), broken, one, READ_FAULT)
-            && replies_to(alloc, &mut desk, (200, 1), interrupted, both, AT_END)
-            && desk.count() == 2,
-    )
-}
-
-/// Whether a writer that fails once after the first reply ends the import. The row in hand is
-/// applied then.
-fn is_cut_by_writer(alloc: Global, desk: &mut Desk<MemStore>, table: &[u8]) -> bool {
-    let mut writer = Watched::new(Troubled {
-        inner: Vec::new(alloc),
-        trouble: Trouble::FailsOnce,
-        // The first line takes a write and a flush.
-        good_turns: 2,
-    });
-    let expected = Outcome {
-        read: 0,
-        written: 20,
-        replies: 1,
-        end: Finish::Ended(End::WriteFault),
-    };
-    run_import(alloc, desk, (100, 1), table, &mut writer) == Some(expected)
-        && writer.has_failed()
-        && desk.count() == 2
-}
-
-/// Whether a writer that fails ends the import, and the reply that was not written comes with the
-/// table sent again.
-pub fn is_import_ended_by_writer(alloc: Global) -> Result<bool, Fail> {
-    let table = TWO_ROWS.as_bytes();
-    let mut desk = make_desk(alloc)?;
-    let both = "ok 1 Pre-Active 100\nok 2 Pre-Active 100\n";
-    Ok(
-        is_cut_by_writer(alloc, &mut desk, table)
-            && replies_to(alloc, &mut desk, (200, 1), table, both, AT_END)
-            && desk.count() == 2,
-    )
 }

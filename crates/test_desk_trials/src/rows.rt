@@ -23,7 +23,7 @@ fn outcome_of(row: &WorkedRow, input: &[u8], output: &[u8]) -> Outcome {
 }
 
 /// The lines of the answers.
-pub fn lines_of(alloc: Global, answers: &[Result<Reply, Refusal>]) -> Result<Vec<u8>, AllocError> {
+fn lines_of(alloc: Global, answers: &[Result<Reply, Refusal>]) -> Result<Vec<u8>, AllocError> {
     let mut lines = Vec::new(alloc);
     for answer in answers {
         lines.extend_from_slice(reply_line(answer).as_bytes())?;

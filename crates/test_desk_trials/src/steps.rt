@@ -1,98 +1,105 @@
 //! How many steps of the database each command takes: its calls, and the rows that they hand out.
-use crate::fresh_run::{desk_after, desk_of, make_desk, run_over};
-use crate::repeats::DAY;
+use crate::fresh_run::{desk_of, make_desk, run_over};
 use register_desk::{Desk, Watched};
 use register_report::{export, rotation};
 use sqlite::MemStore;
 use std::alloc::Global;
 use std::test::Fail;
-use test_worked_rows::WorkedRow;
 
-/// The steps of each command of the day, by the statements that docs/SPECIFICATION.md has. A search
-/// for what is kept takes 1 where nothing is, a transaction 2, the two updates of due keys 2, the
-/// request's row and that of meta 2. A command that names a key takes 2 to read it and 1 to change
-/// it; one that looks at custody 1 more for each list and for each name in it; a destruction 2 more
-/// to read the need that is set; one that changes custody 1 more, and one that sets the need 2
-/// more. A registration, an activation and a change of dates take 1 more to look for the period of
-/// the type, which is not set, and a command that sets it 2 more.
-const STEPS: [u64; 18] = [
-    9, 13, 14, 15, 16, 15, 16, 17, 16, 12, 16, 11, 11, 10, 18, 7, 9, 10,
+/// A day on which each command is accepted, the reply lines, and the steps of each by the statements
+/// that docs/SPECIFICATION.md has. A search for what is kept takes 1 where nothing is, a transaction
+/// 2, the two updates of due keys 2, the request's row and that of meta 2. A command that names a
+/// key takes 2 to read it and 1 to change it; one that looks at custody 1 more for each list and for
+/// each name in it; a destruction 2 more to read the need that is set; one that changes custody 1
+/// more, and one that sets the need 2 more. A registration, an activation and a change of dates take
+/// 1 more to look for the period of the type, which is not set, and a command that sets it 2 more.
+#[rattlefmt::skip]
+static DAY: [(&str, &str, u64); 18] = [
+    ("100 ann 1 register master bob 1000 2000 2000 root", "ok 1 Pre-Active 100", 9),
+    ("101 bob 1 add-custodian 1 cat", "ok 1 Pre-Active 101", 13),
+    ("102 bob 2 add-custodian 1 dan", "ok 1 Pre-Active 102", 14),
+    ("103 bob 3 add-custodian 1 eve", "ok 1 Pre-Active 103", 15),
+    ("104 bob 4 remove-custodian 1 eve", "ok 1 Pre-Active 104", 16),
+    ("105 cat 1 approve 1", "ok 1 Pre-Active 105", 15),
+    ("106 dan 1 approve 1", "ok 1 Pre-Active 106", 16),
+    ("107 dan 2 withdraw 1", "ok 1 Pre-Active 107", 17),
+    ("108 dan 3 approve 1", "ok 1 Pre-Active 108", 16),
+    ("109 bob 5 set-quorum 1 2", "ok 1 Pre-Active 109", 12),
+    ("110 bob 6 assign 1 fay", "ok 1 Pre-Active 110", 16),
+    ("111 fay 1 set 1 1200 = =", "ok 1 Pre-Active 111", 11),
+    ("112 fay 2 activate 1", "ok 1 Active 112", 11),
+    ("113 fay 3 revoke 1 5 -", "ok 1 Deactivated 113", 10),
+    ("114 fay 4 destroy 1", "ok 1 Destroyed 114", 18),
+    ("115 zed 1 advance", "ok 0 - 115", 7),
+    ("116 office 1 set-period master 24 12", "ok 0 - 116", 9),
+    ("117 zed 2 revoke 1 2 50", "ok 1 Destroyed-Compromised 117", 10),
 ];
 
-/// How many steps a run over the line takes.
-fn steps_of(alloc: Global, desk: &mut Desk<MemStore>, line: &str) -> Result<u64, Fail> {
+/// How many steps a run over the line takes, and what it writes.
+fn steps_of(alloc: Global, desk: &mut Desk<MemStore>, line: &str) -> Result<(u64, Vec<u8>), Fail> {
     let before = desk.steps();
     let line = format!(in alloc; "{line}\n")?;
     let mut output = Vec::new(alloc);
     let _ = run_over(desk, line.as_bytes(), &mut output);
-    Ok(desk.steps().saturating_sub(before))
+    Ok((desk.steps().saturating_sub(before), output))
 }
 
-/// A command of the day that takes other steps, if there is one, or where a new desk has taken any.
-pub fn command_of_other_steps(alloc: Global) -> Result<Option<&'static str>, Fail> {
+/// A line of the day that has another reply or takes other steps, if there is one, or where a new
+/// desk has taken any.
+pub fn row_of_day_at_fault(alloc: Global) -> Result<Option<&'static str>, Fail> {
     let mut desk = make_desk(alloc)?;
     if desk.steps() != 0 {
         return Ok(Some(""));
     }
-    for ((moment, caller, command, _), steps) in DAY.iter().zip(&STEPS) {
-        let line = format!(in alloc; "{moment} {caller} {command}")?;
-        if steps_of(alloc, &mut desk, line.as_str())? != *steps {
-            return Ok(Some(command));
+    for (line, reply, steps) in &DAY {
+        let (taken, output) = steps_of(alloc, &mut desk, line)?;
+        if taken != *steps || output.as_slice().strip_suffix(b"\n") != Some(reply.as_bytes()) {
+            return Ok(Some(line));
         }
     }
     Ok(None)
 }
 
-/// A key with sixteen custodians who all approve of its destruction.
-#[rattlefmt::skip]
-static FULL_CUSTODY: WorkedRow = WorkedRow {
-    name: "full custody",
-    lines: &[
-        ("100 ann 1 register master bob - - - root", ""),
-        ("100 bob 1 add-custodian 1 c1", ""), ("100 c1 1 approve 1", ""),
-        ("100 bob 2 add-custodian 1 c2", ""), ("100 c2 1 approve 1", ""),
-        ("100 bob 3 add-custodian 1 c3", ""), ("100 c3 1 approve 1", ""),
-        ("100 bob 4 add-custodian 1 c4", ""), ("100 c4 1 approve 1", ""),
-        ("100 bob 5 add-custodian 1 c5", ""), ("100 c5 1 approve 1", ""),
-        ("100 bob 6 add-custodian 1 c6", ""), ("100 c6 1 approve 1", ""),
-        ("100 bob 7 add-custodian 1 c7", ""), ("100 c7 1 approve 1", ""),
-        ("100 bob 8 add-custodian 1 c8", ""), ("100 c8 1 approve 1", ""),
-        ("100 bob 9 add-custodian 1 c9", ""), ("100 c9 1 approve 1", ""),
-        ("100 bob 10 add-custodian 1 c10", ""), ("100 c10 1 approve 1", ""),
-        ("100 bob 11 add-custodian 1 c11", ""), ("100 c11 1 approve 1", ""),
-        ("100 bob 12 add-custodian 1 c12", ""), ("100 c12 1 approve 1", ""),
-        ("100 bob 13 add-custodian 1 c13", ""), ("100 c13 1 approve 1", ""),
-        ("100 bob 14 add-custodian 1 c14", ""), ("100 c14 1 approve 1", ""),
-        ("100 bob 15 add-custodian 1 c15", ""), ("100 c15 1 approve 1", ""),
-        ("100 bob 16 add-custodian 1 c16", ""), ("100 c16 1 approve 1", ""),
-    ],
-    rest: "",
-    shown: None,
-};
+/// The desk with a key of bob's of whose destruction sixteen custodians approve, with names as long
+/// as they may be.
+fn full_custody(alloc: Global) -> Result<Desk<MemStore>, Fail> {
+    let mut lines = format!(in alloc; "100 ann 1 register master bob - - - root\n")?;
+    for number in 11..27 {
+        let name = format!(in alloc;
+            "custodian-of-the-root-keys-of-the-second-site@hsm.example.org-{number}"
+        )?;
+        let line = format!(in alloc;
+            "100 bob {number} add-custodian 1 {name}\n100 {name} 1 approve 1\n"
+        )?;
+        lines.push_str(line.as_str())?;
+    }
+    desk_of(alloc, lines.as_bytes())
+}
 
 /// A line, and how many steps it takes after that.
+#[rattlefmt::skip]
 static BEHIND: [(&str, u64); 9] = [
     // A request that comes again, one whose number is reused, and one whose moment is below the
     // latest: the look-up alone.
-    ("100 bob 1 add-custodian 1 c1", 2),
-    ("100 bob 1 advance", 2),
-    ("99 bob 17 activate 1", 1),
+    ("100 bob 11 add-custodian 1 custodian-of-the-root-keys-of-the-second-site@hsm.example.org-11", 2),
+    ("100 bob 11 advance", 2),
+    ("99 bob 31 activate 1", 1),
     // No such key, and not the owner.
-    ("100 bob 17 activate 2", 2),
+    ("100 bob 31 activate 2", 2),
     ("100 eve 9 activate 1", 4),
     // No time has passed: no key is due.
     ("100 eve 9 advance", 5),
-    ("100 bob 17 set 1 = = =", 9),
+    ("100 bob 31 set 1 = = =", 9),
     // Both lists are full.
-    ("101 bob 18 add-custodian 1 c17", 37),
-    ("101 bob 19 remove-custodian 1 c16", 45),
+    ("101 bob 32 add-custodian 1 c17", 37),
+    ("101 bob 33 remove-custodian 1 custodian-of-the-root-keys-of-the-second-site@hsm.example.org-26", 45),
 ];
 
 /// A line that asks the database for more than it needs, if there is one.
 pub fn line_of_other_steps(alloc: Global) -> Result<Option<&'static str>, Fail> {
-    let mut desk = desk_after(alloc, &FULL_CUSTODY)?;
+    let mut desk = full_custody(alloc)?;
     for (line, steps) in &BEHIND {
-        if steps_of(alloc, &mut desk, line)? != *steps {
+        if steps_of(alloc, &mut desk, line)?.0 != *steps {
             return Ok(Some(line));
         }
     }

@@ -1,4 +1,4 @@
-//! The calls that are lent a reader or a writer.
+//! The calls that are lent a reader or a writer. Nothing else here makes one of them.
 ghost use Rattle.std.specs.Prelude.{◌≡◌, false};
 
 use moment_core::Moment;
@@ -10,6 +10,7 @@ use sqlite::Alter;
 use std::alloc::Global;
 use std::io::{Read, Write};
 use std::test::Fail;
+use test_faulty_devices::OneByte;
 
 /// A call that is lent a reader or a writer.
 #[derive(Clone, Copy, Debug, PartialEq, Eq)]
@@ -50,4 +51,26 @@ pub fn call_over<R: Read + Drop, W: Write, S: Alter>(
             Ok(exchange(alloc, &mut Routes::new(), desk, moment, &mut reader, writer))
         }
     }
+}
+
+/// What a call did, and what it wrote.
+#[derive(Drop)]
+pub struct Called {
+    pub outcome: Outcome,
+    pub output: Vec<u8>,
+}
+
+/// Makes the call over this input, a byte at each read.
+pub fn make_call<S: Alter>(
+    alloc: Global,
+    desk: &mut Desk<S>,
+    call: Call,
+    input: &[u8],
+) -> Result<Called, Fail> {
+    let mut writer = Watched::new(Vec::new(alloc));
+    let outcome = call_over(alloc, desk, call, OneByte(input), &mut writer)?;
+    Ok(Called {
+        outcome,
+        output: writer.into_inner(),
+    })
 }

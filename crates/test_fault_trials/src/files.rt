@@ -282,7 +282,7 @@ impl Lab {
     }
 }
 
-const SELECTED: [&str; 7] = [
+static SELECTED: [&str; 7] = [
     "SELECT * FROM meta",
     "SELECT * FROM keys ORDER BY number",
     "SELECT * FROM custodian ORDER BY key_no, name",

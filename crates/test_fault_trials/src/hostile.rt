@@ -1,14 +1,13 @@
 //! Malicious bytes: none of them changes a register.
-use crate::calls::{Call, call_over};
+use crate::calls::{Call, make_call};
 use crate::files::{DeskTask, Entry, HONEST, Lab, NoDesk, Nothing, file_of};
 use crate::texts::{ADVANCE, IMPORT_HEAD, KEY, Text, join};
 use crate::trials::files_with;
-use register_desk::{Desk, OpenRefusal, Watched};
+use register_desk::{Desk, OpenRefusal};
 use sqlite::{Alter, Files};
 use sqlite_disk::Memory;
 use std::alloc::Global;
 use std::test::Fail;
-use test_faulty_devices::OneByte;
 
 /// An input is `head`, so often `piece`, and `tail`; what comes of it begins so.
 #[derive(Clone, Copy)]
@@ -83,9 +82,7 @@ impl DeskTask for Giving<'_> {
     type Outcome = Vec<u8>;
 
     fn perform<S: Alter>(&self, alloc: Global, desk: &mut Desk<S>) -> Result<Vec<u8>, Fail> {
-        let mut writer = Watched::new(Vec::new(alloc));
-        let _ = call_over(alloc, desk, self.call, OneByte(self.input), &mut writer)?;
-        Ok(writer.into_inner())
+        Ok(make_call(alloc, desk, self.call, self.input)?.output)
     }
 }
 

@@ -278,7 +278,7 @@ fn try_turns(lab: Lab, given: &Given, case: Case) -> Result<Result<usize, (usize
 }
 
 #[rattlefmt::skip]
-const CASES: [Case; 7] = [
+static CASES: [Case; 7] = [
     Case { stream: Stream::Reader, trouble: Trouble::Fails, stays: false },
     Case { stream: Stream::Reader, trouble: Trouble::IsInterrupted, stays: false },
     Case { stream: Stream::Reader, trouble: Trouble::IsInterrupted, stays: true },

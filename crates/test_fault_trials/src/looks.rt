@@ -1,12 +1,12 @@
 //! Calls that read a register of twenty keys, of which a look-up fails.
+use crate::calls::{Call, Called, make_call};
 use crate::files::{DeskTask, Entry, Fault, Lab, Place};
 use crate::keys::{ALL, DUE, export_text, is_answered, report_text, twenty_keys};
-use crate::sending::{Came, is_broken, run_exchange};
+use crate::sending::{Came, is_broken, of_reply};
 use crate::texts::IN_USE;
 use crate::trials::calls_of_opening;
 use moment_core::Moment;
-use register_desk::{Desk, End, Finish, KeyRows, Outcome, Watched};
-use register_report::{export, rotation};
+use register_desk::{Desk, End, Finish, KeyRows};
 use sqlite::{Alter, Files};
 use sqlite_disk::Memory;
 use std::alloc::Global;
@@ -41,7 +41,7 @@ enum Seen {
     Wrong,
 }
 
-const GET: &str = "GET /keys/7/usage HTTP/1.1\r\nHost: localhost\r\n\r\n";
+const GET: &[u8] = b"GET /keys/7/usage HTTP/1.1\r\nHost: localhost\r\n\r\n";
 
 /// The texts of the register.
 #[derive(Drop)]
@@ -75,17 +75,18 @@ fn read_out<S: Alter>(mut rows: KeyRows<'_, S>, numbers: &[u32]) -> Seen {
     }
 }
 
-/// What came of a table with this text, by a call with this outcome that wrote these bytes.
-fn of_table(outcome: Outcome, bytes: &[u8], text: &str) -> Seen {
+/// What came of a table with this text.
+fn of_table(called: &Called, text: &str) -> Seen {
+    let (outcome, bytes) = (called.outcome, called.output.as_slice());
     let is_counted = outcome.read == 0
         && outcome.replies == 0
         && outcome.written == bytes.len() as u64;
     match outcome.end {
         Finish::AtEnd { rest: 0 } if is_counted && bytes == text.as_bytes() => Seen::Whole,
         Finish::Ended(End::Store)
-            if is_counted
-                && bytes.iter().any(|byte| *byte == b'\n')
-                && text.as_bytes().starts_with(bytes) => { Seen::Refused }
+            if is_counted && bytes.contains(&b'\n') && text.as_bytes().starts_with(bytes) => {
+            Seen::Refused
+        }
         _ => Seen::Wrong,
     }
 }
@@ -99,31 +100,25 @@ fn of_key<T>(found: &Result<Option<T>, End>) -> Seen {
     }
 }
 
-fn get_over<S: Alter>(alloc: Global, desk: &mut Desk<S>) -> Seen {
-    match run_exchange(alloc, desk, 200, GET, IN_USE) {
+/// What came of a look by an exchange.
+fn of_exchange(called: &Called) -> Seen {
+    match of_reply(called, IN_USE) {
         Came::Whole => Seen::Whole,
         Came::Refused(_) => Seen::Refused,
         Came::Wrong => Seen::Wrong,
     }
 }
 
-fn export_over<S: Alter>(alloc: Global, desk: &mut Desk<S>, text: &str) -> Seen {
-    let mut writer = Watched::new(Vec::new(alloc));
-    let outcome = export(alloc, desk, &mut writer);
-    of_table(outcome, writer.into_inner().as_slice(), text)
-}
-
-fn report_over<S: Alter>(alloc: Global, desk: &mut Desk<S>, text: &str) -> Seen {
-    let mut writer = Watched::new(Vec::new(alloc));
-    let outcome = rotation(alloc, desk, 1, &mut writer);
-    of_table(outcome, writer.into_inner().as_slice(), text)
-}
-
-fn look_at<S: Alter>(alloc: Global, desk: &mut Desk<S>, texts: &Texts, look: Look) -> Seen {
-    match look {
+fn look_at<S: Alter>(
+    alloc: Global,
+    desk: &mut Desk<S>,
+    texts: &Texts,
+    look: Look,
+) -> Result<Seen, Fail> {
+    Ok(match look {
         Look::Show => of_key(&desk.show(7)),
         Look::Usage => of_key(&desk.usage(7)),
-        Look::Get => get_over(alloc, desk),
+        Look::Get => of_exchange(&make_call(alloc, desk, Call::Exchange, GET)?),
         Look::Keys => match desk.keys() {
             Ok(rows) => read_out(rows, &ALL),
             Err(_) => Seen::Wrong,
@@ -132,20 +127,25 @@ fn look_at<S: Alter>(alloc: Global, desk: &mut Desk<S>, texts: &Texts, look: Loo
             Ok(rows) => read_out(rows, &DUE),
             Err(_) => Seen::Wrong,
         },
-        Look::Export => export_over(alloc, desk, texts.export.as_str()),
-        Look::Report => report_over(alloc, desk, texts.report.as_str()),
-    }
+        Look::Export => of_table(&make_call(alloc, desk, Call::Export, b"")?, &texts.export),
+        Look::Report => of_table(&make_call(alloc, desk, Call::Rotation, b"")?, &texts.report),
+    })
 }
 
 /// Whether a desk of which a look was refused is as it should be: broken by a look at one key, and
 /// else as it was.
-fn goes_on<S: Alter>(alloc: Global, desk: &mut Desk<S>, texts: &Texts, looked: Look) -> bool {
+fn goes_on<S: Alter>(
+    alloc: Global,
+    desk: &mut Desk<S>,
+    texts: &Texts,
+    looked: Look,
+) -> Result<bool, Fail> {
     match looked {
         Look::Show | Look::Usage | Look::Get => is_broken(alloc, desk),
-        _ => {
-            look_at(alloc, desk, texts, looked) == Seen::Whole
-                && is_answered(alloc, desk, "200 zed 1 advance\n", "ok 0 - 200\n")
-        }
+        _ => Ok(
+            look_at(alloc, desk, texts, looked)? == Seen::Whole
+                && is_answered(alloc, desk, "200 zed 1 advance\n", "ok 0 - 200\n")?,
+        ),
     }
 }
 
@@ -161,8 +161,8 @@ impl DeskTask for Looking<'_> {
     type Outcome = Seen;
 
     fn perform<S: Alter>(&self, alloc: Global, desk: &mut Desk<S>) -> Result<Seen, Fail> {
-        let seen = look_at(alloc, desk, self.texts, self.looked);
-        let is_good = seen != Seen::Refused || goes_on(alloc, desk, self.texts, self.looked);
+        let seen = look_at(alloc, desk, self.texts, self.looked)?;
+        let is_good = seen != Seen::Refused || goes_on(alloc, desk, self.texts, self.looked)?;
         Ok(if is_good { seen } else { Seen::Wrong })
     }
 }

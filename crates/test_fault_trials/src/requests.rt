@@ -7,7 +7,7 @@ use crate::trials::Trial;
 /// A day on which each command is accepted, of a ninth key. At each moment from 1100 to 2600 one of
 /// the first eight has just been activated or deactivated by the time.
 #[rattlefmt::skip]
-pub const DAY: &[Exchange] = &[
+pub static DAY: [Exchange; 30] = [
     ("100 ann 1 register data-encryption bob 1050 1100 1150 disks", "ok 1 Pre-Active 100"),
     ("100 ann 2 register data-encryption bob 1250 1300 1350 disks", "ok 2 Pre-Active 100"),
     ("100 ann 3 register data-encryption bob 1450 1500 1550 disks", "ok 3 Pre-Active 100"),
@@ -44,7 +44,9 @@ pub const DAY: &[Exchange] = &[
 pub const FIRST_OF_DAY: usize = 8;
 
 /// The place of its last request.
-pub const LAST_OF_DAY: usize = DAY.len() - 1;
+pub fn last_of_day() -> usize {
+    DAY.len().saturating_sub(1)
+}
 
 /// One request of the day after those before it.
 pub fn of_day(place: usize) -> Option<Trial> {
@@ -57,6 +59,17 @@ pub fn of_day(place: usize) -> Option<Trial> {
         way: Way::Lines,
         commits: 1,
     })
+}
+
+/// A register with the whole day is opened.
+pub fn opening() -> Trial {
+    Trial {
+        name: "opening",
+        before: &DAY,
+        sent: &[],
+        way: Way::Entry(Entry::Opening),
+        commits: 0,
+    }
 }
 
 /// The request of the worked row *defaults*.
@@ -105,13 +118,11 @@ const POST: &str =
 const POSTED: &str = "HTTP/1.1 200 OK\r\nContent-Type: application/json\r\nContent-Length: 43\r\n\
     Connection: close\r\n\r\n{\"key\":2,\"moment\":100,\"state\":\"Pre-Active\"}";
 
-/// The beginnings: a register is made; one with the whole day is opened, and that of *defaults* in
-/// a file of the first version; and the worked row of stops, which is the request of *defaults*
-/// over a disk that stops.
+/// The beginnings: a register is made; that of *defaults* in a file of the first version is opened;
+/// and the worked row of stops, which is the request of *defaults* over a disk that stops.
 #[rattlefmt::skip]
-pub static BEGINNINGS: [Trial; 4] = [
+pub static BEGINNINGS: [Trial; 3] = [
     Trial { name: "creation", before: &[], sent: &[], way: Way::Entry(Entry::Creation), commits: 1 },
-    Trial { name: "opening", before: DAY, sent: &[], way: Way::Entry(Entry::Opening), commits: 0 },
     Trial { name: "migration", before: &[DEFAULTS], sent: &[], way: Way::Entry(Entry::Migration), commits: 1 },
     Trial { name: "worked row of stops", before: &[], sent: &[DEFAULTS], way: Way::Lines, commits: 1 },
 ];
@@ -121,7 +132,7 @@ pub static BEGINNINGS: [Trial; 4] = [
 pub static SINGLE: [Trial; 3] = [
     Trial { name: "repeat", before: &[DEFAULTS], sent: &[AT_50], way: Way::Lines, commits: 0 },
     Trial { name: "refused destroy", before: ONE_APPROVAL, sent: &[TOO_FEW], way: Way::Lines, commits: 0 },
-    Trial { name: "exchange", before: KEY, sent: &[REGISTERED], way: Way::Post(100, POST, POSTED), commits: 1 },
+    Trial { name: "exchange", before: KEY, sent: &[REGISTERED], way: Way::Post(POST, POSTED), commits: 1 },
 ];
 
 /// Several requests each.

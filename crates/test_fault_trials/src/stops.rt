@@ -1,6 +1,8 @@
 //! Stops: from each call on, all calls of a file fail. Failures: one call of a file does.
 use crate::files::{Entry, Fault, Lab, Place};
-use crate::requests::{BEGINNINGS, DAY, FIRST_OF_DAY, LAST_OF_DAY, SEVERAL, SINGLE, of_day};
+use crate::requests::{
+    BEGINNINGS, DAY, FIRST_OF_DAY, SEVERAL, SINGLE, last_of_day, of_day, opening,
+};
 use crate::sending::Way;
 use crate::trials::{Odd, Trial, try_all};
 use std::alloc::Global;
@@ -13,7 +15,7 @@ pub type Wrong = (&'static str, usize, Fault, Odd);
 
 /// The machine stops, or one of its files does.
 #[rattlefmt::skip]
-const STOPS: [Fault; 3] = [
+static STOPS: [Fault; 3] = [
     Fault { place: Place::Database, plan: Plan::Stop(0) },
     Fault { place: Place::Log, plan: Plan::Stop(0) },
     Fault { place: Place::Machine, plan: Plan::Stop(0) },
@@ -21,7 +23,7 @@ const STOPS: [Fault; 3] = [
 
 /// A call of each file fails, and it goes on.
 #[rattlefmt::skip]
-const FAILURES: [Fault; 4] = [
+static FAILURES: [Fault; 4] = [
     Fault { place: Place::Database, plan: Plan::FailRead(0) },
     Fault { place: Place::Database, plan: Plan::FailOther(0) },
     Fault { place: Place::Log, plan: Plan::FailRead(0) },
@@ -30,7 +32,7 @@ const FAILURES: [Fault; 4] = [
 
 /// A call fails for want of memory in the disk, and it goes on. That is no refused growth of the
 /// program.
-const WANTS: [Fault; 1] = [Fault {
+static WANTS: [Fault; 1] = [Fault {
     place: Place::Machine,
     plan: Plan::LackMemory(0),
 }];
@@ -100,15 +102,24 @@ fn wrong_trial(lab: Lab, trials: &[Trial], faults: &[Fault]) -> Result<Option<Wr
     Ok(None)
 }
 
+/// The first of the beginnings that does.
+fn wrong_beginning(lab: Lab, faults: &[Fault]) -> Result<Option<Wrong>, Fail> {
+    match wrong_fault(lab, &opening(), BEGINNINGS.len(), faults)? {
+        None => wrong_trial(lab, &BEGINNINGS, faults),
+        wrong => Ok(wrong),
+    }
+}
+
 /// The first of all other trials that does.
 fn wrong_other(lab: Lab, faults: &[Fault]) -> Result<Option<Wrong>, Fail> {
-    for trials in [&BEGINNINGS[..], &SINGLE[..], &SEVERAL[..]] {
-        let wrong = wrong_trial(lab, trials, faults)?;
-        if wrong.is_some() {
-            return Ok(wrong);
-        }
+    match wrong_beginning(lab, faults)? {
+        None => {}
+        wrong => return Ok(wrong),
     }
-    Ok(None)
+    match wrong_trial(lab, &SINGLE, faults)? {
+        None => wrong_trial(lab, &SEVERAL, faults),
+        wrong => Ok(wrong),
+    }
 }
 
 /// The first request of the day at which a stop goes otherwise than it should.
@@ -126,7 +137,7 @@ pub fn stop_elsewhere_at_fault(alloc: Global) -> Result<Option<Wrong>, Fail> {
 pub fn stop_while_spilling_at_fault(alloc: Global) -> Result<Option<Wrong>, Fail> {
     let lab = Lab::with_small_cache(alloc);
     match wrong_trial(lab, &SEVERAL, &STOPS)? {
-        None => wrong_request(lab, LAST_OF_DAY, &STOPS),
+        None => wrong_request(lab, last_of_day(), &STOPS),
         wrong => Ok(wrong),
     }
 }
@@ -142,5 +153,5 @@ pub fn failure_at_fault(alloc: Global) -> Result<Option<Wrong>, Fail> {
 
 /// The first beginning of a register at which want of memory in the disk does.
 pub fn want_of_memory_at_fault(alloc: Global) -> Result<Option<Wrong>, Fail> {
-    wrong_trial(Lab::new(alloc), &BEGINNINGS, &WANTS)
+    wrong_beginning(Lab::new(alloc), &WANTS)
 }

@@ -76,7 +76,7 @@ impl DeskTask for Sending<'_> {
 
     fn perform<S: Alter>(&self, alloc: Global, desk: &mut Desk<S>) -> Result<Came, Fail> {
         let came = send(alloc, desk, self.sent, self.way)?;
-        let is_good = came == Came::Whole || is_broken(alloc, desk);
+        let is_good = came == Came::Whole || is_broken(alloc, desk)?;
         Ok(if is_good { came } else { Came::Wrong })
     }
 }
@@ -118,23 +118,26 @@ pub fn files_with(lab: Lab, sent: &[Exchange]) -> Result<Files<Memory>, Fail> {
     files_after(lab, &lab.new_files()?, sent)
 }
 
-/// The rows of the register, and then with each request more.
-pub fn rows_by_step(lab: Lab, before: &[Exchange], sent: &[Exchange]) -> Result<Vec<String>, Fail> {
-    let mut files = files_with(lab, before)?;
-    let mut rows = Vec::new(lab.alloc);
+/// The files after one request more, whose rows are put after the others.
+fn take_step(
+    lab: Lab,
+    files: &Files<Memory>,
+    one: &[Exchange],
+    rows: &mut Vec<String>,
+) -> Result<Files<Memory>, Fail> {
+    let files = files_after(lab, files, one)?;
     rows.push(lab.rows_in(&files)?)?;
-    for one in sent.chunks(1) {
-        files = files_after(lab, &files, one)?;
-        rows.push(lab.rows_in(&files)?)?;
-    }
-    Ok(rows)
+    Ok(files)
 }
 
-/// The rows of no register, and of the empty one.
-fn rows_of_creation(lab: Lab) -> Result<Vec<String>, Fail> {
+/// The rows of the register, and then with each request more.
+pub fn rows_by_step(lab: Lab, before: &[Exchange], sent: &[Exchange]) -> Result<Vec<String>, Fail> {
     let mut rows = Vec::new(lab.alloc);
-    rows.push(String::new(lab.alloc))?;
-    rows.push(lab.rows_in(&lab.new_files()?)?)?;
+    let mut files = files_with(lab, before)?;
+    rows.push(lab.rows_in(&files)?)?;
+    for one in sent.chunks(1) {
+        files = take_step(lab, &files, one, &mut rows)?;
+    }
     Ok(rows)
 }
 
@@ -148,28 +151,20 @@ fn files_of_first_version(lab: Lab) -> Result<Files<Memory>, Fail> {
     lab.files_by(statements.as_str())
 }
 
-/// The rows of that register, and of the one that this program makes of its requests.
-fn rows_of_migration(
-    lab: Lab,
-    files: &Files<Memory>,
-    before: &[Exchange],
-) -> Result<Vec<String>, Fail> {
+/// What leads from these files to those in one step.
+fn made_between(lab: Lab, files: Files<Memory>, after: &Files<Memory>) -> Result<Made, Fail> {
     let mut rows = Vec::new(lab.alloc);
-    rows.push(lab.rows_in(files)?)?;
-    rows.push(lab.rows_in(&files_with(lab, before)?)?)?;
-    Ok(rows)
+    rows.push(lab.rows_in(&files)?)?;
+    rows.push(lab.rows_in(after)?)?;
+    Ok(Made { files, rows })
 }
 
 fn make(lab: Lab, trial: &Trial) -> Result<Made, Fail> {
     match trial.way {
-        Way::Entry(Entry::Creation) => Ok(Made {
-            files: no_files(lab.alloc),
-            rows: rows_of_creation(lab)?,
-        }),
+        Way::Entry(Entry::Creation) => made_between(lab, no_files(lab.alloc), &lab.new_files()?),
         Way::Entry(Entry::Migration) => {
             let files = files_of_first_version(lab)?;
-            let rows = rows_of_migration(lab, &files, trial.before)?;
-            Ok(Made { files, rows })
+            made_between(lab, files, &files_with(lab, trial.before)?)
         }
         Way::Entry(Entry::Opening) | Way::Lines | Way::Rows(_) | Way::Post(..) => Ok(Made {
             files: files_with(lab, trial.before)?,
@@ -349,34 +344,58 @@ fn leave_behind(
     Ok(Ok((Remains { steps, stopped }, is_over)))
 }
 
+/// What was looked at in a trial, and how often it ended so.
+#[derive(Drop)]
+struct Search {
+    looked: Looked,
+    last: Option<Remains>,
+    count: Count,
+}
+
+/// Makes an attempt and looks at what it leaves: whether no call failed any more, or what went
+/// otherwise than it should.
+fn try_one(
+    lab: Lab,
+    trial: &Trial,
+    made: &Made,
+    fault: Fault,
+    search: &mut Search,
+) -> Result<Result<bool, (Option<Came>, Option<Leaving>)>, Fail> {
+    let (after, is_over) = match leave_behind(lab, trial, made, fault)? {
+        Ok(found) => found,
+        Err(came) => return Ok(Err((Some(came), None))),
+    };
+    if !is_seen(&search.last, &after) {
+        let Search { looked, count, .. } = search;
+        let odd = look_at_all(lab, trial, made, &after, looked, count)?;
+        if odd.is_some() {
+            return Ok(Err((None, odd)));
+        }
+    }
+    search.last = Some(after);
+    Ok(Ok(is_over))
+}
+
 /// Lets each call that the fault counts, from the end of the opening on, be the first that fails,
 /// until none fails any more.
 pub fn try_all(lab: Lab, trial: &Trial, fault: Fault) -> Result<Result<Count, Odd>, Fail> {
     let made = make(lab, trial)?;
     let first = calls_before(lab, trial, &made.files, fault)?;
-    let mut count = Count {
-        faults: 0,
-        left: 0,
-        ahead: 0,
+    let mut search = Search {
+        looked: Looked::new(lab.alloc, 0),
+        last: None,
+        count: Count {
+            faults: 0,
+            left: 0,
+            ahead: 0,
+        },
     };
-    let mut looked = Looked::new(lab.alloc, 0);
-    let mut last = None;
     for before in first..MAX_CALLS {
-        let (after, is_over) = match leave_behind(lab, trial, &made, fault.at(before))? {
-            Ok(found) => found,
-            Err(came) => return Ok(Err((before, Some(came), None))),
-        };
-        if !is_seen(&last, &after) {
-            let odd = look_at_all(lab, trial, &made, &after, &mut looked, &mut count)?;
-            if odd.is_some() {
-                return Ok(Err((before, None, odd)));
-            }
+        match try_one(lab, trial, &made, fault.at(before), &mut search)? {
+            Ok(true) => return Ok(Ok(search.count)),
+            Ok(false) => search.count.faults = search.count.faults.saturating_add(1),
+            Err((came, leaving)) => return Ok(Err((before, came, leaving))),
         }
-        if is_over {
-            return Ok(Ok(count));
-        }
-        count.faults = before.saturating_sub(first).saturating_add(1);
-        last = Some(after);
     }
     Ok(Err((MAX_CALLS, None, None)))
 }

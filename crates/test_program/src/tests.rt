@@ -6,6 +6,4 @@ mod desks;
 mod faults;
 mod files;
 mod network;
-mod serve_words;
 mod served;
-mod tables_in_files;

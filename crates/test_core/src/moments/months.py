@@ -1,20 +1,27 @@
-"""Writes the tables of moments plus calendar months that the tests compare with.
+"""Writes the table of moments plus calendar months that the tests compare with.
 
 Run in this folder, with Python 3.11 and nothing but its standard library, as
 
     python3 months.py
 
-It writes sums.rt. The dates are those of
-Python's datetime and the month lengths those of its calendar module.
+It writes sums.rt. The dates are those of Python's datetime, the lengths of months those of its calendar module.
 """
 
 import calendar
-from datetime import datetime, timedelta
+from datetime import datetime
 
 EPOCH = datetime(1970, 1, 1)
 LAST_YEAR = 9999
-MONTHS = [0, 1, 2, 11, 12, 24, 36, 120, 1200, 65535]
+MONTHS = [1, 11, 12, 36, 1200, 65535]
 ROWS_A_LINE = 4
+DATES = [
+    datetime(1970, 1, 31), datetime(1972, 2, 29, 23, 59, 59), datetime(1972, 3, 1, 4, 23, 58),
+    datetime(1999, 12, 31, 11, 35, 22), datetime(2000, 1, 31, 23, 59, 59), datetime(2000, 2, 29, 23, 59, 59),
+    datetime(2000, 3, 1), datetime(2020, 2, 29, 23, 59, 59), datetime(2100, 1, 31), datetime(2100, 2, 28, 23, 59, 59),
+    datetime(2100, 3, 1, 0, 47, 16), datetime(2200, 12, 31, 23, 59, 59), datetime(2300, 2, 28), datetime(2400, 2, 29),
+    datetime(2400, 12, 31), datetime(9989, 12, 31, 23, 59, 59), datetime(9996, 2, 29, 12, 10, 49),
+    datetime(9998, 1, 31, 23, 59, 59), datetime(9999, 10, 31), datetime(9999, 12, 31, 23, 59, 59),
+]
 
 
 def seconds(date):
@@ -33,58 +40,18 @@ def plus_months(date, months):
     return seconds(date.replace(year=year, month=month, day=day))
 
 
-def row(date, months):
-    return (seconds(date), months, plus_months(date, months))
-
-
-def at_some_second(year, month, day, index):
-    """This day at a second of the day that depends on the index: the first, the last, or one between."""
-    second = [0, 86399, index * 7919 % 86400][index % 3]
-    return datetime(year, month, day) + timedelta(seconds=second)
-
-
-def month_ends(first_year, last_year):
-    """The last day of each month, plus two of the numbers of months in turn."""
-    rows = []
-    for year in range(first_year, last_year + 1):
-        for month in range(1, 13):
-            index = year * 12 + month
-            date = at_some_second(year, month, calendar.monthrange(year, month)[1], index)
-            for turn in (0, 5):
-                rows.append(row(date, MONTHS[(index + year + turn) % 10]))
-    return rows
-
-
-def edges():
-    """Leap years, the years that end a century, and both ends of the range, plus each number of months."""
-    days = []
-    for year in range(1972, 2060, 8):
-        days += [(year, 2, 28), (year, 2, 29), (year, 3, 1)]
-    for year in (2000, 2100, 2200, 2300, 2400):
-        days += [(year, 1, 30), (year, 1, 31), (year, 2, 28), (year, 3, 1), (year, 12, 31)]
-        days += [(year - 1, 12, 31), (year - 1, 1, 29)]
-        if calendar.isleap(year):
-            days.append((year, 2, 29))
-    days += [(9989, 12, 31), (9996, 2, 29), (9997, 1, 1), (9998, 1, 31), (9999, 1, 31), (9999, 10, 31), (9999, 12, 1)]
-    dates = [at_some_second(*day, index) for index, day in enumerate(days)]
-    ends = [EPOCH + timedelta(seconds=second) for second in (1, 86399, 86400, 30 * 86400)]
-    last_second = datetime(LAST_YEAR, 12, 31, 23, 59, 59)
-    ends += [datetime(LAST_YEAR, 12, 31), last_second - timedelta(seconds=1), last_second]
-    return [row(date, months) for date in dates + ends for months in MONTHS]
-
-
 def write(file, rows):
-    """A Rattle file with the rows as a constant."""
+    """A Rattle file with the rows as a table."""
     with open(file, "w", encoding="ascii", newline="\n") as out:
         out.write("//! Made by months.py.\n\n")
-        out.write("/// The last day of each month from 1970 to 2039, leap years, ends of centuries and both ends of\n")
-        out.write("/// the range: moment, months, sum, with 0 for none.\n")
+        out.write("/// Ends of months about leap years, about centuries and at both ends of the range: moment, months,\n")
+        out.write("/// sum, with 0 for none.\n")
         out.write("#[rattlefmt::skip]\n")
-        out.write(f"pub const SUMS: [(u64, u16, u64); {len(rows)}] = [\n")
+        out.write(f"pub static SUMS: [(u64, u16, u64); {len(rows)}] = [\n")
         for start in range(0, len(rows), ROWS_A_LINE):
             line = ", ".join(str(one) for one in rows[start : start + ROWS_A_LINE])
             out.write(f"    {line},\n")
         out.write("];\n")
 
 
-write("sums.rt", month_ends(1970, 2039) + edges())
+write("sums.rt", [(seconds(date), months, plus_months(date, months)) for date in DATES for months in MONTHS])

@@ -123,6 +123,22 @@ pub fn does(
     )
 }
 
+/// What the program is given, and what it does.
+#[derive(Clone, Copy)]
+pub struct Act {
+    pub words: &'static [&'static str],
+    pub input: &'static [u8],
+    pub status: u8,
+    pub output: &'static str,
+    pub faults: &'static str,
+}
+
+/// Whether the program does so.
+pub fn is_done(rt: &HostRuntime, act: &Act) -> Result<bool, Fail> {
+    let output = act.output.as_bytes();
+    does(rt, act.words, act.input, act.status, output, act.faults)
+}
+
 /// Runs the statement on the register in the file, whoever opens it.
 fn edit_by<F: Files>(files: F, file: &str, statement: &str) -> Result<(), Fail> {
     let Ok(mut connection) = files.connect(file) else {

@@ -1,7 +1,9 @@
 //! Connections that are served, at a port that the system chooses.
+use super::acting::does;
+use super::files::{is_made, remove};
 use disk_files::{MachineListener, MachineNetwork};
 use moment_core::Moment;
-use register_desk::{Desk, End, Finish};
+use register_desk::{Desk, Finish};
 use register_program::{Attendance, Clocks, MachineClock, Network, Now, serve_on};
 use sqlite::MemStore;
 use std::cell::Cell;
@@ -12,7 +14,7 @@ use std::time::{Clock, Duration, Instant};
 use test_desk_trials::make_desk;
 use test_worked_rows::{ADVANCE, ADVANCED};
 
-/// A clock that stands still, or tells no moment.
+/// A clock that stands still.
 #[derive(Drop)]
 struct Still(Option<Moment>);
 
@@ -41,16 +43,14 @@ fn send(rt: &HostRuntime, listener: &MachineListener, bytes: &[u8]) -> io::Resul
     Ok(stream)
 }
 
-/// What comes of serving so many connections at this moment, in seconds, and of asking for the
-/// moment where there is none.
-fn serve_one(
+/// What comes of serving so many connections at 100.
+fn serve(
     rt: &HostRuntime,
     desk: &mut Desk<MemStore>,
     listener: &MachineListener,
-    seconds: Option<u64>,
     exchanges: u32,
 ) -> Finish {
-    let moments = Still(seconds.and_then(Moment::new));
+    let moments = Still(Moment::new(100));
     let clocks = Clocks {
         timer: rt,
         moments: &moments,
@@ -68,21 +68,19 @@ fn serve_one(
 
 const AT_END: Finish = Finish::AtEnd { rest: 0 };
 
-/// What comes of one client that sends *advanced*: the end, its connection, and the register's
-/// latest moment.
-fn advance(rt: &HostRuntime, seconds: Option<u64>) -> Result<(Finish, TcpStream, u64), Fail> {
+/// Whether one client that sends *advanced* is served.
+fn is_served(rt: &HostRuntime) -> Result<bool, Fail> {
     let mut desk = make_desk(rt.alloc())?;
     let listener = MachineNetwork::new(rt).listen_at_localhost(0)?;
     let stream = send(rt, &listener, ADVANCE.as_bytes())?;
-    let finish = serve_one(rt, &mut desk, &listener, seconds, 1);
-    Ok((finish, stream, desk.latest().seconds()))
+    let finish = serve(rt, &mut desk, &listener, 1);
+    let reply = io::read_to_string(rt.alloc(), stream)?;
+    Ok(finish == AT_END && reply.as_str() == ADVANCED && desk.latest().seconds() == 100)
 }
 
 #[test]
 fn a_connection_is_served(rt: HostRuntime) -> Result<(), Fail> {
-    let (finish, stream, latest) = advance(&rt, Some(100))?;
-    let reply = io::read_to_string(rt.alloc(), stream)?;
-    assert!(rt; finish == AT_END && reply.as_str() == ADVANCED && latest == 100);
+    assert!(rt; is_served(&rt)?);
     Ok(())
 }
 
@@ -107,7 +105,7 @@ fn seconds_after(rt: &HostRuntime, silent: Silent) -> Result<Option<u64>, Fail> 
     };
     let stream = send(rt, &listener, ADVANCE.as_bytes())?;
     let start = Instant::now(rt)?;
-    let finish = serve_one(rt, &mut desk, &listener, Some(100), 2);
+    let finish = serve(rt, &mut desk, &listener, 2);
     let seconds = start.elapsed(rt)?.as_secs();
     let reply = io::read_to_string(rt.alloc(), stream)?;
     drop(held);
@@ -118,14 +116,6 @@ fn seconds_after(rt: &HostRuntime, silent: Silent) -> Result<Option<u64>, Fail> 
 #[test]
 fn a_client_that_leaves_is_served_too(rt: HostRuntime) -> Result<(), Fail> {
     assert!(rt; seconds_after(&rt, Silent::Leaves)?.is_some());
-    Ok(())
-}
-
-#[test]
-fn without_a_moment_nothing_is_served(rt: HostRuntime) -> Result<(), Fail> {
-    let (finish, stream, latest) = advance(&rt, None)?;
-    assert!(rt; finish == Finish::Ended(End::ReadFault) && latest == 0);
-    drop(stream);
     Ok(())
 }
 
@@ -171,6 +161,33 @@ fn latest_after_two(rt: &HostRuntime) -> Result<u64, Fail> {
 fn each_connection_has_its_own_moment(rt: HostRuntime) -> Result<(), Fail> {
     assert_eq!(rt; latest_after_two(&rt)?, 101);
     Ok(())
+}
+
+/// Whether `serve` at a port that is taken is told.
+fn is_taken_port_told(rt: &HostRuntime, file: &str) -> Result<bool, Fail> {
+    let listener = MachineNetwork::new(rt).listen_at_localhost(0)?;
+    let number = listener.local_addr()?.port();
+    let port = format!(in rt.alloc(); "{number}")?;
+    let words = [
+        "serve",
+        "--file",
+        file,
+        "--port",
+        port.as_str(),
+        "--exchanges",
+        "1",
+    ];
+    let is_told = does(rt, &words, b"", 4, b"", "keyreg: ReadFault\n")?;
+    drop(listener);
+    Ok(is_told)
+}
+
+#[test]
+fn a_port_that_is_taken_is_told(rt: HostRuntime) -> Result<(), Fail> {
+    let file = "taken_port.keyreg";
+    assert!(rt; is_made(&rt, file)?);
+    assert!(rt; is_taken_port_told(&rt, file)?);
+    remove(&rt, file)
 }
 
 #[test]
