@@ -1,8 +1,12 @@
 // How requests are sent and kept: each acts once, for its own user, and a table's answers are kept beside it.
 import assert from "node:assert/strict";
+import {webcrypto} from "node:crypto";
 import {beforeEach, test} from "node:test";
 import {judgedRows} from "../rows.js";
 import {Store} from "./shared.js";
+
+// Node 18 has it by another name.
+globalThis.crypto ??= webcrypto;
 
 // A module of its own for each test: who reads the page is said once.
 let turn = 0;
