@@ -156,7 +156,7 @@ is_up() {
 }
 # accident NAME: a folder of its own with the examples, and an office in which all is well.
 accident() {
-    mkdir -m 700 "/root/$1" && cd "/root/$1" && typed a-days-work 1
+    mkdir -m 700 ~root/"$1" && cd ~root/"$1" && typed a-days-work 1
     holds "$1: before it all is well" is_up
     before=$(requests_of $file | wc -l)
 }
