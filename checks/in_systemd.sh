@@ -139,15 +139,20 @@ requests_of() { # Of a register that nobody writes to at the moment.
 }
 has() { [[ $(requests_of $file) == *"$1"* ]]; }
 is_as_many() { [ "$(requests_of $file | wc -l)" = "$1" ] || { requests_of $file; return 1; }; }
-night() { sleep 1; systemctl start keyreg-nightly || { journalctl -u keyreg-nightly -o cat -n 8; return 1; }; }
-follows() { systemctl start keyreg-follow || { journalctl -u keyreg-follow -o cat -n 8; return 1; }; }
+# Starts a unit as a timer does, however often it was started in the last seconds: systemd lets nobody start one more
+# than five times in ten.
+begins() {
+    systemctl reset-failed "$1"
+    systemctl start "$1" || { journalctl -u "$1" -o cat -n 8; return 1; }
+}
+night() { sleep 1; begins keyreg-nightly; }
+follows() { begins keyreg-follow; }
 # The service serves and accepts, the night is good, the standby has each request, and the timers go on.
 is_up() {
     until_holds 60 gets 8420 200 || { journalctl -u keyreg -o cat -n 6; ls -l $file*; return 1; }
     mode_is $file "keyreg 600" && mode_is $file-wal "keyreg 600" || return 1
     sleep 1
-    systemctl start keyreg-advance || { journalctl -u keyreg-advance -o cat -n 6; return 1; }
-    night && follows && systemctl start keyreg-list || return 1
+    begins keyreg-advance && night && follows && begins keyreg-list || return 1
     cmp <(requests_of $file) <(requests_of /var/lib/keyreg-standby/office.keyreg) || return 1
     local timer
     for timer in advance nightly list follow; do
