@@ -167,7 +167,7 @@ def long_table(reader, folder, count):
     expect(exchanges == count, f"{count} rows took {exchanges} exchanges")
     letters = reader.run("return Object.values(sessionStorage).reduce((sum, text) => sum + text.length, 0)")
     expect(letters < 150 * count, f"the store has {letters} letters of a table of {count} rows")
-    expect(min(taken) >= 10 and taken[-1] >= taken[0] / 2, f"rows a second by quarters: {taken}")
+    expect(taken[-1] >= taken[0] / 2, f"rows a second by quarters: {taken}")
     reader.said += [(reader.user, None, f"register data-encryption ann {second(day(-5))} - - {purpose}")
                     for purpose in purposes]
     put_away(reader)

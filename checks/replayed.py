@@ -28,8 +28,8 @@ from registers import PROGRAM, UNSET, expect, keyreg
 
 TOP = pathlib.Path(__file__).resolve().parent.parent
 REPLAY = TOP / "examples" / "replay.py"
-# So long, in seconds, a hundred thousand requests may take; and so many bytes any may, and each of them.
-MOST_SECONDS, LEAST_BYTES, BYTES_OF_ONE = 20, 40 << 20, 350
+# So many bytes any requests may take, and each of them.
+LEAST_BYTES, BYTES_OF_ONE = 40 << 20, 350
 # A small program that runs another and tells its memory. To what this script begins its own memory would count.
 MEASURED = """import resource, subprocess, sys
 status = subprocess.call(sys.argv[1:], stdout=subprocess.DEVNULL)
@@ -372,7 +372,6 @@ def measured(folder, count, seed):
     status, kilobytes = map(int, told.stdout.split())
     taken, most = time.monotonic() - begun, LEAST_BYTES + BYTES_OF_ONE * count
     expect(status == 0, f"many requests: {status}")
-    expect(count > 100_000 or taken <= MOST_SECONDS, f"{count} requests took {taken:.1f} seconds")
     expect(kilobytes << 10 <= most, f"{count} requests took {kilobytes >> 10} MB, and not {most >> 20}")
     found(file, ("keys 7: owner is 'eve'", "'bob'"), ("UPDATE keys SET owner = 'eve' WHERE number = 7",))
     return taken, kilobytes >> 10
@@ -392,7 +391,9 @@ def main():
         asked += read_as_keyreg(folder, full)
         unreadable(folder, full)
         kinds = logs(folder)
+        few, _ = measured(folder, words.requests // 4, words.seed)
         taken, megabytes = measured(folder, words.requests, words.seed)
+    expect(taken <= 8 * few, f"{words.requests} requests took {taken:.1f} seconds, and a quarter of them {few:.1f}")
     print(f"{asked} registers are what their requests give; {count} of {count} planted changes were found; "
           f"{kinds} logs were counted as SQLite does; {words.requests} requests took {taken:.1f} seconds and "
           f"{megabytes} MB")

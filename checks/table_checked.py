@@ -4,7 +4,7 @@ field is told, with its row and its key: of conversions that were recorded, and 
 installed. A table whose columns it read as text comes back byte for byte. A row that is a key already is told, one
 that `keyreg import` refuses for its form is, and of a table that is none what is wrong with it. The next first number
 that is told is one by which an import is accepted. Of ten thousand rows that were all changed each is told as it is
-found, within ten seconds.
+found, in at most twice the time that a quarter of them takes for each.
 
     checks/table_checked.py
 
@@ -57,8 +57,8 @@ KEY = {"type": "master", "owner": "ann", "activation": "", "protect_stop": "", "
 TEXT_COLUMNS = "1/2/2/2/3/2/4/2/5/2/6/2"
 READINGS = {"as it proposes": None, "as Windows-1252": "44,34,1", "as text": f"44,34,76,1,{TEXT_COLUMNS}"}
 FILTER = "Text - txt - csv (StarCalc)"
-# So long, in seconds, ten thousand changed rows may take.
-MOST_SECONDS = 10
+# How many rows are all changed, at first and at last.
+FEW, MANY = 2_500, 10_000
 
 
 def put(path, rows, columns=COLUMNS):
@@ -230,12 +230,12 @@ def saved_as(form, dates):
     return [datetime.strptime(date, "%Y-%m-%dT%H:%M:%SZ").strftime(form) for date in dates]
 
 
-def all_changed(folder):
-    """Ten thousand rows of which each was changed, in all dates, in place and the other way round: each is told with
-    its key and within a time, and the first before the others were looked at."""
-    count, day = 10_000, datetime(2026, 1, 1)
+def all_changed(folder, count):
+    """So many rows of which each was changed, in all dates, in place and the other way round: each is told with its key,
+    and the first before the others were looked at. Gives the seconds that each way took."""
+    day, taken = datetime(2026, 1, 1), []
     export, table = os.path.join(folder, "export.csv"), os.path.join(folder, "table.csv")
-    columns, taken = ("activation", "protect_stop", "deactivation"), []
+    columns = ("activation", "protect_stop", "deactivation")
     keys = [{**KEY, "type": "data-encryption", "number": place, "owner": f"team{place % 40}",
              "purpose": f"disks {place}",
              **{column: (day + timedelta(hours=7 * place, days=300 * later)).strftime("%Y-%m-%dT%H:%M:%SZ")
@@ -254,8 +254,7 @@ def all_changed(folder):
         wanted = {str(row): str(row if way == 1 else count + 1 - row) for row in range(1, count + 1)}
         has_all = told == wanted and f"{count} changed by a spreadsheet" in lines[-1]
         expect(has_all, f"{form}: {len(told)} rows with their keys, {lines[-1]}")
-        expect(taken[-1] <= MOST_SECONDS, f"{form}: {count} changed rows took {taken[-1]:.1f} seconds")
-    return max(taken)
+    return taken
 
 
 def main():
@@ -266,10 +265,13 @@ def main():
         known = known_again(folder)
         repeats(folder)
         no_tables(folder)
-        taken, most = many(folder), all_changed(folder)
+        taken, few, most = many(folder), all_changed(folder, FEW), all_changed(folder, MANY)
+    grown = sum(most) / sum(few)
+    expect(grown <= 2 * MANY / FEW, f"{MANY} changed rows took {grown:.1f} times as long as {FEW}: {most}, {few}")
     print(office)
     print(f"{len(RECORDED)} recorded conversions, {len(REFUSED)} refused rows and {known} rows of keys were told; "
-          f"10000 rows took {taken:.1f} seconds, and 10000 changed ones {most:.1f} at most")
+          f"10000 rows took {taken:.1f} seconds, and {MANY} changed ones {max(most):.1f} at most, "
+          f"{grown:.1f} times as long as {FEW}")
 
 
 if __name__ == "__main__":

@@ -8,7 +8,8 @@ other.
 At 380, 800 and 1600 wide, light and dark, nothing runs over its neighbour or past the edge, the columns have their
 headings, the page links stand on one line, the count is a live region, and each row's button gives all texts and dates
 of its key. Colours stand out from the paper as WCAG asks. Printed, each sheet has the axis, and each row stands whole
-on one sheet. Ten thousand keys are shown within two seconds, sorted, filtered, and turned over by pages.
+on one sheet. Ten thousand keys are sorted, filtered, and turned over by pages, and are shown in at most
+TIMES the time that a thousand take.
 
     checks/timeline_drawn.py [--screenshots FOLDER]
 
@@ -62,7 +63,9 @@ LINES = [
     f"{NOW - 80 * DAY} ann 30 register data-encryption {'W' * 17} {NOW - 70 * DAY} - - {'many words, ' * 14}last",
     f"{NOW - 80 * DAY} ann 31 register private-authentication {'w' * 64} {NOW + 90 * DAY} - - {'x' * 120}",
 ]
-WIDTHS, SECONDS = (380, 800, 1600), 2
+WIDTHS = (380, 800, 1600)
+# How much longer ten thousand keys may take than a thousand.
+TIMES = 5
 # What may load something, or run.
 LOADING = {"src", "href", "xlink:href", "srcset", "action", "formaction", "data", "poster", "background", "style"}
 
@@ -334,13 +337,14 @@ def main():
             looked_at(browser.elements(pages["ten"], f"#page={place + 1}"), large, place * 1000)
         turned_over(browser, pages, small)
         sheets = seen(browser, texts, small)
-        laid = min(browser.seen("ten", texts["ten"], 1600, most=1)["laid"] for _ in range(3)) / 1000
-        expect(laid <= SECONDS, f"10000 keys are shown after {laid:.2f} seconds")
+        few, laid = (min(browser.seen(name, texts[name], 1600, most=1)["laid"] for _ in range(3)) / 1000
+                     for name in ("thousand", "ten"))
+        expect(laid <= TIMES * few, f"10000 keys are shown after {laid:.2f} seconds, 1000 after {few:.2f}")
         for width in WIDTHS if screenshots else ():
             for name in pages:
                 browser.run(pages[name], f"--window-size={width},900", f"--screenshot={screenshots}/{name}-{width}.png")
     print(f"{sum(counts.values())} keys of all states at {len(WIDTHS)} widths, and 1000 keys on {sheets} sheets")
-    print(f"10000 keys: drawn in {taken:.1f} seconds, {len(texts['ten']) / 1e6:.1f} MB, shown after {laid:.2f} seconds")
+    print(f"10000 keys: drawn in {taken:.1f} seconds, {len(texts['ten']) / 1e6:.1f} MB, shown after {laid:.2f} seconds, 1000 after {few:.2f}")
 
 
 main()

@@ -8,7 +8,8 @@
   that set one. These are the turns of crates/streams, each a function of a few lines. What came of
   listening, accepting and asking for the moment is marked in the lines of ATTENDED.
 - Whether memory gave out: the end 30, and the error that becomes it, is told in the places of TOLD,
-  behind a call that asks for memory, or where a count of bytes would pass 2^64.
+  behind a call that asks for memory, or where a count of bytes would pass 2^64. None asks for room
+  beforehand, so that no more is asked for than a value needs.
 - How often a connection was called: each function of `Counted` makes the calls of CALLS, once.
 """
 import collections
@@ -67,6 +68,9 @@ TOLD = {
 # A value, and no pattern of a match, nor of an `if let`, nor a type.
 MEMORY = re.compile(r"\b(?:End|OpenRefusal|AskFault|StoreError|CheckError|RowsError)::Memory\b"
                     r"(?!\)*\s*(?:=>|=[^=]|\|)|\.fmt)|(?<![<,:] )(?<!<)\bAllocError\b(?!>)")
+
+# What asks for room beforehand, whose refusal is want of memory.
+ROOM = re.compile(r"\b(?:with_capacity|(?:try_)?reserve(?:_exact)?|from_elem)\b|\bvec!\[[^\]]*;")
 
 # What each function of counted.rt that calls a connection, or one of these, calls.
 CALLS = {
@@ -128,16 +132,17 @@ def attended_faults() -> list[str]:
             for name in sorted(found.keys() | ATTENDED.keys()) if found.get(name) != ATTENDED.get(name)]
 
 
-def told_faults() -> list[str]:
-    """Where want of memory is told in more places than it should be, or in fewer."""
-    told = {}
-    for path in CRATES.glob("*/src/**/*.rt"):
+def memory_faults() -> list[str]:
+    """Where want of memory is told in more places than it should be, or in fewer, or room is asked for beforehand."""
+    told, faults = {}, []
+    for path in sorted(CRATES.glob("*/src/**/*.rt")):
         name = str(path.relative_to(CRATES))
         if not name.startswith("test_"):
             lines = [line for line in code(path) if "use " not in line and "ensures" not in line]
             told[name] = sum(len(MEMORY.findall(line)) for line in lines)
-    return [f"{name} tells want of memory in {told.get(name, 0)} places, and not in {TOLD.get(name, 0)}"
-            for name in sorted(told.keys() | TOLD.keys()) if told.get(name, 0) != TOLD.get(name, 0)]
+            faults += [f"{name} asks for room: {line.strip()}" for line in lines if ROOM.search(line)]
+    return faults + [f"{name} tells want of memory in {told.get(name, 0)} places, and not in {TOLD.get(name, 0)}"
+                     for name in sorted(told.keys() | TOLD.keys()) if told.get(name, 0) != TOLD.get(name, 0)]
 
 
 def call_faults() -> list[str]:
@@ -154,7 +159,7 @@ def call_faults() -> list[str]:
 
 
 def main() -> int:
-    faults = mark_faults() + attended_faults() + told_faults() + call_faults()
+    faults = mark_faults() + attended_faults() + memory_faults() + call_faults()
     print(*faults, sep="\n", end="\n" if faults else "")
     print(f"marks of streams, {sum(TOLD.values())} places that tell want of memory, "
           f"{len(CALLS)} functions that call a connection: {len(faults)} faults")

@@ -219,7 +219,7 @@ def look_at_commands(folder: str) -> None:
     """The register in a file at a path of so many bytes, by each command but `serve`."""
     look("no words", [], WELL, REPLIES, LINES)
     look("no words and no line", [], WELL)
-    for length in (60, 200, 255, 256, 300, 1000):
+    for length in (60, 200, 255, 256, 300, 1000, 1100, 4000):
         file = long_path(folder, length)
         told = f"at a path of {len(os.fsencode(file))} bytes"
         look(f"init {told}", ["init", "--file", file], WELL)
@@ -261,9 +261,9 @@ def look_at_no_files(folder: str) -> None:
     Differences.tell(os.listdir(folder) == [], f"paths of no file made {os.listdir(folder)}")
 
 
-# Names that a path of another kind ends early, or reads otherwise: a query, a fragment, an escape, a space at the end,
-# and the end of a log's name.
-ODD_NAMES = ("a?b", "a#b", "a%41", "a ", "a-wal")
+# Names that a path of another kind ends early, or reads otherwise: a query, a fragment, an escape, spaces before and
+# behind, and the end of a log's name.
+ODD_NAMES = ("a?b", "a#b", "a%41", "a ", " a", "  a  ", "a-wal")
 
 
 def holds_rows(file: str) -> bool:
