@@ -188,9 +188,9 @@ def whole(folder, screens, parts, rows):
                   "each at three widths")
         quiet(readers.values())
         if "large" in parts:
-            _, size, packed, first, letters = desk_looks.large(desk, reader_of, folder)
-            print(f"a list of 100,000 keys has {size / 1e6:.1f} MB, {packed / 1e6:.1f} packed; the first view stood "
-                  f"after {first:.2f} s, a letter showed within {letters[-1]:.0f} ms")
+            taken = desk_looks.large(desk, reader_of, folder)
+            print(f"a list of 100,000 keys has {taken.size / 1e6:.1f} MB, {taken.packed / 1e6:.1f} packed; the first view "
+                  f"stood after {taken.first:.2f} s, a letter showed within {1000 * taken.letter:.0f} ms")
     return f"{count} requests of {len(readers)} pages are the register's, as the pages said; the console is empty"
 
 

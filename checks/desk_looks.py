@@ -8,6 +8,7 @@ import sqlite3
 import struct
 import time
 import zlib
+from typing import NamedTuple
 
 from desk_parts import By
 from registers import TABLES, UNSET, VERSION, expect, put_rows
@@ -190,6 +191,8 @@ def put_in_few_colours(place):
 # ---- 100,000 keys
 
 KEYS, BEGUN, DAY = 100_000, 1_700_000_000, 86400
+# How much longer all of them may take than a tenth.
+TIMES = 20
 
 
 def many(file, count=KEYS):
@@ -221,11 +224,11 @@ box.value = text; box.dispatchEvent(new Event("input", {bubbles: true}));
 requestAnimationFrame(() => setTimeout(() => done(performance.now() - begun)));"""
 
 
-def letter_times(reader):
+def letter_times(reader, count):
     """The milliseconds of each letter on a page that comes anew. Other work of the machine takes its time too: the best
     of some pages counts."""
     reader.reload()
-    reader.wait(lambda: f"{KEYS} of {KEYS} keys" in reader.text(), "the list does not come", 60)
+    reader.wait(lambda: f"{count} of {count} keys" in reader.text(), "the list does not come", 60)
     box = reader.one("input[type='search']")
     texts = ("h", "ha", "hall 9", "rack 7 team-3", "zzz", "", "5")
     told = [reader.driver.execute_async_script(LETTER, box, text) for text in texts]
@@ -234,33 +237,53 @@ def letter_times(reader):
     return told
 
 
-def large(desk, reader_of, folder):
-    """A list of 100,000 keys: its bytes, the first view, and a letter of the search. keyreg serves its own register."""
-    file = os.path.join(folder, "large.keyreg")
-    many(file)
+class Taken(NamedTuple):
+    """The bytes of a list, plain and packed, and the seconds of the first view, of the slowest search, and of the
+    slowest letter of one."""
+    size: int
+    packed: int
+    first: float
+    search: float
+    letter: float
+
+
+def taken(desk, reader, folder, count):
+    """What a list of so many keys takes. keyreg serves its own register."""
+    file = os.path.join(folder, f"large_{count}.keyreg")
+    many(file, count)
     told = desk.list(file)
-    size = int(told.rsplit(" bytes", 1)[0].rsplit(" ", 1)[1])
-    expect(size <= 40_000_000, f"the list has {size} bytes")
-    reader = reader_of("eve")
+    reader.open("find")
     reader.run("sessionStorage.clear()")
     reader.driver.refresh()
-    reader.wait(lambda: f"{KEYS} of {KEYS} keys" in reader.text(), "the list does not come", 60)
+    reader.wait(lambda: f"{count} of {count} keys" in reader.text(), "the list does not come", 60)
     first = reader.run("return performance.getEntriesByName('shown')[0].startTime") / 1000
     packed = reader.run("return performance.getEntriesByType('resource')"
                         ".find((one) => one.name.endsWith('list.json')).encodedBodySize")
-    expect(packed <= 8_000_000, f"the list has {packed} bytes packed")
-    letters = min((letter_times(reader) for _ in range(3)), key=max)
+    letters = min((letter_times(reader, count) for _ in range(3)), key=max)
+    searches = []
     for given in ({"state": "Active"}, {"days": "100"}, {"owner": "team-7.of.the.office@example"}, {"waits": "1"}):
         reader.open("register")
         begun = time.monotonic()
         reader.open("find?" + "&".join(f"{name}={value}" for name, value in given.items()))
-        expect(time.monotonic() - begun < 3, f"{given} took {time.monotonic() - begun:.1f} s")
+        searches.append(time.monotonic() - begun)
     expect(reader.find("table.cards tbody tr"), "nothing is found")
     begun = time.monotonic()
     reader.open("waits")
-    expect(len(reader.find("h1")) == 1 and time.monotonic() - begun < 3, "what waits takes long")
-    expect(first <= 2 and max(letters) <= 100, f"the first view stood after {first:.2f} s, letters took {letters} ms")
-    return reader, size, packed, first, sorted(letters)
+    expect(len(reader.find("h1")) == 1, "what waits does not come")
+    searches.append(time.monotonic() - begun)
+    size = int(told.rsplit(" bytes", 1)[0].rsplit(" ", 1)[1])
+    return Taken(size, packed, first, max(searches), max(letters) / 1000)
+
+
+def large(desk, reader_of, folder):
+    """What a list of 100,000 keys takes, beside one of a tenth."""
+    reader = reader_of("eve")
+    few, all_of_them = (taken(desk, reader, folder, count) for count in (KEYS // 10, KEYS))
+    expect(all_of_them.size <= 400 * KEYS and all_of_them.packed <= 80 * KEYS, f"the list is too large: {all_of_them}")
+    late = [name for name in ("first", "search", "letter")
+            if getattr(all_of_them, name) > TIMES * getattr(few, name)]
+    expect(not late, f"{late}: {KEYS} keys took {all_of_them}, and a tenth of them {few}")
+    return all_of_them
 
 
 __all__ = ["By", "all_pages", "large", "looked_at", "picture"]

@@ -65,7 +65,7 @@ LINES = [
 ]
 WIDTHS = (380, 800, 1600)
 # How much longer ten thousand keys may take than a thousand.
-TIMES = 5
+TIMES = 3
 # What may load something, or run.
 LOADING = {"src", "href", "xlink:href", "srcset", "action", "formaction", "data", "poster", "background", "style"}
 
