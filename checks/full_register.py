@@ -12,7 +12,7 @@ import os
 import sqlite3
 import tempfile
 
-from registers import EXPORT_COLUMNS, INDEXES, TABLES, UNSET, VERSION, expect, export_row, keyreg, show
+from registers import EXPORT_COLUMNS, INDEXES, TABLES, UNSET, VERSION, expect, export_row, in_memory, keyreg, show
 
 MAX_KEYS = 1_000_000
 
@@ -78,7 +78,7 @@ def main():
     options = argparse.ArgumentParser(description=__doc__.splitlines()[0])
     options.add_argument("--keys", type=int, default=MAX_KEYS)
     keys = options.parse_args().keys
-    with tempfile.TemporaryDirectory() as folder:
+    with tempfile.TemporaryDirectory(dir=in_memory(2**31)) as folder:
         file = os.path.join(folder, "office.keyreg")
         for number, step in enumerate((write, check_export, check_report, check_run)):
             show(f"step {number + 1} of 4")

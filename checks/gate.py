@@ -98,7 +98,7 @@ REST = (
     Part("followed.py", 900),
     Part("restored.py", 900),
     Part("replayed.py", 900),
-    Part("rebuilt.py", 900),
+    Part("rebuilt.py", 300),
     Part("table_checked.py", 600),
     Part("full_register.py", 1800),
     Part("mutated.py --seconds 60", 900),

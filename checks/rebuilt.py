@@ -11,7 +11,8 @@ is whole comes. What cannot be read or written ends with its own status.
 
     checks/rebuilt.py [--requests N] [--registers N] [--lines N] [--seed N]
 
-It needs SQLite's shell. Build the program first: ./keyreg </dev/null
+It ends within the five minutes that checks/gate.py gives it. It needs SQLite's shell. Build the program first:
+./keyreg </dev/null
 """
 import argparse
 import contextlib
@@ -27,7 +28,7 @@ import tempfile
 import time
 
 from drawn_registers import DAY, FULL, HOSTILE, changed, drawn, first_version, made, rows_of
-from registers import PROGRAM, STATES, expect, keyreg, show
+from registers import PROGRAM, STATES, expect, in_memory, keyreg, show
 from register_rules import OF_VERSION_2, Refused, Register, request_of
 from rules_shown import tables
 
@@ -236,7 +237,7 @@ def main():
     words = words.parse_args()
     print(f"seed {words.seed}", flush=True)
     chance, requests, foretold = random.Random(words.seed), 0, [0, 0]
-    with tempfile.TemporaryDirectory() as folder:
+    with tempfile.TemporaryDirectory(dir=in_memory(2**28)) as folder:
         for place in range(words.registers):
             show(f"{place} of {words.registers} registers")
             steps, is_first = STEPS[place // 2 % len(STEPS)], place % 2

@@ -24,7 +24,7 @@ import tempfile
 import time
 
 from drawn_registers import DAY, FULL, KINDS, at_one_moment, changed, drawn, made
-from registers import PROGRAM, UNSET, expect, keyreg
+from registers import PROGRAM, UNSET, expect, in_memory, keyreg
 
 TOP = pathlib.Path(__file__).resolve().parent.parent
 REPLAY = TOP / "examples" / "replay.py"
@@ -383,7 +383,7 @@ def main():
     words.add_argument("--seed", type=int, default=random.randrange(1_000_000))
     words = words.parse_args()
     print(f"seed {words.seed}", flush=True)
-    with tempfile.TemporaryDirectory() as folder:
+    with tempfile.TemporaryDirectory(dir=in_memory(2**28)) as folder:
         first, full, sixteen, asked = untouched(folder, words.seed)
         count = planted(first, 1) + planted(full, 2) + refused(first, full, sixteen)
         no_order(full, folder)
