@@ -56,7 +56,7 @@ GATE = (
     Part("want_of_memory.py", 600, cores=2),
     Part("power_cuts.py --points 60 --choices 1", 120, cores=2),
     Part("exchanges_by_curl.py --bound 20", 120),
-    Part("first_build.py", 120),
+    Part("first_build.py", 300),
     Part("large_office.py", 120),
     Part("words.py", 90),
     Part("copied_while_served.py --seconds 15", 90),
