@@ -364,7 +364,7 @@ def measured(folder, count, seed):
              f"disks of rack {number}" for number in range(1, count // 2 + 1)]
     lines += [f"{1_700_000_000 + count + number} bob {number} add-custodian {number} cat"
               for number in range(1, count // 2 + 1)]
-    file, accepted = made(folder, "many", lines)
+    file, accepted = made(folder, f"many_{count}", lines)
     expect(accepted == len(lines), f"{accepted} of {len(lines)} accepted")
     begun = time.monotonic()
     words = [sys.executable, "-c", MEASURED, sys.executable, REPLAY, file]
