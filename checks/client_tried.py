@@ -128,19 +128,21 @@ def kept(numbers):
 
 
 def killed(network, folder, count):
-    """A client that is killed again and again, and started anew with what it had not taken yet, as its file tells."""
+    """A client that is killed again and again, and started anew with what it had not taken yet, as its file tells. One
+    that came to nothing before it was killed, as on a busy machine, is followed by one that may live twice as long."""
     file, numbers = os.path.join(folder, "killed.keyreg"), os.path.join(folder, "zed.numbers")
     keyreg(["init", "--file", file])
-    chance, kills, told = random.Random(SEED + 2), 0, 0
+    chance, kills, told, longest = random.Random(SEED + 2), 0, 0, 1.2
     words = [sys.executable, EXAMPLES / "client.py", "--address", f"http://127.0.0.1:{network.port}", "--caller", "zed",
              "--numbers", numbers]
     with Served(file=file) as served:
         network.target = served.port
         while told < count or kept(numbers)[1]:
             with subprocess.Popen(words, stdin=subprocess.PIPE, stdout=subprocess.PIPE, text=True) as asking:
-                killer = threading.Timer(chance.uniform(0.2, 1.2), os.kill, (asking.pid, signal.SIGKILL))
+                killer = threading.Timer(chance.uniform(0.2, longest), os.kill, (asking.pid, signal.SIGKILL))
                 killer.start()
-                told = typed(asking, numbers, told, count)
+                before, told = told, typed(asking, numbers, told, count)
+                longest = 1.2 if told > before else 2 * longest
                 killer.cancel()
                 asking.kill()
                 kills += 1
