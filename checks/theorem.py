@@ -25,8 +25,7 @@ from sources import read
 # The law whose contract is the theorem: its file, and its name.
 ROOT = ("crates/register_program/src/laws.rt", "register_is_found_again")
 # The contracts that tie it to the code, which the page shows as they stand: those of its step, and that of an opening.
-STEP = (("crates/register_program/src/acting.rt", "perform_task"),
-        ("crates/register_program/src/laws.rt", "tasks_are_lives"))
+STEP = (("crates/register_program/src/acting.rt", "act"),)
 OPENING = (("crates/register_program/src/register_file.rt", "open_file"),
            ("crates/register_program/src/laws.rt", "openings_find_lives"))
 # Of what these name, what the page has too: what leads on, what an opening finds, and what the machine's files are.
@@ -46,20 +45,19 @@ HEAD = """\
 {says}
 
 The theorem below says so, of any runs of the program over one register's files: request lines, imports, exports,
-reports, served exchanges, creations, refusals, and words that are none. It is an induction over the runs. Of each it
-takes one step as known, `Leads`: from files that hold the register of a history the run leads to files that hold that
-register after one life. That the program's runs take this step is proved by two contracts, of any task, and of any
-files, whatever they held:
+reports, served exchanges, creations and refusals. It is an induction over the runs. Of each it takes one step as known,
+`Leads`: from files that hold the register of a history the run leads to files that hold that register after one life.
+That the program's runs take this step is a clause of `act` (`leads`), of any job and of any files, whatever they held:
 
 ```
 {step}
 ```
 
-`Performs` says all that a task does, so of exports, reports, refusals and what an opening checks too. It stands on half
-as many definitions again, which this page leaves out: the step needs none of them, since both contracts name it. A run
-names no `Files`, since each has its own: `start` is what it found. The machine's are `DiskFiles`. That a run whose
-words are none leads on is the law `idle_runs_lead_on`. `act` calls `perform_task` once with the files handed over. To
-be read is `act`, of a few lines, and `main`, which hand on the files and the words.
+`Performs` says all that a job does, so of exports, reports, refusals and what an opening checks too, and `EndsFor` why
+it ended. They stand on half as many definitions again, which this page leaves out: the step needs none of them. A run
+names no `Files`, since each has its own: what its path holds at first (`start`) is what it found. The machine's are
+`DiskFiles`. Words that are none, or that name no file, reach none: `read_task` and `act_in_memory` are not given any.
+To be read is `main`, with `act_on_disk`, which calls these three; `checks/given.py` holds every word of it.
 
 What an opening finds in files that hold a register is a part of the contract of `open_file`, which each command calls
 that needs it; so an opening of what runs left finds what they come to:
@@ -74,7 +72,7 @@ that needs it; so an opening of what runs left finds what they come to:
 |---|---|
 | on an honest disk | `LeftBy`: the store is clean as each call ends |
 | that nobody else writes | `Follow`: each run finds what the one before left |
-| after any request lines | any words and an input of any bytes (`ProgramRun`), and its items (`AreItemsOf`) |
+| after any request lines | any job and an input of any bytes (`ProgramRun`), and its items (`AreItemsOf`) |
 | a stop before or within any write | a disk that fails from then on: `LeftBy` has all that may be found |
 | opening the file again finds exactly the register | `holds`: these tables, no others; `openings_find_lives` |
 | of a prefix of the accepted requests | the first items of each run (`applied`), in a history that is `lawful` |
@@ -82,17 +80,17 @@ that needs it; so an opening of what runs left finds what they come to:
 | and at most one more | `one_more` of each life: nothing stands past the line of what was applied |
 | every key's state is the one its dates and the latest accepted moment give | so `tables` have it, by `key_of` |
 
-Its premises beside the sentence's own: a run that opened no file leaves the files as they are; what an opening leaves
-that failed before a connection was there stands for what it found (`StandsAs`); and a store that a fault shut while its
-log was copied is numbered still (`LeftIn`, part `numbered`), of which the kit says nothing. What README lists as
-trusted is trusted here too.
+Its premises beside the sentence's own are two, of which the kit says nothing: a store that a fault shut while its log
+was copied is numbered still (`LeftIn`, part `numbered`); and what an opening left that failed while it recovered a log
+or made a first page stands for what it found (`IsLeftOf` of `disk_files`; of every other failed opening that is
+proved). What README lists as trusted is trusted here too.
 
 What it does not say: that an opening succeeds, since memory may give out or the disk refuse; of exchanges any reply,
 since no contract knows the bytes of a connection; of an import that its items are those of its rows, which the contract
 of `import` has; and that the empty register of an `init` is found, and no file without one, before a request is
 accepted. Of an input or an output whose bytes nobody knows it says neither what its items nor what its lines are. The
-standard input and output of a process are such: that they are as any others is since `perform_task` is proved for every
-reader and every writer. So it is for every `Start`, which tells what files hold; the program hands over one that tells
+standard input and output of a process are such: that they are as any others is since `act` is proved for every reader
+and every writer. So it is for every `Start`, which tells what files hold; the program hands over one that tells
 nothing (`Wary`). That a stop within a write is a disk that fails from that write on is how `may_leave` is read.
 
 First stands the theorem, and then each definition on which it stands, once. The crates come from the top down; in

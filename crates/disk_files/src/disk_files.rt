@@ -2,11 +2,12 @@
 ghost use Rattle.sqlite.specs.WalFiles.{image_at};
 ghost use Rattle.sqlite.specs.Files.{over_files};
 ghost use Rattle.sqlite_store.specs.FileStore as files;
+ghost use Rattle.register_desk.specs.OpenRefusal.{RefusesNoTable};
 ghost use Rattle.register_program.specs.Closing.{ClosesFiles};
 
 use register_desk::OpenRefusal;
-use register_program::{Closed, Files, LogCopy};
-use sqlite::{Connection, Error, ErrorCode, FileFrom, FileStore, Start};
+use register_program::{Absent, Closed, Files, LogCopy, NotConnected};
+use sqlite::{Connection, Error, ErrorCode, FileFrom, FileStore, Leftover, Start};
 use sqlite_disk::Disk;
 use sqlite_trees::store::Store;
 use std::fs;
@@ -23,6 +24,23 @@ impl<'a, S: Start> DiskFiles<'a, S> {
     /// The files that begin so.
     pub fn new(rt: &'a HostRuntime, start: S) -> Self {
         DiskFiles { rt, start }
+    }
+}
+
+/// What is left of files on the disk that could not be opened.
+#[derive(Drop)]
+pub struct FailedFiles<D: Disk> {
+    /// Where they were opened before it failed.
+    left: Option<Leftover<D>>,
+}
+
+/// Why an opening that failed so is refused.
+fn refusal_of(error: &Error) -> OpenRefusal
+    ensures { RefusesNoTable result }
+{
+    match error {
+        Error::SqliteFailure(ErrorCode::OutOfMemory) => OpenRefusal::Memory,
+        _ => OpenRefusal::Store,
     }
 }
 
@@ -57,24 +75,42 @@ fn checkpoint_store<D: Disk + Drop>(mut store: FileStore<D>) -> Closed<FileStore
 
 impl<'a, S: Start> Files for DiskFiles<'a, S> {
     ghost use Rattle.sqlite.proofs.Theorems.{opens_again};
+    ghost use Rattle.disk_files.specs.LeftOver.{MayBeLeft};
 
     type Opened = FileStore<FileFrom<S>>;
 
-    ghost start = { image_at S.Start };
+    type Failed = FailedFiles<FileFrom<S>>;
+
+    ghost start = { λ file. image_at S.Start };
 
     ghost may_leave = { λ left. (files.state left).may_leave };
 
+    ghost may_leave_failed = { λ it. MayBeLeft (image_at S.Start) it.left };
+
     ghost opens_again = { λ it. opens_again it };
 
-    fn may_be_there(&self, file: &str) -> bool {
-        fs::exists(self.rt, file).unwrap_or(true)
-    }
-
-    fn connect(self, file: &str) -> Result<Connection<FileStore<FileFrom<S>>>, OpenRefusal> {
+    fn connect(
+        self,
+        file: &str,
+        absent: Absent,
+    ) -> Result<Connection<FileStore<FileFrom<S>>>, NotConnected<FailedFiles<FileFrom<S>>>> {
+        // Where the system does not tell, the opening does.
+        let may_be_opened = match absent {
+            Absent::Made => true,
+            Absent::Refused => fs::exists(self.rt, file).unwrap_or(true),
+        };
+        if !may_be_opened {
+            return Err(NotConnected {
+                refusal: OpenRefusal::Store,
+                failed: FailedFiles { left: None },
+            });
+        }
         match Connection::open_from(self.rt, file, false, self.start) {
             Ok(connection) => Ok(connection),
-            Err((Error::SqliteFailure(ErrorCode::OutOfMemory), _)) => Err(OpenRefusal::Memory),
-            Err(_) => Err(OpenRefusal::Store),
+            Err((error, left)) => Err(NotConnected {
+                refusal: refusal_of(&error),
+                failed: FailedFiles { left },
+            }),
         }
     }
 

@@ -1,14 +1,12 @@
 -- What the program's runs left is found again, run by run.
 use Rattle.std.proofs.Common.{◌≡◌, ◌≢◌, ◌⊎◌, inl, inr, ℕ, ◌+◌, ◌<◌, ◌≤◌, Bool, true, false, List, [], ◌∷◌, ◌++◌}
 use Rattle.std.proofs.Common.{length, take, drop, Option, None, Some, Result, Ok, Err, refl, sym, ap, subst, ◌∙◌, arith}
-use Rattle.std.specs.Prelude.{IfSome}
 use Rattle.std.specs.Io.KnownBytes.{Appends}
 use Rattle.std.proofs.lemmas.Bool.{cases_lt}
 use Rattle.std.proofs.lemmas.Grind.{flat_map-append}
 use Rattle.std.proofs.lemmas.List.{append-nil, take-append-drop, take-take, take_all}
 use Rattle.std.proofs.Math.Logic.{∥∥₁_elim, ∥∥₁_map}
 use Rattle.sqlite_trees.specs.declared.store.Store.{Ghosts}
-use Rattle.sqlite_trees.specs.View.{IsClean as IsCleanStore}
 use Rattle.sqlite.specs.Recovery.{Image}
 use Rattle.register_requests.specs.declared.request.Request.{Request}
 use Rattle.register_core.specs.declared.reply.Reply.{Reply}
@@ -31,18 +29,21 @@ use Rattle.register_desk.proofs.Lives.{lawful_on}
 use Rattle.register_program.specs.declared.files.Closed.{Closed}
 use Rattle.register_program.specs.declared.register_file.Life.{Life as Lived_}
 use Rattle.register_program.specs.declared.register_file.Refused.{Refused}
+use Rattle.register_program.specs.declared.register_file.RefusedFiles.{RefusedFiles}
+use Rattle.register_program.specs.declared.register_file.RefusedFiles.TheVariants.{Failed, Shut}
 use Rattle.register_program.specs.FileCalls.{Exports, LivesAnyway, MakesRegister, OpensFirst}
 use Rattle.register_program.specs.FileCalls.{Reports, RunsLines, ServesExchanges}
 use Rattle.register_program.specs.Closing.{LeftIn}
-use Rattle.register_program.specs.Life.{LeavesInFiles, LeavesNoRequest, LeavesNothing, LivesOver, SparesRegister}
+use Rattle.register_program.specs.Life.{LeavesInFiles, LeavesNoRequest, LeavesNothing, LivesOver, OfLeft, SparesRegister}
 use Rattle.register_program.specs.declared.acting.Done.{Done}
-use Rattle.register_program.specs.declared.acting.Done.TheVariants.{BadValue, Lived, Made}
-use Rattle.register_program.specs.Sentence.{Answered, AreItemsOf, Follow, FoundAgain, HoldsHistory, IsLifeOf, Leads}
-use Rattle.register_program.specs.Sentence.{LeadsFrom, LeftBy, LeftByClosed, LeftByRefused, ProgramRun, StandsAs}
+use Rattle.register_program.specs.declared.acting.Done.TheVariants.{Lived, Made}
+use Rattle.register_program.specs.Sentence.{Answered, AreItemsOf, Follow, FoundAgain, HoldsHistory, IsLifeOf}
+use Rattle.register_program.specs.Sentence.{LeadsFrom, LeftBy, LeftByClosed, LeftByRefused, ProgramRun}
 use Rattle.register_program.specs.Sentence.{WasLife, no_life, outcome_of, run_of}
-use Rattle.register_program.specs.Task.{Performs}
-use Rattle.register_words.specs.declared.words.Task.{Task}
-use Rattle.register_words.specs.declared.words.Task.TheVariants.{Export, Import, Init, Report, Run, RunInMemory, Serve}
+use Rattle.register_program.specs.Job.{Performs}
+use Rattle.register_program.proofs.Served.{served_life}
+use Rattle.register_words.specs.declared.words.Job.{Job}
+use Rattle.register_words.specs.declared.words.Job.TheVariants.{Export, Import, Init, Report, Run, Serve}
 
 -- ---- the lines that were written
 
@@ -130,83 +131,76 @@ left_in h left one = ∥∥₁_map one (λ holds. inr (either h left holds))
 left_new : (h : List Request) (left : Image) → h ≡ [] → HoldsRegister [] left → HoldsHistory h left
 left_new h left none holds = inr (subst (λ (k : List Request). HoldsRegister k left) (sym none) holds)
 
-stands_so : (h : List Request) (found left : Image) → StandsAs found left → HoldsHistory h found → HoldsHistory h left
-stands_so h found left stands (inl none) = inl (stands.nothing none.0, none.1)
-stands_so h found left stands (inr holds) = inr (record {
-  version = holds.version;
-  lawful = holds.lawful;
-  db = holds.db;
-  tables_are = holds.tables_are;
-  found = stands.database holds.db.trees holds.found;
-})
-
-module _ {S : Type 0} (g : Ghosts S) (may_leave : S → Image → Type 0) (h : List Request) (found left : Image)
+module _ {S U : Type 0} (g : Ghosts S) (may_leave : S → Image → Type 0) (may_stay : U → Image → Type 0)
+    (h : List Request) (found left : Image)
     (start : HoldsHistory h found) where
-  abbrev OfSound : Option S → ((Image → Type 0) → Type 0) → Type 0
-  OfSound store Says = IfSome store (λ it. IsCleanStore (g.view it) → Says (may_leave it))
+  none_or_new : h ≡ [] → ∥ (HoldsNothing left ⊎ HoldsRegister [] left) ∥₁ → ∥ HoldsHistory h left ∥₁
+  none_or_new none one = ∥∥₁_map one (λ it. elim it [
+    | inl empty ↦ inl (empty, none)
+    | inr new ↦ left_new h left none new
+  ])
 
   -- of files that were refused to a creation
-  unmade_as : (store : Option S) → LeftByRefused g may_leave found store left
-      → (HoldsNothing found → OfSound store LeavesNoRequest)
-      → (HoldsRegister h found → OfSound store (LeavesInFiles h h))
+  unmade_as : (files : RefusedFiles S U) → LeftByRefused g may_leave may_stay files left
+      → (HoldsNothing found → OfLeft g may_leave may_stay files LeavesNoRequest)
+      → (HoldsRegister h found → OfLeft g may_leave may_stay files (LeavesInFiles h h))
       → (from : HoldsHistory h found) → ∥ HoldsHistory h left ∥₁
-  unmade_as None leaves nothing spares from = ∣ stands_so h found left leaves from ∣₁
-  unmade_as (Some it) leaves nothing spares (inl none) =
-      ∥∥₁_map (nothing none.0 leaves.0 left leaves.1) (λ one. elim one [
-        | inl empty ↦ inl (empty, none.1)
-        | inr new ↦ left_new h left none.1 new
-      ])
-  unmade_as (Some it) leaves nothing spares (inr holds) = left_in h left (spares holds leaves.0 left leaves.1)
+  unmade_as (Failed it) kept nothing spares (inl none) = none_or_new none.1 (nothing none.0 left kept)
+  unmade_as (Failed it) kept nothing spares (inr holds) = left_in h left (spares holds left kept)
+  unmade_as (Shut it) leaves nothing spares (inl none) = none_or_new none.1 (nothing none.0 leaves.0 left leaves.1)
+  unmade_as (Shut it) leaves nothing spares (inr holds) = left_in h left (spares holds leaves.0 left leaves.1)
 
   -- and to an opening
-  unopened_as : (store : Option S) (refusal : OpenRefusal) → LeftByRefused g may_leave found store left
-      → (HoldsNothing found → OfSound store LeavesNothing)
-      → (HoldsRegister h found → OfSound store (SparesRegister h refusal))
+  unopened_as : (files : RefusedFiles S U) (refusal : OpenRefusal) → LeftByRefused g may_leave may_stay files left
+      → (HoldsNothing found → OfLeft g may_leave may_stay files LeavesNothing)
+      → (HoldsRegister h found → OfLeft g may_leave may_stay files (SparesRegister h refusal))
       → (from : HoldsHistory h found) → ∥ HoldsHistory h left ∥₁
-  unopened_as None refusal leaves nothing spares from = ∣ stands_so h found left leaves from ∣₁
-  unopened_as (Some it) refusal leaves nothing spares (inl none) =
+  unopened_as (Failed it) refusal kept nothing spares (inl none) =
+      ∥∥₁_map (nothing none.0 left kept) (λ empty. inl (empty, none.1))
+  unopened_as (Failed it) refusal kept nothing spares (inr holds) = left_in h left ((spares holds).1 left kept)
+  unopened_as (Shut it) refusal leaves nothing spares (inl none) =
       ∥∥₁_map (nothing none.0 leaves.0 left leaves.1) (λ empty. inl (empty, none.1))
-  unopened_as (Some it) refusal leaves nothing spares (inr holds) =
+  unopened_as (Shut it) refusal leaves nothing spares (inr holds) =
       left_in h left ((spares holds leaves.0).1 left leaves.1)
 
-  made_as : (came : Result (Closed S) (Refused S)) → LeftBy g may_leave found (Made came) left
-      → MakesRegister g may_leave found came → (from : HoldsHistory h found) → ∥ HoldsHistory h left ∥₁
+  made_as : (came : Result (Closed S) (Refused S U)) → LeftBy g may_leave may_stay (Made came) left
+      → MakesRegister g may_leave may_stay found came → (from : HoldsHistory h found) → ∥ HoldsHistory h left ∥₁
   made_as (Ok closed) leaves makes (inl none) =
       ∥∥₁_map ((makes.leaves none.0 leaves.0).1.from left leaves.1)
       (λ new. left_new h left none.1 (either [] left new))
   made_as (Ok closed) leaves makes (inr holds) = absurd (makes.spares h holds leaves.0)
   made_as (Err refused) leaves makes from =
-      unmade_as refused.store leaves makes.refuses.nothing (makes.refuses.spares h) from
+      unmade_as refused.files leaves makes.refuses.nothing (makes.refuses.spares h) from
 
-  -- ---- the life that a task was
+  -- ---- the life that a job was
 
   module _ (lawful : IsLawful h) (old new : Option (List ℕ)) where
-    -- the run of this task over this input, which came to this
-    abbrev the_run : Option (List ℕ) → Task → Done S → ProgramRun
-    the_run input task done = run_of found task input old new done left
+    -- the run of this job over this input, which came to this
+    abbrev the_run : Option (List ℕ) → Job → Done S U → ProgramRun
+    the_run input job done = run_of found job input old new done left
 
-    abbrev Fits : Option (List ℕ) → Task → Done S → Life → Type 0
-    Fits input task done life = IsLifeOf h (Some task) (outcome_of done) (the_run input task done) life
+    abbrev Fits : Option (List ℕ) → Job → Done S U → Life → Type 0
+    Fits input job done life = IsLifeOf h job (outcome_of done) (the_run input job done) life
 
     -- was a life after which the register is left
-    abbrev WasOne : Option (List ℕ) → Task → Done S → Type 0
-    WasOne input task done =
-        ∥ ((life : Life) × WasLife h (the_run input task done) life × HoldsHistory (after h life) left) ∥₁
+    abbrev WasOne : Option (List ℕ) → Job → Done S U → Type 0
+    WasOne input job done =
+        ∥ ((life : Life) × WasLife h (the_run input job done) life × HoldsHistory (after h life) left) ∥₁
 
-    was_none : (input : Option (List ℕ)) (task : Task) (done : Done S)
-        → Fits input task done no_life → ∥ HoldsHistory h left ∥₁ → WasOne input task done
-    was_none input task done is some =
+    was_none : (input : Option (List ℕ)) (job : Job) (done : Done S U)
+        → Fits input job done no_life → ∥ HoldsHistory h left ∥₁ → WasOne input job done
+    was_none input job done is some =
         ∥∥₁_map some (λ it. (no_life, record { in_range = tt; enough = omega arith; is = is }, it))
 
     -- where it opened the register and applied nothing
-    opened_none : (came : Result (Lived_ S) (Refused S))
-        → LeftBy g may_leave found (Lived came) left → OpensFirst g may_leave found came
+    opened_none : (came : Result (Lived_ S) (Refused S U))
+        → LeftBy g may_leave may_stay (Lived came) left → OpensFirst g may_leave may_stay found came
         → ((lived : Lived_ S) → came ≡ Ok lived → HoldsRegister h found → ∥ HoldsHistory h left ∥₁)
         → (from : HoldsHistory h found) → ∥ HoldsHistory h left ∥₁
     opened_none (Ok lived) leaves opens keeps (inl none) = absurd (opens.nothing none.0 leaves.0)
     opened_none (Ok lived) leaves opens keeps (inr holds) = keeps lived refl holds
     opened_none (Err refused) leaves opens keeps from =
-        unopened_as refused.store refused.refusal leaves opens.refuses.nothing (opens.refuses.spares h lawful) from
+        unopened_as refused.files refused.refusal leaves opens.refuses.nothing (opens.refuses.spares h lawful) from
 
     -- a life over the items of an input, with so many replies
     abbrev LifeOver : Option (List ℕ) → ℕ → Type 0
@@ -217,7 +211,7 @@ module _ {S : Type 0} (g : Ghosts S) (may_leave : S → Image → Type 0) (h : L
 
     -- a life over some items, and what was written of it
     some_life : (input : Option (List ℕ)) (lived : Lived_ S) → LeftByClosed g may_leave lived.files left
-        → LivesAnyway g may_leave found old new (Ok lived) → HoldsRegister h found
+        → LivesAnyway g may_leave may_stay found old new (Ok lived) → HoldsRegister h found
         → ∥ ((life : Life) × AreInRange life.items × (applied life ≤ length life.items)
         × ((life.replies ≡ lived.outcome.replies) × Answered h life old new) × HoldsRegister (after h life) left) ∥₁
     some_life input lived leaves anyway holds =
@@ -306,7 +300,7 @@ module _ {S : Type 0} (g : Ghosts S) (may_leave : S → Image → Type 0) (h : L
 
     -- of request lines
     ran : (input : Option (List ℕ)) (lived : Lived_ S) → LeftByClosed g may_leave lived.files left
-        → RunsLines g may_leave found input old new (Ok lived) → HoldsRegister h found
+        → RunsLines g may_leave may_stay found input old new (Ok lived) → HoldsRegister h found
         → ∥ LifeOver input lived.outcome.replies ∥₁
     ran None lived leaves runs holds =
         ∥∥₁_map (some_life None lived leaves runs.anyway holds)
@@ -316,134 +310,97 @@ module _ {S : Type 0} (g : Ghosts S) (may_leave : S → Image → Type 0) (h : L
         let of = runs.lives h bytes cut.0 cut.1 lawful holds refl cut.2 leaves.0 in
         known_life bytes cut.0 cut.1 cut.2 lived of.0 (LeftIn g may_leave lived.files) leaves.1 of.1.from
 
-    -- ---- each task
+    -- ---- each job
 
-    ran_as : (input : Option (List ℕ)) (task : Task) (came : Result (Lived_ S) (Refused S))
+    ran_as : (input : Option (List ℕ)) (job : Job) (came : Result (Lived_ S) (Refused S U))
         → ((lived : Lived_ S) (life : Life)
         → (life.replies ≡ lived.outcome.replies) × AreItemsOf input life.items × Answered h life old new
-        → Fits input task (Lived (Ok lived)) life)
-        → ((refused : Refused S) → Fits input task (Lived (Err refused)) no_life)
-        → LeftBy g may_leave found (Lived came) left → RunsLines g may_leave found input old new came
-        → (from : HoldsHistory h found) → WasOne input task (Lived came)
-    ran_as input task (Ok lived) is none leaves runs (inl nothing) =
+        → Fits input job (Lived (Ok lived)) life)
+        → ((refused : Refused S U) → Fits input job (Lived (Err refused)) no_life)
+        → LeftBy g may_leave may_stay (Lived came) left → RunsLines g may_leave may_stay found input old new came
+        → (from : HoldsHistory h found) → WasOne input job (Lived came)
+    ran_as input job (Ok lived) is none leaves runs (inl nothing) =
         absurd (runs.anyway.opens.nothing nothing.0 leaves.0)
-    ran_as input task (Ok lived) is none leaves runs (inr holds) =
+    ran_as input job (Ok lived) is none leaves runs (inr holds) =
         ∥∥₁_map (ran input lived leaves runs holds)
         (λ one. (one.0, record { in_range = one.1; enough = one.2; is = is lived one.0 one.3 }, one.4))
-    ran_as input task (Err refused) is none leaves runs from =
-        was_none input task (Lived (Err refused)) (none refused)
+    ran_as input job (Err refused) is none leaves runs from =
+        was_none input job (Lived (Err refused)) (none refused)
         (opened_none (Err refused) leaves runs.anyway.opens (λ lived same holds. absurd (cc same)) from)
 
-    imported_as : (input : Option (List ℕ)) (task : Task) (came : Result (Lived_ S) (Refused S))
+    imported_as : (input : Option (List ℕ)) (job : Job) (came : Result (Lived_ S) (Refused S U))
         → ((lived : Lived_ S) (life : Life) → (life.replies ≡ lived.outcome.replies) × Answered h life old new
-        → Fits input task (Lived (Ok lived)) life)
-        → ((refused : Refused S) → Fits input task (Lived (Err refused)) no_life)
-        → LeftBy g may_leave found (Lived came) left → LivesAnyway g may_leave found old new came
-        → (from : HoldsHistory h found) → WasOne input task (Lived came)
-    imported_as input task (Ok lived) is none leaves anyway (inl nothing) =
+        → Fits input job (Lived (Ok lived)) life)
+        → ((refused : Refused S U) → Fits input job (Lived (Err refused)) no_life)
+        → LeftBy g may_leave may_stay (Lived came) left → LivesAnyway g may_leave may_stay found old new came
+        → (from : HoldsHistory h found) → WasOne input job (Lived came)
+    imported_as input job (Ok lived) is none leaves anyway (inl nothing) =
         absurd (anyway.opens.nothing nothing.0 leaves.0)
-    imported_as input task (Ok lived) is none leaves anyway (inr holds) =
+    imported_as input job (Ok lived) is none leaves anyway (inr holds) =
         ∥∥₁_map (some_life input lived leaves anyway holds)
         (λ one. (one.0, record { in_range = one.1; enough = one.2; is = is lived one.0 one.3 }, inr one.4))
-    imported_as input task (Err refused) is none leaves anyway from =
-        was_none input task (Lived (Err refused)) (none refused)
+    imported_as input job (Err refused) is none leaves anyway from =
+        was_none input job (Lived (Err refused)) (none refused)
         (opened_none (Err refused) leaves anyway.opens (λ lived same holds. absurd (cc same)) from)
 
-    served_as : (input : Option (List ℕ)) (task : Task) (most : ℕ) (came : Result (Lived_ S) (Refused S))
-        → ((lived : Lived_ S) (life : Life) → Fits input task (Lived (Ok lived)) life)
-        → ((refused : Refused S) → Fits input task (Lived (Err refused)) no_life)
-        → LeftBy g may_leave found (Lived came) left → ServesExchanges g may_leave found most came
-        → (from : HoldsHistory h found) → WasOne input task (Lived came)
-    served_as input task most (Ok lived) is none leaves serves (inl nothing) =
+    served_as : (input : Option (List ℕ)) (job : Job) (most : ℕ) (came : Result (Lived_ S) (Refused S U))
+        → ((lived : Lived_ S) (life : Life) → Fits input job (Lived (Ok lived)) life)
+        → ((refused : Refused S U) → Fits input job (Lived (Err refused)) no_life)
+        → LeftBy g may_leave may_stay (Lived came) left → ServesExchanges g may_leave may_stay found most came
+        → (from : HoldsHistory h found) → WasOne input job (Lived came)
+    served_as input job most (Ok lived) is none leaves serves (inl nothing) =
         absurd (serves.opens.nothing nothing.0 leaves.0)
-    served_as input task most (Ok lived) is none leaves serves (inr holds) =
-        ∥∥₁_map ((serves.leads leaves.0).1.from left leaves.1 h lawful holds)
+    served_as input job most (Ok lived) is none leaves serves (inr holds) =
+        let served = (serves.lives h lawful holds leaves.0).1.from in
+        ∥∥₁_map (served_life h served.items served.next served.in_range left (served.leaves left leaves.1))
         (λ one. (
           one.0,
           record { in_range = one.1.in_range; enough = one.1.enough; is = is lived one.0 },
-          inr one.2,
+          inr one.1.holds,
         ))
-    served_as input task most (Err refused) is none leaves serves from =
-        was_none input task (Lived (Err refused)) (none refused)
+    served_as input job most (Err refused) is none leaves serves from =
+        was_none input job (Lived (Err refused)) (none refused)
         (opened_none (Err refused) leaves serves.opens (λ lived same holds. absurd (cc same)) from)
 
-    exported : (came : Result (Lived_ S) (Refused S)) → LeftBy g may_leave found (Lived came) left
-        → Exports g may_leave found old new came → ∥ HoldsHistory h left ∥₁
+    exported : (came : Result (Lived_ S) (Refused S U)) → LeftBy g may_leave may_stay (Lived came) left
+        → Exports g may_leave may_stay found old new came → ∥ HoldsHistory h left ∥₁
     exported (Ok lived) leaves exports =
         opened_none (Ok lived) leaves exports.opens
         (λ it same holds. left_in h left ((exports.lives h lawful holds leaves.0).1.from.leaves left leaves.1)) start
     exported (Err refused) leaves exports =
         opened_none (Err refused) leaves exports.opens (λ lived same holds. absurd (cc same)) start
 
-    reported : (days : ℕ) (came : Result (Lived_ S) (Refused S)) → LeftBy g may_leave found (Lived came) left
-        → Reports g may_leave found days old new came → ∥ HoldsHistory h left ∥₁
+    reported : (days : ℕ) (came : Result (Lived_ S) (Refused S U)) → LeftBy g may_leave may_stay (Lived came) left
+        → Reports g may_leave may_stay found days old new came → ∥ HoldsHistory h left ∥₁
     reported days (Ok lived) leaves reports =
         opened_none (Ok lived) leaves reports.opens
         (λ it same holds. left_in h left ((reports.keeps h lawful holds leaves.0).1.from left leaves.1)) start
     reported days (Err refused) leaves reports =
         opened_none (Err refused) leaves reports.opens (λ lived same holds. absurd (cc same)) start
 
-    untouched : left ≡ found → ∥ HoldsHistory h left ∥₁
-    untouched same = ∣ subst (HoldsHistory h) (sym same) start ∣₁
+    by_job : (input : Option (List ℕ)) (job : Job) (done : Done S U)
+        → Performs g may_leave may_stay found job input old new done → LeftBy g may_leave may_stay done left
+        → WasOne input job done
+    by_job input Init (Made came) performs leaves =
+        was_none input Init (Made came) refl (made_as came leaves performs.0 start)
+    by_job input Run (Lived came) performs leaves =
+        ran_as input Run came (λ lived life is. is) (λ refused. refl) leaves performs.0 start
+    by_job input (Import terms) (Lived came) performs leaves =
+        imported_as input (Import terms) came (λ lived life is. is) (λ refused. refl) leaves performs.0.anyway start
+    by_job input Export (Lived came) performs leaves =
+        was_none input Export (Lived came) refl (exported came leaves performs.0)
+    by_job input (Report days) (Lived came) performs leaves =
+        was_none input (Report days) (Lived came) refl (reported days came leaves performs.0)
+    by_job input (Serve bounds) (Lived came) performs leaves =
+        served_as input (Serve bounds) bounds.exchanges came (λ lived life. tt) (λ refused. refl) leaves performs.0 start
+    by_job input job done performs leaves = absurd performs
 
-    by_task : (input : Option (List ℕ)) (task : Task) (done : Done S)
-        → Performs g may_leave found task input old new done → LeftBy g may_leave found done left
-        → WasOne input task done
-    by_task input RunInMemory done performs leaves =
-        was_none input RunInMemory done refl
-        (untouched (subst (λ (d : Done S). LeftBy g may_leave found d left) performs.1 leaves))
-    by_task input (Init file) done performs leaves =
-        was_none input (Init file) done refl
-        (made_as performs.0 (subst (λ (d : Done S). LeftBy g may_leave found d left) performs.1 leaves)
-        performs.2 start)
-    by_task input (Run file) done performs leaves =
-        subst (WasOne input (Run file)) (sym performs.1)
-        (ran_as input (Run file) performs.0 (λ lived life is. is) (λ refused. refl)
-        (subst (λ (d : Done S). LeftBy g may_leave found d left) performs.1 leaves) performs.2 start)
-    by_task input (Import file terms) done (inl given) leaves =
-        subst (WasOne input (Import file terms)) (sym given.3)
-        (imported_as input (Import file terms) given.2 (λ lived life is. is) (λ refused. refl)
-        (subst (λ (d : Done S). LeftBy g may_leave found d left) given.3 leaves) given.4.0.anyway start)
-    by_task input (Import file terms) done (inr none) leaves =
-        subst (WasOne input (Import file terms)) (sym none.1)
-        (was_none input (Import file terms) BadValue refl
-        (untouched (subst (λ (d : Done S). LeftBy g may_leave found d left) none.1 leaves)))
-    by_task input (Export file) done performs leaves =
-        was_none input (Export file) done refl
-        (exported performs.0 (subst (λ (d : Done S). LeftBy g may_leave found d left) performs.1 leaves) performs.2)
-    by_task input (Report file days) done (inl given) leaves =
-        was_none input (Report file days) done refl
-        (reported given.0 given.2 (subst (λ (d : Done S). LeftBy g may_leave found d left) given.3 leaves) given.4.0)
-    by_task input (Report file days) done (inr none) leaves =
-        was_none input (Report file days) done refl
-        (untouched (subst (λ (d : Done S). LeftBy g may_leave found d left) none.1 leaves))
-    by_task input (Serve file bounds) done (inl given) leaves =
-        subst (WasOne input (Serve file bounds)) (sym given.3)
-        (served_as input (Serve file bounds) given.0.exchanges given.2 (λ lived life. tt) (λ refused. refl)
-        (subst (λ (d : Done S). LeftBy g may_leave found d left) given.3 leaves) given.4.0 start)
-    by_task input (Serve file bounds) done (inr none) leaves =
-        subst (WasOne input (Serve file bounds)) (sym none.1)
-        (was_none input (Serve file bounds) BadValue refl
-        (untouched (subst (λ (d : Done S). LeftBy g may_leave found d left) none.1 leaves)))
-
-module _ {S : Type 0} (g : Ghosts S) (may_leave : S → Image → Type 0) where
-  pub leads_from : (found : Image) (task : Task) (input old new : Option (List ℕ)) (done : Done S)
-      → Performs g may_leave found task input old new done
-      → LeadsFrom g may_leave found task input old new done
-  leads_from found task input old new done performs left leaves h lawful start =
-      by_task g may_leave h found left start lawful old new input task done performs leaves
-
--- a run of no task
-pub leads_idle : (run : ProgramRun) → run.task ≡ None → run.left ≡ run.found → Leads run
-leads_idle run none same h lawful start = ∣ (
-  no_life,
-  record {
-    in_range = tt;
-    enough = omega arith;
-    is = subst (λ (task : Option Task). IsLifeOf h task run.outcome run no_life) (sym none) refl;
-  },
-  subst (HoldsHistory h) (sym same) start,
-) ∣₁
+module _ {S U : Type 0} (g : Ghosts S) (may_leave : S → Image → Type 0) (may_stay : U → Image → Type 0) where
+  pub leads_from : (found : Image) (job : Job) (input old new : Option (List ℕ)) (done : Done S U)
+      → Performs g may_leave may_stay found job input old new done
+      → LeadsFrom g may_leave may_stay found job input old new done
+  leads_from found job input old new done performs left leaves h lawful start =
+      by_job g may_leave may_stay h found left start lawful old new input job done performs leaves
 
 -- ---- the runs, one after the other
 

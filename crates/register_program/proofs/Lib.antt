@@ -3,5 +3,5 @@ mod Living
 mod Refusing
 mod Served
 mod Told
-mod Acted
+mod Acts
 mod FoundAgain

@@ -1,7 +1,6 @@
 -- The life in files that a call was, whatever its reader told.
 use Rattle.std.proofs.Common.{◌≡◌, ◌∙◌, ◌+◌, ℕ, List, take, Option, Result, Ok, Err, ap, subst, sym}
 use Rattle.std.specs.Prelude.{IsErrAnd}
-use Rattle.std.proofs.Math.Logic.{∥∥₁_map}
 use Rattle.sqlite_trees.specs.declared.store.Store.{Ghosts}
 use Rattle.sqlite_trees.specs.View.{IsClean as IsCleanStore}
 use Rattle.sqlite.specs.Recovery.{Image}
@@ -17,15 +16,16 @@ use Rattle.register_desk.specs.Desk.{IsClean, IsWhole, LeavesEither}
 use Rattle.register_desk.specs.Run.{LeavesDesk, RunsOver}
 use Rattle.register_desk.proofs.Found.{leaves_alone}
 use Rattle.register_desk.specs.Register.{StandsFor}
-use Rattle.register_desk.specs.Lives.{LeavesLife, LivesSome as RunsSome, life_of}
+use Rattle.register_desk.specs.Lives.{LeavesLife, LivesSome as RunsSome}
 use Rattle.register_program.specs.declared.files.Closed.{Closed}
 use Rattle.register_program.specs.Closing.{ClosesDesk}
 use Rattle.register_program.specs.Within.Closing.{LeavesAsDesk}
 use Rattle.register_program.proofs.OfDesk.{of_desk}
 use Rattle.register_program.specs.declared.register_file.Life.{Life}
 use Rattle.register_program.specs.declared.register_file.Refused.{Refused}
-use Rattle.register_program.specs.FileCalls.{ImportsRows, LivesAnyway, OpensFirst, Reports, RunsLines}
-use Rattle.register_program.specs.Life.{LeadsOnTo, LeavesLifeInFiles, LivesSome, Refuses}
+use Rattle.register_program.specs.FileCalls.{Exports, ImportsRows, LivesAnyway, OpensFirst, Reports, RunsLines}
+use Rattle.register_program.specs.FileCalls.{ServesExchanges}
+use Rattle.register_program.specs.Life.{LeavesLifeInFiles, LivesSome, Refuses}
 use Rattle.register_words.specs.declared.values.Terms.{Terms}
 
 -- where an answer was written in part its item was applied, and a stop leaves that alone
@@ -51,15 +51,9 @@ module _ {S : Type 0} (g : Ghosts S) (may_leave : Image → Type 0) (outcome : O
     leaves = into h runs.items outcome.end outcome.replies (runs.leaves whole);
   }
 
-  leads_on : (found : Image) → ((h : List Request) → IsLawful h → HoldsRegister h found
-      → LivesSome g h outcome old new now may_leave) → LeadsOnTo found outcome may_leave
-  leads_on found some left may h lawful holds =
-      let lives = some h lawful holds in
-      ∥∥₁_map (lives.leaves left may) (λ one. (life_of lives.items outcome.replies one.0, one.1, one.2))
-
 -- a call that opened a desk, and was a run over some items of whatever history that stood for
-pub lives_anyway : {S : Type 0} (g : Ghosts S) (may_leave : S → Image → Type 0) (found : Image) (outcome : Outcome)
-    (files : Closed S) (old new : Option (List ℕ)) (kept now : Desk S g) → IsWhole kept
+pub lives_anyway : {S U : Type 0} (g : Ghosts S) (may_leave : S → Image → Type 0) (may_stay : U → Image → Type 0)
+    (found : Image) (outcome : Outcome) (files : Closed S) (old new : Option (List ℕ)) (kept now : Desk S g) → IsWhole kept
     → (IsCleanStore (g.view files.store) → ClosesDesk g may_leave now files (LeavesAsDesk g now))
     → (IsCleanStore (g.view files.store) → IsClean g now) → (IsClean g now → IsClean g kept)
     → ((h : List Request) → IsLawful h → HoldsRegister h found → IsClean g kept → StandsFor g kept h)
@@ -67,59 +61,66 @@ pub lives_anyway : {S : Type 0} (g : Ghosts S) (may_leave : S → Image → Type
     → (outcome.end ≡ Ended BadHeader → (new ≡ old) × (outcome.replies ≡ 0))
     → ((h : List Request) → StandsFor g kept h → IsClean g now
     → RunsSome g h outcome.end outcome.replies old new kept now)
-    → LivesAnyway g may_leave found old new (Ok (record { outcome = outcome; files = files }))
-lives_anyway g may_leave found outcome files old new kept now whole into closes before stands nothing unbegun runs =
+    → LivesAnyway g may_leave may_stay found old new (Ok (record { outcome = outcome; files = files }))
+lives_anyway g may_leave may_stay found outcome files old new kept now whole into closes before stands nothing unbegun runs =
     let some = λ (clean : IsCleanStore (g.view files.store)) (may : Image → Type 0) (leaves : LeavesAsDesk g now may)
     (h : List Request) (lawful : IsLawful h) (holds : HoldsRegister h found).
     lives_some g may outcome old new kept now leaves.lives
     h (runs h (stands h lawful holds (before (closes clean))) (closes clean)) whole in
     record {
       some = λ h lawful holds clean. of_desk (into clean) (λ may leaves. some clean may leaves h lawful holds);
-      leads = λ clean. of_desk (into clean)
-          (λ may leaves. leads_on g may outcome old new kept now found (some clean may leaves));
       unbegun = unbegun;
       opens = record { nothing = λ none clean. nothing none (before (closes clean)); refuses = tt };
     }
 
 -- ---- a call that opened no register
 
-err_is : {X : Type 0} {S : Type 0} (refused : Refused S) (result : Result X (Refused S))
+err_is : {X S U : Type 0} (refused : Refused S U) (result : Result X (Refused S U))
     → IsErrAnd result (λ given. given ≡ refused) → result ≡ Err refused
 err_is refused (Ok x) is = absurd is
-err_is refused (Err given) is = ap (λ (e : Refused _). Err e) is
+err_is refused (Err given) is = ap (λ (e : Refused _ _). Err e) is
 
-module _ {S : Type 0} (g : Ghosts S) (may_leave : S → Image → Type 0) (found : Image) (refused : Refused S)
-    (refuses : Refuses g may_leave found refused) where
-  opens_none : OpensFirst g may_leave found (Err refused)
+module _ {S U : Type 0} (g : Ghosts S) (may_leave : S → Image → Type 0) (may_stay : U → Image → Type 0)
+    (found : Image) (refused : Refused S U) (refuses : Refuses g may_leave may_stay found refused) where
+  opens_none : OpensFirst g may_leave may_stay found (Err refused)
   opens_none = record { nothing = λ none. tt; refuses = refuses }
 
-  lives_none : (old new : Option (List ℕ)) → LivesAnyway g may_leave found old new (Err refused)
+  lives_none : (old new : Option (List ℕ)) → LivesAnyway g may_leave may_stay found old new (Err refused)
   lives_none old new = record {
     some = λ h lawful holds. tt;
-    leads = tt;
     unbegun = tt;
     opens = opens_none;
   }
 
-  pub runs_none : (input old new : Option (List ℕ)) (result : Result (Life S) (Refused S))
-      → IsErrAnd result (λ given. given ≡ refused) → RunsLines g may_leave found input old new result
-  runs_none input old new result is = subst (RunsLines g may_leave found input old new) (sym (err_is refused result is))
+  pub runs_none : (input old new : Option (List ℕ)) (result : Result (Life S) (Refused S U))
+      → IsErrAnd result (λ given. given ≡ refused) → RunsLines g may_leave may_stay found input old new result
+  runs_none input old new result is = subst (RunsLines g may_leave may_stay found input old new) (sym (err_is refused result is))
       (record { lives = λ h bytes items rest lawful holds known has. tt; anyway = lives_none old new })
 
-  pub imports_none : (terms : Terms) (input old new : Option (List ℕ)) (result : Result (Life S) (Refused S))
-      → IsErrAnd result (λ given. given ≡ refused) → ImportsRows g may_leave found terms input old new result
+  pub imports_none : (terms : Terms) (input old new : Option (List ℕ)) (result : Result (Life S) (Refused S U))
+      → IsErrAnd result (λ given. given ≡ refused) → ImportsRows g may_leave may_stay found terms input old new result
   imports_none terms input old new result is =
-      subst (ImportsRows g may_leave found terms input old new) (sym (err_is refused result is)) (record {
+      subst (ImportsRows g may_leave may_stay found terms input old new) (sym (err_is refused result is)) (record {
         lives = λ h bytes items lawful holds known has. tt;
         without = λ h bytes lawful holds known none. tt;
         anyway = lives_none old new;
       })
 
-  pub reports_none : (days : ℕ) (old new : Option (List ℕ)) (result : Result (Life S) (Refused S))
-      → IsErrAnd result (λ given. given ≡ refused) → Reports g may_leave found days old new result
+  pub reports_none : (days : ℕ) (old new : Option (List ℕ)) (result : Result (Life S) (Refused S U))
+      → IsErrAnd result (λ given. given ≡ refused) → Reports g may_leave may_stay found days old new result
   reports_none days old new result is =
-      subst (Reports g may_leave found days old new) (sym (err_is refused result is)) (record {
+      subst (Reports g may_leave may_stay found days old new) (sym (err_is refused result is)) (record {
         keeps = λ h lawful holds. tt;
         lives = λ h rows lawful holds are. tt;
         opens = opens_none;
       })
+
+  pub exports_none : (old new : Option (List ℕ)) (result : Result (Life S) (Refused S U))
+      → IsErrAnd result (λ given. given ≡ refused) → Exports g may_leave may_stay found old new result
+  exports_none old new result is = subst (Exports g may_leave may_stay found old new) (sym (err_is refused result is))
+      (record { lives = λ h lawful holds. tt; opens = opens_none })
+
+  pub serves_none : (most : ℕ) (result : Result (Life S) (Refused S U)) → IsErrAnd result (λ given. given ≡ refused)
+      → ServesExchanges g may_leave may_stay found most result
+  serves_none most result is = subst (ServesExchanges g may_leave may_stay found most) (sym (err_is refused result is))
+      (record { lives = λ h lawful holds. tt; ends = tt; opens = opens_none })

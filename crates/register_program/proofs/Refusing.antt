@@ -1,7 +1,7 @@
 -- Files that were refused are left as they were found.
-use Rattle.std.proofs.Common.{◌≡◌, ◌⊎◌, List, [], Option, None, Some, Result, Ok, Err, IsTrue, inl, inr, refl}
+use Rattle.std.proofs.Common.{◌≡◌, ◌⊎◌, List, [], Result, Ok, Err, IsTrue, inl, inr, refl}
 use Rattle.std.proofs.Common.{sym, subst, ◌∙◌}
-use Rattle.std.specs.Prelude.{IfSome, IsErrAnd}
+use Rattle.std.specs.Prelude.{IsErrAnd}
 use Rattle.std.proofs.Math.Logic.{∥∥₁_map}
 use Rattle.sqlite_trees.specs.declared.store.Store.{Ghosts}
 use Rattle.sqlite_trees.specs.View.{IsClean as IsCleanStore}
@@ -27,17 +27,18 @@ use Rattle.register_desk.proofs.NoRegister.{passes_nothing}
 use Rattle.register_desk.proofs.Opened.{stored_in}
 use Rattle.register_program.specs.declared.files.Closed.{Closed}
 use Rattle.register_program.specs.declared.register_file.Refused.{Refused}
+use Rattle.register_program.specs.declared.register_file.RefusedFiles.{RefusedFiles}
+use Rattle.register_program.specs.declared.register_file.RefusedFiles.TheVariants.{Failed, Shut}
+use Rattle.register_program.specs.Closing.{StandsAs}
 use Rattle.register_program.specs.FileCalls.{MakesRegister, OpensFile}
 use Rattle.register_program.specs.Life.{ClosesAs, GivesBack, IsCommittedOrMade, IsFoundIn, LeavesBehindIn, LeavesFound}
-use Rattle.register_program.specs.Life.{LeavesInFiles, LeavesNoRequest, LeavesNothing}
+use Rattle.register_program.specs.Life.{LeavesInFiles, LeavesNoRequest, LeavesNothing, OfLeft, OfSound}
 use Rattle.register_program.specs.Life.{RefusesFiles, Refuses, RefusesMaking, RefusesToMake, SparesRegister}
+use Rattle.register_program.specs.Opening.{IsSound}
 
--- what is said of a value that may be there, of the one that is there
-of_some : {X : Type 0} (P : X → Type 0) (o : Option X) (x : X) → o ≡ Some x → P x → IfSome o P
-of_some P o x is said = subst (λ o. IfSome o P) (sym is) said
-
-not_none : {X A : Type 0} (o : Option X) (x : X) → o ≡ Some x → o ≡ None → A
-not_none o x is none = let both = sym is ∙ none in absurd (cc)
+not_failed : {S U A : Type 0} (files : RefusedFiles S U) (store : S) (failed : U) → files ≡ Shut store
+    → files ≡ Failed failed → A
+not_failed files store failed is other = let both = sym is ∙ other in absurd (cc)
 
 -- what is found in files that hold nothing is nothing
 left_empty : (found : Image) (db : Trees) → HoldsNothing found → IsFoundIn found db → IsEmpty db
@@ -73,34 +74,53 @@ none_or_made found s may shows nothing leaves left is = ∥∥₁_map (leaves le
       inr (holds_now [] left made.0 holds (subst (HoldsDatabase left) made.2 one.1))
 ])
 
-module _ {S : Type 0} (g : Ghosts S) (may_leave : S → Image → Type 0) (found : Image) where
-  -- no register was opened
-  no_table : (Spares : S → Type 0) (store : Option S) (refusal : OpenRefusal)
-      → IfSome store (λ it. IsCleanStore (g.view it) → RefusesNoTable refusal × Spares it)
-      → (store ≡ None → RefusesNoTable refusal) → IfSome store (λ it. IsCleanStore (g.view it))
-      → RefusesNoTable refusal
-  no_table Spares None refusal spares unopened clean = unopened refl
-  no_table Spares (Some it) refusal spares unopened clean = (spares clean).0
+-- what stands for what was found
+stands_registered : (h : List Request) (found left : Image) → StandsAs found left → HoldsRegister h found
+    → HoldsRegister h left
+stands_registered h found left stands holds = record {
+  version = holds.version;
+  lawful = holds.lawful;
+  db = holds.db;
+  tables_are = holds.tables_are;
+  found = stands.database holds.db.trees holds.found;
+}
 
-  pub opens_refused : (refused : Refused S) → Refuses g may_leave found refused
-      → OpensFile g may_leave found (Err refused)
+module _ {S U : Type 0} (g : Ghosts S) (may_leave : S → Image → Type 0) (may_stay : U → Image → Type 0)
+    (found : Image) where
+  -- no register was opened
+  -- what is said of the files, of those that were opened
+  of_shut : (Says : (Image → Type 0) → Type 0) (files : RefusedFiles S U) (store : S) → files ≡ Shut store
+      → (IsCleanStore (g.view store) → Says (may_leave store)) → OfLeft g may_leave may_stay files Says
+  of_shut Says files store is said = subst (λ (f : RefusedFiles S U). OfLeft g may_leave may_stay f Says) (sym is) said
+
+  cause_shut : (Says : (Image → Type 0) → Type 0) (files : RefusedFiles S U) (store : S) → files ≡ Shut store
+      → (IsCleanStore (g.view store) → Says (may_leave store)) → OfSound g may_leave files Says
+  cause_shut Says files store is said = subst (λ (f : RefusedFiles S U). OfSound g may_leave f Says) (sym is) said
+
+  no_table : (h : List Request) (files : RefusedFiles S U) (refusal : OpenRefusal)
+      → OfLeft g may_leave may_stay files (SparesRegister h refusal)
+      → ((failed : U) → files ≡ Failed failed → RefusesNoTable refusal) → IsSound g files → RefusesNoTable refusal
+  no_table h (Failed it) refusal spares unopened clean = unopened it refl
+  no_table h (Shut it) refusal spares unopened clean = (spares clean).0
+
+  pub opens_refused : (refused : Refused S U) → Refuses g may_leave may_stay found refused
+      → OpensFile g may_leave may_stay found (Err refused)
   opens_refused refused refuses = record {
-    stands = λ h lawful holds. no_table (λ it. LeavesInFiles h h (may_leave it)) refused.store refused.refusal
-        (refuses.spares h lawful holds) refuses.unopened;
+    stands = λ h lawful holds. no_table h refused.files refused.refusal (refuses.spares h lawful holds) refuses.unopened;
     whole = tt;
     nothing = λ nothing. tt;
     refuses = refuses;
   }
 
-  pub opens_none : (P : Refused S → Type 0) (result : Result (Desk S g) (Refused S)) → IsErrAnd result P
-      → ((refused : Refused S) → P refused → Refuses g may_leave found refused) → OpensFile g may_leave found result
+  pub opens_none : (P : Refused S U → Type 0) (result : Result (Desk S g) (Refused S U)) → IsErrAnd result P
+      → ((refused : Refused S U) → P refused → Refuses g may_leave may_stay found refused) → OpensFile g may_leave may_stay found result
   opens_none P (Ok desk) is refuses = absurd is
   opens_none P (Err refused) is refuses = opens_refused refused (refuses refused is)
 
   -- no register was made
-  pub made_none : (P : Refused S → Type 0) (result : Result (Closed S) (Refused S)) → IsErrAnd result P
-      → ((refused : Refused S) → P refused → RefusesMaking g may_leave found refused)
-      → MakesRegister g may_leave found result
+  pub made_none : (P : Refused S U → Type 0) (result : Result (Closed S) (Refused S U)) → IsErrAnd result P
+      → ((refused : Refused S U) → P refused → RefusesMaking g may_leave may_stay found refused)
+      → MakesRegister g may_leave may_stay found result
   made_none P (Ok files) is refuses = absurd is
   made_none P (Err refused) is refuses = record {
     leaves = λ none. tt;
@@ -110,26 +130,42 @@ module _ {S : Type 0} (g : Ghosts S) (may_leave : S → Image → Type 0) (found
   }
 
   -- files that were not opened at all
-  pub refuses_closed : (refusal : OpenRefusal) (refused : Refused S)
-      → refused ≡ record { refusal = refusal; store = None } → RefusesNoTable refusal
-      → Refuses g may_leave found refused
-  refuses_closed refusal refused is none = subst (Refuses g may_leave found) (sym is)
-      (record { cause = tt; spares = λ h lawful holds. tt; nothing = λ nothing. tt; unopened = λ same. none })
+  module _ (failed : U) (stands : (left : Image) → may_stay failed left → ∥ StandsAs found left ∥₁) where
+    leaves_register : (h : List Request) → HoldsRegister h found → LeavesInFiles h h (may_stay failed)
+    leaves_register h holds left kept =
+        ∥∥₁_map (stands left kept) (λ as_found. inl (stands_registered h found left as_found holds))
 
-  pub opens_closed : (refusal : OpenRefusal) (result : Result (Desk S g) (Refused S))
-      → IsErrAnd result (λ refused. refused ≡ record { refusal = refusal; store = None }) → RefusesNoTable refusal
-      → OpensFile g may_leave found result
-  opens_closed refusal result is none =
-      opens_none (λ refused. refused ≡ record { refusal = refusal; store = None }) result is
-      (λ refused same. refuses_closed refusal refused same none)
+    leaves_nothing : HoldsNothing found → LeavesNothing (may_stay failed)
+    leaves_nothing none left kept = ∥∥₁_map (stands left kept) (λ as_found. as_found.nothing none)
 
-  pub made_closed : (refusal : OpenRefusal) (result : Result (Closed S) (Refused S))
-      → IsErrAnd result (λ refused. refused ≡ record { refusal = refusal; store = None }) → RefusesNoTable refusal
-      → MakesRegister g may_leave found result
-  made_closed refusal result is none =
-      made_none (λ refused. refused ≡ record { refusal = refusal; store = None }) result is
-      (λ refused same. subst (RefusesMaking g may_leave found) (sym same)
-      (record { cause = tt; spares = λ h holds. tt; nothing = λ nothing. tt; unopened = λ closed. none }))
+    leaves_no_request : HoldsNothing found → LeavesNoRequest (may_stay failed)
+    leaves_no_request none left kept = ∥∥₁_map (stands left kept) (λ as_found. inl (as_found.nothing none))
+
+    module _ (refusal : OpenRefusal) (none : RefusesNoTable refusal) where
+      abbrev IsRefusal : Refused S U → Type 0
+      IsRefusal refused = refused ≡ record { refusal = refusal; files = Failed failed }
+
+      refuses_closed : (refused : Refused S U) → IsRefusal refused → Refuses g may_leave may_stay found refused
+      refuses_closed refused is = subst (Refuses g may_leave may_stay found) (sym is) (record {
+        cause = tt;
+        spares = λ h lawful holds. (none, leaves_register h holds);
+        nothing = leaves_nothing;
+        unopened = λ it same. none;
+      })
+
+      pub opens_closed : (result : Result (Desk S g) (Refused S U)) → IsErrAnd result IsRefusal
+          → OpensFile g may_leave may_stay found result
+      opens_closed result is = opens_none IsRefusal result is refuses_closed
+
+      pub made_closed : (result : Result (Closed S) (Refused S U)) → IsErrAnd result IsRefusal
+          → MakesRegister g may_leave may_stay found result
+      made_closed result is =
+          made_none IsRefusal result is (λ refused same. subst (RefusesMaking g may_leave may_stay found) (sym same) (record {
+            cause = tt;
+            spares = leaves_register;
+            nothing = leaves_no_request;
+            unopened = λ it other. none;
+          }))
 
   module _ (opens_again : (it : S) → IsTrue (g.view it).is_numbered → AreDatabases (g.recovers it) → (left : Image)
       → may_leave it left → ∥ ((db : Trees) × (g.recovers it db) × HoldsDatabase left db) ∥₁)
@@ -213,22 +249,22 @@ module _ {S : Type 0} (g : Ghosts S) (may_leave : S → Image → Type 0) (found
         left_as_registered it closes clean h lawful holds,
       )
 
-      pub refuses_opened : (unopened : Unopened S) (refused : Refused S) → GivesBack g unopened refused
-          → unopened.refusal ≡ refusal → unopened.connection ≡ new → Refuses g may_leave found refused
+      pub refuses_opened : (unopened : Unopened S) (refused : Refused S U) → GivesBack g unopened refused
+          → unopened.refusal ≡ refusal → unopened.connection ≡ new → Refuses g may_leave may_stay found refused
       refuses_opened unopened refused gives was is =
           let closes = subst (λ (k : Held S). ClosesAs g k gives.store) is gives.closes in
           let same = gives.same ∙ was in
           record {
-            cause = of_some (λ it. IsCleanStore (g.view it) → RefusesFiles g found refused.refusal (may_leave it))
-                refused.store gives.store gives.back (refuses_files gives.store closes refused.refusal same);
-            spares = λ h lawful holds. of_some (λ it. IsCleanStore (g.view it)
-                → SparesRegister h refused.refusal (may_leave it)) refused.store gives.store gives.back
+            cause = cause_shut (RefusesFiles g found refused.refusal)
+                refused.files gives.store gives.back (refuses_files gives.store closes refused.refusal same);
+            spares = λ h lawful holds. of_shut (SparesRegister h refused.refusal)
+                refused.files gives.store gives.back
                 (spares_register gives.store closes refused.refusal same h lawful holds);
-            nothing = λ none. of_some (λ it. IsCleanStore (g.view it) → LeavesNothing (may_leave it))
-                refused.store gives.store gives.back (λ clean. nothing_left refusal found (state g old)
+            nothing = λ none. of_shut (LeavesNothing)
+                refused.files gives.store gives.back (λ clean. nothing_left refusal found (state g old)
                 (may_leave gives.store) (shown gives.store closes clean) none
                 (left_behind gives.store closes clean refusal after));
-            unopened = λ none. not_none refused.store gives.store gives.back none;
+            unopened = λ failed is. not_failed refused.files gives.store failed gives.back is;
           }
 
     -- a making that was refused
@@ -264,19 +300,19 @@ module _ {S : Type 0} (g : Ghosts S) (may_leave : S → Image → Type 0) (found
         leaves = left_as_made it closes clean made;
       }
 
-      pub refuses_making : (unopened : Unopened S) (refused : Refused S) → GivesBack g unopened refused
-          → unopened.refusal ≡ refusal → unopened.connection ≡ new → RefusesMaking g may_leave found refused
+      pub refuses_making : (unopened : Unopened S) (refused : Refused S U) → GivesBack g unopened refused
+          → unopened.refusal ≡ refusal → unopened.connection ≡ new → RefusesMaking g may_leave may_stay found refused
       refuses_making unopened refused gives was is =
           let closes = subst (λ (k : Held S). ClosesAs g k gives.store) is gives.closes in
           record {
-            cause = of_some (λ it. IsCleanStore (g.view it) → RefusesToMake g found refused.refusal (may_leave it))
-                refused.store gives.store gives.back
+            cause = cause_shut (RefusesToMake g found refused.refusal)
+                refused.files gives.store gives.back
                 (refuses_to_make gives.store closes refused.refusal (gives.same ∙ was));
-            spares = λ h holds. of_some (λ it. IsCleanStore (g.view it) → LeavesInFiles h h (may_leave it))
-                refused.store gives.store gives.back (left_as_held gives.store closes h holds);
-            nothing = λ none. of_some (λ it. IsCleanStore (g.view it) → LeavesNoRequest (may_leave it))
-                refused.store gives.store gives.back (λ clean. none_or_made found (state g old)
+            spares = λ h holds. of_shut (LeavesInFiles h h)
+                refused.files gives.store gives.back (left_as_held gives.store closes h holds);
+            nothing = λ none. of_shut (LeavesNoRequest)
+                refused.files gives.store gives.back (λ clean. none_or_made found (state g old)
                 (may_leave gives.store) (shown gives.store closes clean) none
                 (left_as_made gives.store closes clean made));
-            unopened = λ none. not_none refused.store gives.store gives.back none;
+            unopened = λ failed is. not_failed refused.files gives.store failed gives.back is;
           }

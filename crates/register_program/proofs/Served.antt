@@ -1,6 +1,8 @@
 -- Exchanges that were served one after the other.
-use Rattle.std.proofs.Common.{◌≡◌, ◌≢◌, inl, inr, ◌+◌, ◌≤◌, ◌++◌, ℕ, List, [], ◌∷◌, length, Option, sym, ap, subst}
-use Rattle.std.proofs.Common.{◌∙◌, arith, refl, true, false, length-append, IfSome}
+use Rattle.std.proofs.Common.{◌≡◌, ◌≢◌, inl, inr, ◌+◌, ◌≤◌, ◌++◌, ℕ, List, [], ◌∷◌, length, Option, None, Some, sym, ap, subst}
+use Rattle.std.proofs.Common.{◌∙◌, arith, refl, true, false, length-append, IfSome, Result, Ok, Err}
+use Rattle.std.specs.Prelude.{MatchResult, String}
+use Rattle.std.specs.declared.alloc.Global.{Global}
 use Rattle.std.proofs.lemmas.List.{append-nil, take_all}
 use Rattle.std.proofs.Math.Logic.{∥∥₁_map}
 use Rattle.sqlite.specs.Recovery.{Image}
@@ -12,14 +14,23 @@ use Rattle.register_requests.specs.Request.{IsRequest}
 use Rattle.register_core.proofs.Lawful.{all_more}
 use Rattle.register_desk.specs.declared.desk.Desk.{Desk}
 use Rattle.register_desk.specs.declared.end.End.TheVariants.{Memory, Store, Broken, ReadFault, WriteFault, BadHeader}
+use Rattle.register_desk.specs.declared.end.End.{End}
 use Rattle.register_desk.specs.declared.runs.Finish.{Finish}
+use Rattle.register_desk.specs.declared.runs.Outcome.{Outcome}
 use Rattle.register_desk.specs.declared.runs.Finish.TheVariants.{AtEnd, Ended}
-use Rattle.register_desk.specs.Desk.{IsClean, IsWhole, LeavesEither}
+use Rattle.register_desk.specs.Desk.{GoesOn, IsClean, IsWhole, LeavesEither}
 use Rattle.register_desk.specs.DatabaseFiles.{HoldsOneOf, HoldsRegister}
-use Rattle.register_desk.specs.Lives.{AreInRange, IsLife, Life, MayApplyOneMore, after, life_of}
+use Rattle.register_desk.specs.Lives.{AreInRange, Life, after, applied, life_of}
 use Rattle.register_desk.specs.Register.{StandsFor}
 use Rattle.register_desk.proofs.Found.{leaves_alone}
+use Rattle.http_messages.specs.declared.asked.AskFault.{AskFault}
+use Rattle.http_messages.specs.declared.asked.AskFault.TheVariants as fault
+use Rattle.http_messages.specs.declared.asked.Asked.{Asked}
+use Rattle.register_http.specs.Action.{StopsBy}
+use Rattle.register_http.specs.Exchange.{EndsAs, Exchanges, ServesAsked}
 use Rattle.register_http.specs.OneItem.{LeavesOne}
+use Rattle.register_desk.specs.Run.{LeavesDesk}
+use Rattle.register_desk.proofs.Goings.{goes_then, leaves_going, leaves_stopped, still}
 use Rattle.register_program.specs.ServedExchanges.{EndsServing, ExplainsEnd, LeavesSome}
 use Rattle.register_program.specs.declared.attendance.Attendance.{Attendance}
 use Rattle.register_program.specs.Within.ServedExchanges.{StandsForSome, may_serve_on}
@@ -127,40 +138,100 @@ explains_end (Ended ReadFault) exchanges attendance ends some = absurd (cc)
 explains_end (Ended WriteFault) exchanges attendance ends some = absurd (cc)
 explains_end (Ended BadHeader) exchanges attendance ends some = absurd (cc)
 
--- of the items that were applied no more were
-may_apply_none : (end : Finish) → EndsServing end → MayApplyOneMore end false
-may_apply_none (AtEnd rest) ends = refl
-may_apply_none (Ended Memory) ends = absurd ends
-may_apply_none (Ended Store) ends = tt
-may_apply_none (Ended Broken) ends = refl
-may_apply_none (Ended ReadFault) ends = refl
-may_apply_none (Ended WriteFault) ends = absurd ends
-may_apply_none (Ended BadHeader) ends = absurd ends
-
 first_in_range : (items next : List (Option Request)) → AreInRange (items ++ next) → AreInRange items
 first_in_range [] next all = tt
 first_in_range (item ∷ items) next all = (all.0, first_in_range items next all.1)
 
--- the life over all of these items
-life_over : (h : List Request) (end : Finish) (items : List (Option Request)) → AreInRange items → EndsServing end
-    → (left : Image) → HoldsRegister (history h items) left
-    → (life : Life) × IsLife end life.replies life × HoldsRegister (after h life) left
-life_over h end items in_range ends left holds = (
+-- a life in which all of some items were applied, and after which the register is left
+pub record ServedAll (h : List Request) (left : Image) (life : Life) : Type 0 where
+  pub in_range : AreInRange life.items
+  pub enough : applied life ≤ length life.items
+  pub holds : HoldsRegister (after h life) left
+
+life_over : (h : List Request) (items : List (Option Request)) → AreInRange items → (left : Image)
+    → HoldsRegister (history h items) left → (life : Life) × ServedAll h left life
+life_over h items in_range left holds = (
   life_of items (length items) false,
   record {
     in_range = in_range;
-    replies_are = refl;
-    one_more_is = may_apply_none end ends;
     enough = omega arith;
+    holds = subst (λ (taken : List (Option Request)). HoldsRegister (history h taken) left)
+        (sym (take_all (length items + 0) items (omega arith))) holds;
   },
-  subst (λ (taken : List (Option Request)). HoldsRegister (history h taken) left)
-      (sym (take_all (length items + 0) items (omega arith))) holds,
 )
 
-pub served_leads : (h : List Request) (end : Finish) (items next : List (Option Request)) → AreInRange (items ++ next)
-    → EndsServing end → (left : Image) → HoldsOneOf (history h items) (history h (items ++ next)) left
-    → ∥ ((life : Life) × IsLife end life.replies life × HoldsRegister (after h life) left) ∥₁
-served_leads h end items next in_range ends left holds = ∥∥₁_map holds (λ one. elim one [
-  | inl here ↦ life_over h end items (first_in_range items next in_range) ends left here
-  | inr there ↦ life_over h end (items ++ next) in_range ends left there
+-- some items were served, and perhaps the next
+pub served_life : (h : List Request) (items next : List (Option Request)) → AreInRange (items ++ next) → (left : Image)
+    → HoldsOneOf (history h items) (history h (items ++ next)) left → ∥ ((life : Life) × ServedAll h left life) ∥₁
+served_life h items next in_range left holds = ∥∥₁_map holds (λ one. elim one [
+  | inl here ↦ life_over h items (first_in_range items next in_range) left here
+  | inr there ↦ life_over h (items ++ next) in_range left there
 ])
+
+-- ---- what is left of the desk
+
+module _ {S : Type 0} (g : Ghosts S) (old new : Desk S g) where
+  as_it_was : new ≡ old → GoesOn old new
+  as_it_was same = record { whole = λ whole. subst IsWhole (sym same) whole; broken = λ broken. same }
+
+  -- nothing of the desk's ended it
+  went_on : (end : Finish) → may_serve_on end ≡ true → GoesOn old new → LeavesDesk old new end
+  went_on end on goes = leaves_going g old new end
+      (λ is. let off = sym (ap may_serve_on is) ∙ on in cc) (λ is. let off = sym (ap may_serve_on is) ∙ on in cc) goes
+
+  pub leaves_at_end : GoesOn old new → LeavesDesk old new (AtEnd 0)
+  leaves_at_end = went_on (AtEnd 0) refl
+
+  pub leaves_at_fault : GoesOn old new → LeavesDesk old new (Ended ReadFault)
+  leaves_at_fault = went_on (Ended ReadFault) refl
+
+  stopped_by : (e : End) → StopsBy g old new e → LeavesDesk old new (Ended e)
+  stopped_by Memory goes = went_on (Ended Memory) refl goes
+  stopped_by Store ends = leaves_stopped g old old new Store (still g old) ends
+  stopped_by Broken ends = leaves_stopped g old old new Broken (still g old) ends
+  stopped_by ReadFault ends = absurd ends
+  stopped_by WriteFault ends = absurd ends
+  stopped_by BadHeader ends = absurd ends
+
+  left_by : (end other : Finish) → end ≡ other → LeavesDesk old new other → LeavesDesk old new end
+  left_by end other is leaves = subst (LeavesDesk old new) (sym is) leaves
+
+  left_served : (result : Result (String Global) End) (end : Finish) (replies : ℕ)
+      → MatchResult result (λ _. GoesOn old new) (StopsBy g old new) → EndsAs result end replies → LeavesDesk old new end
+  left_served (Ok text) end replies goes (inl is) = left_by end (AtEnd 0) is.0 (leaves_at_end goes)
+  left_served (Ok text) end replies goes (inr is) =
+      left_by end (Ended WriteFault) is.0 (went_on (Ended WriteFault) refl goes)
+  left_served (Err e) end replies ends is = left_by end (Ended e) is (stopped_by e ends)
+
+  left_asked : (moment : ℕ) (asked : Result (Option Asked) AskFault) (before after : Option (List ℕ))
+      (outcome : Outcome) → ServesAsked g moment asked old new before after outcome → LeavesDesk old new outcome.end
+  left_asked moment (Ok (Some asked)) before after outcome served =
+      left_served served.result outcome.end outcome.replies served.acts.ends served.ends
+  left_asked moment (Ok None) before after outcome served =
+      left_by outcome.end (AtEnd 0) served.0.ends (leaves_at_end (as_it_was served.0.same))
+  left_asked moment (Err fault.Memory) before after outcome served =
+      left_by outcome.end (Ended Memory) served.ends (went_on (Ended Memory) refl (as_it_was served.same))
+  left_asked moment (Err fault.ReadFault) before after outcome served =
+      left_by outcome.end (Ended ReadFault) served.0.ends (leaves_at_fault (as_it_was served.0.same))
+
+  pub left_exchange : (moment : ℕ) (input before after : Option (List ℕ)) (outcome : Outcome)
+      → Exchanges g moment input old new before after outcome → LeavesDesk old new outcome.end
+  left_exchange moment input before after outcome it = left_asked moment it.asked before after outcome it.serves
+
+-- one exchange after others
+pub goes_on_by : {S : Type 0} (g : Ghosts S) (old mid new : Desk S g) (end : Finish) → GoesOn old mid
+    → LeavesDesk mid new end → end ≢ Ended Store → GoesOn old new
+goes_on_by g old mid new end goes leaves sound =
+    goes_then g old mid new goes (record { whole = λ whole. leaves.whole whole sound; broken = leaves.broken })
+
+-- of which it is the last
+pub leaves_by : {S : Type 0} (g : Ghosts S) (old mid new : Desk S g) (end : Finish) → GoesOn old mid
+    → LeavesDesk mid new end → may_serve_on end ≡ false → LeavesDesk old new end
+leaves_by g old mid new (Ended Store) goes leaves off = leaves_stopped g old mid new Store goes (leaves.store refl)
+leaves_by g old mid new (Ended Broken) goes leaves off =
+    let broken = leaves.was_broken refl in leaves_stopped g old mid new Broken goes (broken, leaves.broken broken)
+leaves_by g old mid new (AtEnd rest) goes leaves off = absurd (cc)
+leaves_by g old mid new (Ended Memory) goes leaves off = absurd (cc)
+leaves_by g old mid new (Ended ReadFault) goes leaves off = absurd (cc)
+leaves_by g old mid new (Ended WriteFault) goes leaves off = absurd (cc)
+leaves_by g old mid new (Ended BadHeader) goes leaves off = absurd (cc)

@@ -1,5 +1,5 @@
 -- What closing the files of a store leaves in them.
-use Rattle.std.specs.Prelude.{◌≡◌, ◌⊎◌, true, [], IsTrue}
+use Rattle.std.specs.Prelude.{◌≡◌, ◌⊎◌, true, false, [], IsTrue}
 use Rattle.sqlite_trees.specs.declared.store.Store.{Ghosts}
 use Rattle.sqlite_trees.specs.View.{IsClean as IsCleanStore}
 use Rattle.sqlite.specs.Files.{HoldsDatabase}
@@ -7,6 +7,7 @@ use Rattle.sqlite.specs.Held.{AreDatabases}
 use Rattle.sqlite.specs.Recovery.{Image}
 use Rattle.sqlite.specs.Tree.{Trees}
 use Rattle.register_desk.specs.declared.desk.Desk.{Desk}
+use Rattle.register_desk.specs.DatabaseFiles.{HoldsNothing}
 use Rattle.register_desk.specs.Desk.{connection_of}
 use Rattle.register_program.specs.declared.files.Closed.{Closed}
 use Rattle.register_program.specs.declared.files.LogCopy.TheVariants.{Copied, Broken}
@@ -15,6 +16,11 @@ use Rattle.register_program.specs.Life.{ClosesAs}
 -- the database file of these two alone, with no log beside it
 abbrev pub alone : Image → Image
 alone whole = record whole { log = [] }
+
+-- what is left stands for what was found
+pub record StandsAs (found left : Image) : Type 0 where
+  pub database : (db : Trees) → HoldsDatabase found db → HoldsDatabase left db
+  pub nothing : HoldsNothing found → HoldsNothing left
 
 module _ {S : Type 0} (g : Ghosts S) (may_leave : S → Image → Type 0) where
   -- What may be found in files that were closed: what a stop leaves of them, from when their log was copied on, and, once
@@ -31,10 +37,11 @@ module _ {S : Type 0} (g : Ghosts S) (may_leave : S → Image → Type 0) where
   HoldsStored store left = ∥ ((db : Trees) × (g.recovers store db) × HoldsDatabase left db) ∥₁
 
   -- The files of a store were closed: what may be found in them is a database that it could come back as. A copy of the
-  -- log that is told as broken shut the store.
+  -- log that is told as broken shut the store, which was not broken before.
   pub record ClosesFiles (store : S) (closed : Closed S) : Type 0 where
     pub clean : IsCleanStore (g.view closed.store) → IsCleanStore (g.view store)
-    pub shut : closed.log ≡ Broken → IsCleanStore (g.view closed.store) → (g.view closed.store).is_broken ≡ true
+    pub shut : closed.log ≡ Broken → IsCleanStore (g.view closed.store)
+        → ((g.view store).is_broken ≡ false) × ((g.view closed.store).is_broken ≡ true)
     pub leaves : IsCleanStore (g.view closed.store) → IsTrue (g.view store).is_numbered
         → AreDatabases (g.recovers store)
         → (left : Image) → LeftIn closed left → HoldsStored store left

@@ -25,31 +25,32 @@ use Rattle.register_program.specs.declared.register_file.Life.{Life}
 use Rattle.register_program.specs.declared.register_file.Refused.{Refused}
 use Rattle.register_words.specs.declared.values.Terms.{Terms}
 use Rattle.register_program.specs.Closing.{OfClosed}
-use Rattle.register_program.specs.Life.{EndsUnbegun, LeadsOnServed, LeadsOnTo, LeavesInFiles, LeavesMadeIn, LivesOver}
+use Rattle.register_program.specs.Life.{EndsUnbegun, LeavesInFiles, LeavesMadeIn, LivesOver}
 use Rattle.register_program.specs.Life.{LivesSome, Refuses, RefusesMaking, ServesInFiles, WritesOut}
 use Rattle.register_program.specs.Opening.{OpensRegister}
 use Rattle.register_program.specs.ServedExchanges.{EndsServing}
 use Rattle.register_report.specs.ImportRows.{BeginsWithHeader, HasRowItems}
 
-module _ {S : Type 0} (g : Ghosts S) (may_leave : S → Image → Type 0) (found : Image) where
+module _ {S U : Type 0} (g : Ghosts S) (may_leave : S → Image → Type 0) (may_stay : U → Image → Type 0)
+    (found : Image) where
   -- the call came to a life, of which this is said, of its desk, and of what may be left in its files
-  abbrev pub OnLife : Result (Life S) (Refused S) → (Life S → Desk S g → (Image → Type 0) → Type 0) → Type 0
+  abbrev pub OnLife : Result (Life S) (Refused S U) → (Life S → Desk S g → (Image → Type 0) → Type 0) → Type 0
   OnLife result said =
       IfOk result (λ life. IsCleanStore (g.view life.files.store) → OfClosed g may_leave life.files (said life))
 
-  pub record OpensFile (result : Result (Desk S g) (Refused S)) : Type 0 where
+  pub record OpensFile (result : Result (Desk S g) (Refused S U)) : Type 0 where
     -- The desk stands for the history whose register the files hold.
     pub stands : OpensRegister g found result
     pub whole : IfOk result IsWhole
     -- Files that hold nothing have no register to open.
     pub nothing : HoldsNothing found → IfOk result (λ desk. IsClean g desk → ⊥)
     -- A refusal has its cause in what the files hold, and a stop leaves what they held.
-    pub refuses : IfErr result (Refuses g may_leave found)
+    pub refuses : IfErr result (Refuses g may_leave may_stay found)
 
   -- so it is with each call that opens the register first
-  pub record OpensFirst (result : Result (Life S) (Refused S)) : Type 0 where
+  pub record OpensFirst (result : Result (Life S) (Refused S U)) : Type 0 where
     pub nothing : HoldsNothing found → IfOk result (λ life. IsCleanStore (g.view life.files.store) → ⊥)
-    pub refuses : IfErr result (Refuses g may_leave found)
+    pub refuses : IfErr result (Refuses g may_leave may_stay found)
 
   -- An opened connection to the files showed none of a register's tables. Whatever a stop leaves in them holds that
   -- database with an empty register made in it, beside what was there.
@@ -59,7 +60,7 @@ module _ {S : Type 0} (g : Ghosts S) (may_leave : S → Image → Type 0) (found
     pub none : ShowsTable (state g old) → ⊥
     pub leaves : OfClosed g may_leave files (λ desk. LeavesMadeIn (state g old))
 
-  pub record MakesRegister (result : Result (Closed S) (Refused S)) : Type 0 where
+  pub record MakesRegister (result : Result (Closed S) (Refused S U)) : Type 0 where
     -- Where the files held nothing, whatever a stop leaves in them holds the register of no request.
     pub leaves : HoldsNothing found → IfOk result (λ files. IsCleanStore (g.view files.store)
         → OfClosed g may_leave files (λ desk. LeavesInFiles [] []))
@@ -70,23 +71,20 @@ module _ {S : Type 0} (g : Ghosts S) (may_leave : S → Image → Type 0) (found
         → IfOk result (λ files. IsCleanStore (g.view files.store) → ⊥)
     -- A table of a register that is there is the one reason to refuse a database, and is as it was; and so is the
     -- register that the files hold.
-    pub refuses : IfErr result (RefusesMaking g may_leave found)
+    pub refuses : IfErr result (RefusesMaking g may_leave may_stay found)
 
   -- whatever the reader tells of its bytes, and standard input tells none
-  pub record LivesAnyway (old new : Option (List ℕ)) (result : Result (Life S) (Refused S)) : Type 0 where
+  pub record LivesAnyway (old new : Option (List ℕ)) (result : Result (Life S) (Refused S U)) : Type 0 where
     -- There are items that it was a run over.
     pub some : (h : List Request) → IsLawful h → HoldsRegister h found
         → OnLife result (λ life. LivesSome g h life.outcome old new)
-    -- Whatever a stop leaves in the files holds the register after a life of as many items as were answered, or one
-    -- more.
-    pub leads : OnLife result (λ life desk. LeadsOnTo found life.outcome)
     -- Where it ends for want of a header row, nothing was written.
     pub unbegun : IfOk result (λ life. life.outcome.end ≡ Ended BadHeader → (new ≡ old) × (life.outcome.replies ≡ 0))
     pub opens : OpensFirst result
 
   -- of request lines
   pub record RunsLines (input : Option (List ℕ)) (old new : Option (List ℕ))
-      (result : Result (Life S) (Refused S)) : Type 0 where
+      (result : Result (Life S) (Refused S U)) : Type 0 where
     -- Where the files held the register of a history, what is written is the lines of the answers, and whatever a stop
     -- leaves in the files holds the register of the items that were answered, or of one more.
     pub lives : (h : List Request) (bytes : List ℕ) (items : List (Option Request)) (rest : List ℕ)
@@ -96,7 +94,7 @@ module _ {S : Type 0} (g : Ghosts S) (may_leave : S → Image → Type 0) (found
 
   -- of the rows of a table, on these terms
   pub record ImportsRows (terms : Terms) (input : Option (List ℕ)) (old new : Option (List ℕ))
-      (result : Result (Life S) (Refused S)) : Type 0 where
+      (result : Result (Life S) (Refused S U)) : Type 0 where
     -- Where the files held the register of a history, it is a run over the items of the rows after the header row.
     pub lives : (h : List Request) (bytes : List ℕ) (items : List (Option Request))
         → IsLawful h → HoldsRegister h found → input ≡ Some bytes
@@ -108,14 +106,14 @@ module _ {S : Type 0} (g : Ghosts S) (may_leave : S → Image → Type 0) (found
         → OnLife result (λ life desk. EndsUnbegun h life.outcome old new)
     pub anyway : LivesAnyway old new result
 
-  pub record Exports (old new : Option (List ℕ)) (result : Result (Life S) (Refused S)) : Type 0 where
+  pub record Exports (old new : Option (List ℕ)) (result : Result (Life S) (Refused S U)) : Type 0 where
     -- Where the files held the register of a history, its export is written, and they hold it still.
     pub lives : (h : List Request) → IsLawful h → HoldsRegister h found
         → OnLife result (λ life desk. WritesOut h (export_text (all_rows h)) life.outcome old new)
     pub opens : OpensFirst result
 
   -- for this number of days
-  pub record Reports (days : ℕ) (old new : Option (List ℕ)) (result : Result (Life S) (Refused S)) : Type 0 where
+  pub record Reports (days : ℕ) (old new : Option (List ℕ)) (result : Result (Life S) (Refused S U)) : Type 0 where
     -- The files hold the register that they held.
     pub keeps : (h : List Request) → IsLawful h → HoldsRegister h found
         → OnLife result (λ life desk. LeavesInFiles h h)
@@ -127,13 +125,11 @@ module _ {S : Type 0} (g : Ghosts S) (may_leave : S → Image → Type 0) (found
     pub opens : OpensFirst result
 
   -- of so many exchanges at most
-  pub record ServesExchanges (most : ℕ) (result : Result (Life S) (Refused S)) : Type 0 where
+  pub record ServesExchanges (most : ℕ) (result : Result (Life S) (Refused S U)) : Type 0 where
     -- Where the files held the register of a history, whatever a stop leaves in them holds that of at most one item
     -- more for each exchange.
     pub lives : (h : List Request) → IsLawful h → HoldsRegister h found
         → OnLife result (λ life desk. ServesInFiles h most)
-    -- and after a life of as many items as were applied
-    pub leads : OnLife result (λ life desk. LeadsOnServed found life.outcome)
     -- how it ended
     pub ends : IfOk result (λ life. EndsServing life.outcome.end)
     pub opens : OpensFirst result

@@ -1,6 +1,6 @@
 -- A life of a register in files: it is opened, something is done over it, and it may be stopped.
-use Rattle.std.specs.Prelude.{◌≡◌, ◌≢◌, ◌⊎◌, ◌+◌, ◌≤◌, ◌++◌, ℕ, List, [], length, take, Option, None, Some}
-use Rattle.std.specs.Prelude.{IfSome, IsTrue}
+use Rattle.std.specs.Prelude.{◌≡◌, ◌≢◌, ◌⊎◌, ◌+◌, ◌≤◌, ◌++◌, ℕ, List, [], length, take, Option}
+use Rattle.std.specs.Prelude.{IsTrue}
 use Rattle.sqlite_trees.specs.declared.store.Store.{Ghosts}
 use Rattle.sqlite_trees.specs.View.{IsClean as IsCleanStore}
 use Rattle.sqlite.specs.Files.{AreFoundIn, HoldsDatabase}
@@ -18,11 +18,13 @@ use Rattle.register_desk.specs.declared.opening.Unopened.{Unopened}
 use Rattle.register_desk.specs.declared.runs.Finish.{Finish}
 use Rattle.register_desk.specs.declared.runs.Finish.TheVariants.{Ended}
 use Rattle.register_desk.specs.declared.runs.Outcome.{Outcome}
-use Rattle.register_desk.specs.DatabaseFiles.{HoldsLife, HoldsNothing, HoldsOneOf, HoldsRegister, LeadsOn, ShowsFiles}
+use Rattle.register_desk.specs.DatabaseFiles.{HoldsLife, HoldsNothing, HoldsOneOf, HoldsRegister, ShowsFiles}
 use Rattle.register_desk.specs.OpenRefusal.{IsMadeIn, IsTakenIn, IsReasonOf, RefusesNoTable, ShowsTable}
 use Rattle.register_desk.specs.Lives.{AreInRange}
 use Rattle.register_desk.specs.Run.{RunsOver}
 use Rattle.register_program.specs.declared.register_file.Refused.{Refused}
+use Rattle.register_program.specs.declared.register_file.RefusedFiles.{RefusedFiles}
+use Rattle.register_program.specs.declared.register_file.RefusedFiles.TheVariants.{Failed, Shut}
 use Rattle.register_report.specs.Import.{EndsWithoutHeader}
 use Rattle.register_report.specs.TextWriter.{WritesText}
 
@@ -80,10 +82,10 @@ pub record ClosesAs {S : Type 0} (g : Ghosts S) (connection : Held S) (store : S
 -- ---- refusals
 
 -- what is given back of a connection that did not become a desk
-pub record GivesBack {S : Type 0} (g : Ghosts S) (unopened : Unopened S) (refused : Refused S) : Type 0 where
+pub record GivesBack {S U : Type 0} (g : Ghosts S) (unopened : Unopened S) (refused : Refused S U) : Type 0 where
   pub same : refused.refusal ≡ unopened.refusal
   pub store : S
-  pub back : refused.store ≡ Some store
+  pub back : refused.files ≡ Shut store
   pub closes : ClosesAs g unopened.connection store
 
 -- no table is to blame, and a stop leaves the register as it was
@@ -115,28 +117,36 @@ module _ {S : Type 0} (g : Ghosts S) (found : Image) where
     pub leaves : (left : Image) → may_leave left
         → ∥ ((db : Trees) × HoldsDatabase left db × IsCommittedOrMade (state g old) db) ∥₁
 
-module _ {S : Type 0} (g : Ghosts S) (may_leave : S → Image → Type 0) (found : Image) where
-  -- this is said of the files that were left, if any were and they are sound
-  abbrev pub OfSound : Option S → ((Image → Type 0) → Type 0) → Type 0
-  OfSound left Says = IfSome left (λ store. IsCleanStore (g.view store) → Says (may_leave store))
+-- this is said of files that were opened, if they are sound
+abbrev pub OfSound : {S U : Type 0} → Ghosts S → (S → Image → Type 0) → RefusedFiles S U → ((Image → Type 0) → Type 0) → Type 0
+OfSound g may_leave (Failed it) Says = Unit {0}
+OfSound g may_leave (Shut store) Says = IsCleanStore (g.view store) → Says (may_leave store)
 
+module _ {S U : Type 0} (g : Ghosts S) (may_leave : S → Image → Type 0) (may_stay : U → Image → Type 0) where
+  -- the same, and of files that could not be opened
+  abbrev pub OfLeft : RefusedFiles S U → ((Image → Type 0) → Type 0) → Type 0
+  OfLeft (Failed it) Says = Says (may_stay it)
+  OfLeft (Shut store) Says = IsCleanStore (g.view store) → Says (may_leave store)
+
+module _ {S U : Type 0} (g : Ghosts S) (may_leave : S → Image → Type 0) (may_stay : U → Image → Type 0)
+    (found : Image) where
   -- A call that did not open a register. Its refusal has its cause in what the files held, and a stop leaves that, so
   -- nothing where they held nothing. The register of a history is not refused for its tables; nor are files that could
   -- not be opened at all.
-  pub record Refuses (refused : Refused S) : Type 0 where
-    pub cause : OfSound refused.store (RefusesFiles g found refused.refusal)
+  pub record Refuses (refused : Refused S U) : Type 0 where
+    pub cause : OfSound g may_leave refused.files (RefusesFiles g found refused.refusal)
     pub spares : (h : List Request) → IsLawful h → HoldsRegister h found
-        → OfSound refused.store (SparesRegister h refused.refusal)
-    pub nothing : HoldsNothing found → OfSound refused.store LeavesNothing
-    pub unopened : refused.store ≡ None → RefusesNoTable refused.refusal
+        → OfLeft g may_leave may_stay refused.files (SparesRegister h refused.refusal)
+    pub nothing : HoldsNothing found → OfLeft g may_leave may_stay refused.files LeavesNothing
+    pub unopened : (failed : U) → refused.files ≡ Failed failed → RefusesNoTable refused.refusal
 
   -- A call that did not make a register. The one that the files hold is left; where they held nothing, nothing is, or
   -- the register of no request.
-  pub record RefusesMaking (refused : Refused S) : Type 0 where
-    pub cause : OfSound refused.store (RefusesToMake g found refused.refusal)
-    pub spares : (h : List Request) → HoldsRegister h found → OfSound refused.store (LeavesInFiles h h)
-    pub nothing : HoldsNothing found → OfSound refused.store LeavesNoRequest
-    pub unopened : refused.store ≡ None → RefusesNoTable refused.refusal
+  pub record RefusesMaking (refused : Refused S U) : Type 0 where
+    pub cause : OfSound g may_leave refused.files (RefusesToMake g found refused.refusal)
+    pub spares : (h : List Request) → HoldsRegister h found → OfLeft g may_leave may_stay refused.files (LeavesInFiles h h)
+    pub nothing : HoldsNothing found → OfLeft g may_leave may_stay refused.files LeavesNoRequest
+    pub unopened : (failed : U) → refused.files ≡ Failed failed → RefusesNoTable refused.refusal
 
 -- ---- lives
 
@@ -162,18 +172,6 @@ pub record LivesSome {S : Type 0} (g : Ghosts S) (h : List Request) (outcome : O
   pub rest : List ℕ
   pub over : outcome.end ≢ Ended BadHeader → RunsOver g h items rest outcome.end outcome.replies old new desk
   pub leaves : LeavesLifeInFiles h items outcome.end outcome.replies may_leave
-
--- so that lives go on one from the other
-abbrev pub LeadsOnTo : Image → Outcome → (Image → Type 0) → Type 0
-LeadsOnTo found outcome may_leave =
-    (left : Image) → may_leave left
-    → LeadsOn found (record { end = outcome.end; replies = Some outcome.replies; left = left })
-
--- the same of a life that counts no replies
-abbrev pub LeadsOnServed : Image → Outcome → (Image → Type 0) → Type 0
-LeadsOnServed found outcome may_leave =
-    (left : Image) → may_leave left
-    → LeadsOn found (record { end = outcome.end; replies = None; left = left })
 
 -- An import without its header row wrote nothing, and whatever a stop leaves in the files holds the register as it was.
 pub record EndsUnbegun (h : List Request) (outcome : Outcome) (old new : Option (List ℕ))

@@ -1,5 +1,5 @@
 -- What an opening of files finds that hold a register.
-use Rattle.std.specs.Prelude.{List, Result, Ok, Err, IfSome}
+use Rattle.std.specs.Prelude.{List, Result, Ok, Err}
 use Rattle.sqlite_trees.specs.declared.store.Store.{Ghosts}
 use Rattle.sqlite_trees.specs.View.{IsClean as IsCleanStore}
 use Rattle.sqlite.specs.Recovery.{Image}
@@ -11,14 +11,21 @@ use Rattle.register_desk.specs.Desk.{IsClean}
 use Rattle.register_desk.specs.OpenRefusal.{RefusesNoTable}
 use Rattle.register_desk.specs.Register.{StandsFor}
 use Rattle.register_program.specs.declared.register_file.Refused.{Refused}
+use Rattle.register_program.specs.declared.register_file.RefusedFiles.{RefusedFiles}
+use Rattle.register_program.specs.declared.register_file.RefusedFiles.TheVariants.{Failed, Shut}
 
-module _ {S : Type 0} (g : Ghosts S) where
+module _ {S U : Type 0} (g : Ghosts S) where
+  -- the files are sound, if they could be opened
+  abbrev pub IsSound : RefusedFiles S U → Type 0
+  IsSound (Failed it) = Unit {0}
+  IsSound (Shut store) = IsCleanStore (g.view store)
+
   -- Where the disk gave back what was written, an opening that succeeds stands for the history, and one that does not
   -- blames no table.
-  abbrev pub OpensAs : List Request → Result (Desk S g) (Refused S) → Type 0
+  abbrev pub OpensAs : List Request → Result (Desk S g) (Refused S U) → Type 0
   OpensAs h (Ok desk) = IsClean g desk → StandsFor g desk h
-  OpensAs h (Err refused) = IfSome refused.store (λ store. IsCleanStore (g.view store)) → RefusesNoTable refused.refusal
+  OpensAs h (Err refused) = IsSound refused.files → RefusesNoTable refused.refusal
 
   -- it is so of the history whose register the files hold
-  abbrev pub OpensRegister : Image → Result (Desk S g) (Refused S) → Type 0
+  abbrev pub OpensRegister : Image → Result (Desk S g) (Refused S U) → Type 0
   OpensRegister found result = (h : List Request) → IsLawful h → HoldsRegister h found → OpensAs h result

@@ -6,8 +6,6 @@ use Rattle.std.specs.Prelude.{Option, None, Some, Ok, Err, IfSome}
 use Rattle.std.specs.Io.KnownBytes.{Appends}
 use Rattle.sqlite_trees.specs.declared.store.Store.{Ghosts}
 use Rattle.sqlite_trees.specs.View.{IsClean as IsCleanStore}
-use Rattle.sqlite_trees.specs.Tree.{Trees}
-use Rattle.sqlite.specs.Files.{HoldsDatabase}
 use Rattle.sqlite.specs.Recovery.{Image}
 use Rattle.register_requests.specs.declared.request.Request.{Request}
 use Rattle.register_core.specs.Fold.{IsLawful, answers}
@@ -18,19 +16,20 @@ use Rattle.register_desk.specs.Lives.{AreInRange, Life, after, after_lives, appl
 use Rattle.register_desk.specs.Run.{IsPrefixOf, answer_lines}
 use Rattle.register_program.specs.declared.files.Closed.{Closed}
 use Rattle.register_program.specs.Closing.{LeftIn}
-use Rattle.register_words.specs.declared.words.Task.{Task}
-use Rattle.register_words.specs.declared.words.Task.TheVariants.{Import, Run, Serve}
+use Rattle.register_words.specs.declared.words.Job.{Job}
+use Rattle.register_words.specs.declared.words.Job.TheVariants.{Import, Run, Serve}
+use Rattle.register_program.specs.declared.register_file.RefusedFiles.{RefusedFiles}
+use Rattle.register_program.specs.declared.register_file.RefusedFiles.TheVariants.{Failed, Shut}
 use Rattle.register_program.specs.declared.acting.Done.{Done}
-use Rattle.register_program.specs.declared.acting.Done.TheVariants.{BadValue, Lived, Made, RanInMemory}
+use Rattle.register_program.specs.declared.acting.Done.TheVariants.{Lived, Made}
 
 -- ---- a run
 
--- A run of the program over the register's files: what these held; what it was asked for, or nothing where its words are
--- none; what it read, what had been written before it and was then; what came of it, where it opened the register; and
--- what it left in the files, or a stop did.
+-- A run of the program over the register's files: what these held; its job; what it read, what had been written before
+-- it and was then; what came of it, where it opened the register; and what it left in the files, or a stop did.
 pub record ProgramRun : Type 0 where
   pub found : Image
-  pub task : Option Task
+  pub job : Job
   pub input : Option (List ℕ)
   pub old : Option (List ℕ)
   pub new : Option (List ℕ)
@@ -55,22 +54,22 @@ pub record Answered (h : List Request) (life : Life) (old new : Option (List ℕ
 abbrev pub no_life : Life
 no_life = life_of [] 0 false
 
--- How a life fits a task that came to this. A run over request lines has the items of its input and as many replies as
--- it counted, and an import some items, as it were their lines; what was served are some items. Any other task applies
+-- How a life fits a job that came to this. A run over request lines has the items of its input and as many replies as
+-- it counted, and an import some items, as it were their lines; what was served are some items. Any other job applies
 -- nothing.
-abbrev pub IsLifeOf : List Request → Option Task → Option Outcome → ProgramRun → Life → Type 0
-IsLifeOf h (Some (Run file)) (Some outcome) run life =
+abbrev pub IsLifeOf : List Request → Job → Option Outcome → ProgramRun → Life → Type 0
+IsLifeOf h Run (Some outcome) run life =
     (life.replies ≡ outcome.replies) × AreItemsOf run.input life.items × Answered h life run.old run.new
-IsLifeOf h (Some (Import file terms)) (Some outcome) run life =
+IsLifeOf h (Import terms) (Some outcome) run life =
     (life.replies ≡ outcome.replies) × Answered h life run.old run.new
-IsLifeOf h (Some (Serve file bounds)) (Some outcome) run life = Unit {0}
-IsLifeOf h task outcome run life = life ≡ no_life
+IsLifeOf h (Serve bounds) (Some outcome) run life = Unit {0}
+IsLifeOf h job outcome run life = life ≡ no_life
 
 -- The run was this life, from the history h.
 pub record WasLife (h : List Request) (run : ProgramRun) (life : Life) : Type 0 where
   pub in_range : AreInRange life.items
   pub enough : applied life ≤ length life.items
-  pub is : IsLifeOf h run.task run.outcome run life
+  pub is : IsLifeOf h run.job run.outcome run life
 
 -- The files hold nothing, where nothing was applied yet, or exactly the register of the history.
 abbrev pub HoldsHistory : List Request → Image → Type 0
@@ -110,24 +109,19 @@ AreFoundAgain =
     (h : List Request) (first left : Image) (runs : List ProgramRun) → IsLawful h → HoldsHistory h first
     → Follow first runs left → ∥ FoundAgain h runs left ∥₁
 
--- ---- what a task leaves in the files
+-- ---- what a job leaves in the files
 
--- What an opening leaves that failed before a connection was there stands for what it found.
-pub record StandsAs (found left : Image) : Type 0 where
-  pub database : (db : Trees) → HoldsDatabase found db → HoldsDatabase left db
-  pub nothing : HoldsNothing found → HoldsNothing left
-
--- what came of a task that opened the register
-abbrev pub outcome_of : {S : Type 0} → Done S → Option Outcome
+-- what came of a job that opened the register
+abbrev pub outcome_of : {S U : Type 0} → Done S U → Option Outcome
 outcome_of (Lived (Ok lived)) = Some lived.outcome
 outcome_of _ = None
 
--- the run of a task that came to this, and left that
-abbrev pub run_of : {S : Type 0} → Image → Task → Option (List ℕ) → Option (List ℕ) → Option (List ℕ) → Done S → Image
+-- the run of a job that came to this, and left that
+abbrev pub run_of : {S U : Type 0} → Image → Job → Option (List ℕ) → Option (List ℕ) → Option (List ℕ) → Done S U → Image
     → ProgramRun
-run_of found task input old new done left = record {
+run_of found job input old new done left = record {
   found = found;
-  task = Some task;
+  job = job;
   input = input;
   old = old;
   new = new;
@@ -135,26 +129,24 @@ run_of found task input old new done left = record {
   left = left;
 }
 
-module _ {S : Type 0} (g : Ghosts S) (may_leave : S → Image → Type 0) where
-  -- in files that were closed, on a disk that gave back what was written
-  abbrev pub LeftByClosed : Closed S → Image → Type 0
-  LeftByClosed closed left = IsCleanStore (g.view closed.store) × LeftIn g may_leave closed left
+-- in files that were closed, on a disk that gave back what was written
+abbrev pub LeftByClosed : {S : Type 0} → Ghosts S → (S → Image → Type 0) → Closed S → Image → Type 0
+LeftByClosed g may_leave closed left = IsCleanStore (g.view closed.store) × LeftIn g may_leave closed left
 
-  -- in files that were refused, on such a disk
-  abbrev pub LeftByRefused : Image → Option S → Image → Type 0
-  LeftByRefused found None left = StandsAs found left
-  LeftByRefused found (Some store) left = IsCleanStore (g.view store) × may_leave store left
+module _ {S U : Type 0} (g : Ghosts S) (may_leave : S → Image → Type 0) (may_stay : U → Image → Type 0) where
+  -- in files that were refused, on such a disk, or could not be opened
+  abbrev pub LeftByRefused : RefusedFiles S U → Image → Type 0
+  LeftByRefused (Failed it) left = may_stay it left
+  LeftByRefused (Shut store) left = IsCleanStore (g.view store) × may_leave store left
 
-  -- By what a task came to, in files that held this: what opens no file leaves them.
-  abbrev pub LeftBy : Image → Done S → Image → Type 0
-  LeftBy found (RanInMemory came) left = left ≡ found
-  LeftBy found (Made (Ok closed)) left = LeftByClosed closed left
-  LeftBy found (Made (Err refused)) left = LeftByRefused found refused.store left
-  LeftBy found (Lived (Ok lived)) left = LeftByClosed lived.files left
-  LeftBy found (Lived (Err refused)) left = LeftByRefused found refused.store left
-  LeftBy found BadValue left = left ≡ found
+  -- by what a job came to
+  abbrev pub LeftBy : Done S U → Image → Type 0
+  LeftBy (Made (Ok closed)) left = LeftByClosed g may_leave closed left
+  LeftBy (Made (Err refused)) left = LeftByRefused refused.files left
+  LeftBy (Lived (Ok lived)) left = LeftByClosed g may_leave lived.files left
+  LeftBy (Lived (Err refused)) left = LeftByRefused refused.files left
 
-  -- The run of a task that came to this leads on, whatever of what it may have left is found.
-  abbrev pub LeadsFrom : Image → Task → Option (List ℕ) → Option (List ℕ) → Option (List ℕ) → Done S → Type 0
-  LeadsFrom found task input old new done =
-      (left : Image) → LeftBy found done left → Leads (run_of found task input old new done left)
+  -- The run of a job that came to this leads on, whatever of what it may have left is found.
+  abbrev pub LeadsFrom : Image → Job → Option (List ℕ) → Option (List ℕ) → Option (List ℕ) → Done S U → Type 0
+  LeadsFrom found job input old new done =
+      (left : Image) → LeftBy done left → Leads (run_of found job input old new done left)

@@ -11,6 +11,7 @@ use Rattle.register_desk.specs.declared.runs.Finish.TheVariants.{AtEnd, Ended}
 use Rattle.register_desk.specs.Desk.{IsClean, IsWhole, LeavesEither}
 use Rattle.register_desk.specs.Register.{StandsFor}
 use Rattle.register_desk.specs.Lives.{AreInRange}
+use Rattle.register_desk.specs.Run.{LeavesDesk}
 
 -- how serving ends: as many exchanges as were asked for came and went, or none may follow, or no connection was
 -- accepted or no moment told
@@ -48,10 +49,12 @@ pub record LeavesSome {S : Type 0} (g : Ghosts S) (h : List Request) (most : ℕ
   pub in_range : AreInRange (items ++ next)
   pub leaves : LeavesEither g (history h items) (history h (items ++ next)) desk
 
--- What serving so many exchanges comes to: what a stop leaves of each history, and how it ended and why.
+-- What serving so many exchanges comes to: what a stop leaves of each history, how it ended and why, and what it leaves of
+-- the desk.
 pub record ServesClients {S : Type 0} (g : Ghosts S) (exchanges : ℕ) (attendance : Attendance) (old new : Desk S g)
     (end : Finish) : Type 0 where
   pub leaves : (h : List Request) → StandsFor g old h → IsWhole old → IsClean g new → LeavesSome g h exchanges new
   pub clean : IsClean g new → IsClean g old
   pub ends : EndsServing end
   pub cause : ExplainsEnd exchanges attendance end
+  pub desk : LeavesDesk old new end

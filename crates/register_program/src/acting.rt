@@ -1,17 +1,21 @@
 //! What the program does, over the streams that it is given.
-ghost use Rattle.std.specs.Prelude.{◌≡◌, false, length};
-ghost use Rattle.register_program.specs.Act.{ActsWithoutWords};
-ghost use Rattle.register_program.specs.Faults.{Tells};
-ghost use Rattle.register_program.specs.Task.{ActsBy, Performs, line_after, status_after};
+ghost use Rattle.std.specs.Prelude.{◌≡◌, ◌≤◌, false, length, Ok, OnOk, IfErr};
+ghost use Rattle.register_program.specs.Act.{ActsInMemory};
+ghost use Rattle.register_program.specs.Alone.{ActsAlone, end_alone};
+ghost use Rattle.register_program.specs.Faults.{Tells, TellsOfWords};
+ghost use Rattle.register_program.specs.Job.{EndsFor, Performs, end_of, line_after, status_after};
+ghost use Rattle.register_program.specs.Sentence.{LeadsFrom};
+ghost use Rattle.register_program.specs.ServedExchanges.{nobody};
 
-use crate::faults::{report_bad_value, report_finish, report_refusal, report_words_error};
+use crate::attendance::Attendance;
+use crate::faults::{report_finish, report_refusal, report_words_error};
 use crate::files::{Closed, Files};
 use crate::network::Network;
 use crate::register_file::{
     Life, Refused, export_file, import_file, init_file, report_file, run_file, serve_file,
 };
-use register_desk::{OpenRefusal, Outcome, Watched, run_in_memory};
-use register_words::{Task, read_days, read_words};
+use register_desk::{Finish, OpenRefusal, Outcome, Watched, run_in_memory};
+use register_words::{Job, Task, read_words};
 use std::alloc::Global;
 use std::io::{Read, Write};
 use std::time::Clock;
@@ -23,19 +27,44 @@ pub struct Outputs<W, E> {
     pub faults: Watched<E>,
 }
 
-/// What a task came to.
-pub enum Done<S> {
-    /// Request lines over a register in memory, or it could not be made.
-    RanInMemory(Result<Outcome, OpenRefusal>),
-    /// A register was to be made in a file.
-    Made(Result<Closed<S>, Refused<S>>),
-    /// The register in a file was to be opened for what was done.
-    Lived(Result<Life<S>, Refused<S>>),
-    /// A value among the words is none. Nothing was done.
-    BadValue,
+/// What comes in: request lines or rows, and clients.
+#[derive(Drop)]
+pub struct Inputs<R> {
+    pub reader: Watched<R>,
+    pub attendance: Attendance,
 }
 
-/// What the program is given of the machine, and all that it can reach of it.
+/// What a job over a register in a file came to.
+#[derive(Drop)]
+pub enum Done<S, U> {
+    /// A register was to be made.
+    Made(Result<Closed<S>, Refused<S, U>>),
+    /// The register was to be opened for what was done.
+    Lived(Result<Life<S>, Refused<S, U>>),
+}
+
+impl<S, U> Done<S, U> {
+    /// How it ended: at an end of the register, which one that was made has not, or before that.
+    fn end(&self) -> Result<Finish, OpenRefusal>
+        ensures { result ≡ end_of self.now }
+    {
+        match self {
+            Done::Made(Ok(_)) => Ok(Finish::AtEnd { rest: 0 }),
+            Done::Made(Err(refused)) => Err(refused.refusal),
+            Done::Lived(Ok(life)) => Ok(life.outcome.end),
+            Done::Lived(Err(refused)) => Err(refused.refusal),
+        }
+    }
+}
+
+/// What came of a job, and the program's exit status.
+#[derive(Drop)]
+pub struct Acted<S, U> {
+    pub done: Done<S, U>,
+    pub status: u8,
+}
+
+/// What the program is given of the machine for a job, and all that it can reach of it.
 #[derive(Drop)]
 pub struct Machine<F, N> {
     pub alloc: Global,
@@ -45,95 +74,143 @@ pub struct Machine<F, N> {
     pub network: N,
 }
 
-/// Does the task, over the machine's files where it names one.
-pub fn perform_task<F: Files + Drop, N: Network + Clock + Drop, R: Read + Drop, W: Write>(
+/// What the words ask for. The first word is the program's own name; with no more words it is a run
+/// over request lines, over a new register in memory. It is given nothing of the machine, so where
+/// the words are none nothing is done.
+///
+/// # Errors
+/// The exit status, where they are none, and `faults` was told of them: 1 where they are no command,
+/// ask for help or have a bad value, and 3 after want of memory.
+pub fn read_task<'a, E: Write>(
+    alloc: Global,
+    words: &'a [String],
+    faults: &mut Watched<E>,
+) -> Result<Task<'a>, u8>
+    ensures alone { length words.now ≤ 1 → result ≡ Ok Task.RunInMemory }
+    ensures quiet { OnOk result (faults.new ≡ faults.old) }
+    ensures tells { IfErr result (λ status. TellsOfWords E.contents status faults.old faults.new) }
+{
+    match read_words(alloc, words) {
+        Ok(task) => Ok(task),
+        Err(error) => Err(report_words_error(alloc, &error, faults)),
+    }
+}
+
+/// Names what kept the program from its end on `faults`, and gives the exit status.
+fn report<E: Write>(ended: Result<Finish, OpenRefusal>, faults: &mut Watched<E>) -> u8
+    ensures status { result ≡ status_after ended }
+    ensures tells { Tells E.contents (line_after ended) faults.old faults.new }
+{
+    match ended {
+        Ok(finish) => report_finish(finish, faults),
+        Err(refusal) => report_refusal(refusal, faults),
+    }
+}
+
+/// How a run in memory ended, or that there was none.
+fn end_in_memory(came: &Result<Outcome, OpenRefusal>) -> Result<Finish, OpenRefusal>
+    ensures { result ≡ end_alone came.now }
+{
+    match came {
+        Ok(outcome) => Ok(outcome.end),
+        Err(refusal) => Err(*refusal),
+    }
+}
+
+/// Runs over the request lines of `reader`, over a new register in memory, and names what kept it
+/// from its end. It is given no file and no network.
+///
+/// Gives the exit status: 0 where all went well, 2 where the register could not be made, 3 after an
+/// end of the register, and 4 after a fault of a stream.
+pub fn act_in_memory<R: Read, W: Write, E: Write>(
+    alloc: Global,
+    reader: &mut Watched<R>,
+    outputs: &mut Outputs<W, E>,
+) -> u8
+    requires reader { reader.old.failed ≡ false }
+    requires writer { outputs.old.writer.failed ≡ false }
+    ensures does { ActsAlone W.contents E.contents (R.remaining reader.old.inner) reader.new
+        outputs.old outputs.new result }
+    // Of an input whose bytes are known, what is written and the status are those of a run from the
+    // empty history.
+    ensures acts { ActsInMemory (R.remaining reader.old.inner) result
+        (W.contents outputs.old.writer.inner) (W.contents outputs.new.writer.inner) }
+{
+    let Outputs { writer, faults } = outputs;
+    let came = run_in_memory(alloc, reader, writer);
+    report(end_in_memory(&came), faults)
+}
+
+/// Does the job over the register in the file.
+fn perform<F: Files + Drop, N: Network + Clock + Drop, R: Read, W: Write>(
     machine: Machine<F, N>,
-    task: &Task<'_>,
-    reader: R,
+    file: &str,
+    job: &Job,
+    inputs: &mut Inputs<R>,
     writer: &mut Watched<W>,
-) -> Done<F::Opened>
-    requires { writer.old.failed ≡ false }
-    ensures { Performs F.Opened.Store F.may_leave F.start task.now (R.remaining reader)
-        (W.contents writer.old.inner) (W.contents writer.new.inner) result }
+) -> Done<F::Opened, F::Failed>
+    requires reader { inputs.old.reader.failed ≡ false }
+    requires attendance { inputs.old.attendance ≡ nobody }
+    requires writer { writer.old.failed ≡ false }
+    ensures performs { Performs F.Opened.Store F.may_leave F.may_leave_failed (F.start file.now)
+        job.now (R.remaining inputs.old.reader.inner) (W.contents writer.old.inner)
+        (W.contents writer.new.inner) result }
+    ensures ends { EndsFor job.now (R.remaining inputs.old.reader.inner) inputs.new writer.new
+        result }
 {
     let Machine {
         alloc,
         files,
         network,
     } = machine;
-    match *task {
-        Task::RunInMemory => {
-            let mut reader = Watched::new(reader);
-            Done::RanInMemory(run_in_memory(alloc, &mut reader, writer))
+    let Inputs { reader, attendance } = inputs;
+    match *job {
+        Job::Init => Done::Made(init_file(alloc, file, files)),
+        Job::Run => Done::Lived(run_file(alloc, file, files, reader, writer)),
+        Job::Import { terms } => {
+            Done::Lived(import_file(alloc, file, files, &terms, reader, writer))
         }
-        Task::Init { file } => Done::Made(init_file(alloc, file, files)),
-        Task::Run { file } => {
-            let mut reader = Watched::new(reader);
-            Done::Lived(run_file(alloc, file, files, &mut reader, writer))
+        Job::Export => Done::Lived(export_file(alloc, file, files, writer)),
+        Job::Report { days } => Done::Lived(report_file(alloc, file, files, days, writer)),
+        Job::Serve { bounds } => {
+            Done::Lived(serve_file(alloc, file, files, &network, &bounds, attendance))
         }
-        Task::Import { file, terms } => match terms.read() {
-            Some(terms) => {
-                let mut reader = Watched::new(reader);
-                Done::Lived(import_file(alloc, file, files, &terms, &mut reader, writer))
-            }
-            None => Done::BadValue,
-        },
-        Task::Export { file } => Done::Lived(export_file(alloc, file, files, writer)),
-        Task::Report { file, days } => match read_days(days) {
-            Some(days) => Done::Lived(report_file(alloc, file, files, days, writer)),
-            None => Done::BadValue,
-        },
-        Task::Serve { file, bounds } => match bounds.read() {
-            Some(bounds) => Done::Lived(serve_file(alloc, file, files, &network, &bounds)),
-            None => Done::BadValue,
-        },
     }
 }
 
-/// Names on `faults` what kept the task from its end, and gives the exit status.
-fn report_done<S: Drop, E: Write>(done: Done<S>, faults: &mut Watched<E>) -> u8
-    ensures status { result ≡ status_after done }
-    ensures tells { Tells E.contents (line_after done) faults.old faults.new }
-{
-    match done {
-        Done::RanInMemory(Ok(outcome)) => report_finish(outcome.end, faults),
-        Done::RanInMemory(Err(refusal)) => report_refusal(refusal, faults),
-        Done::Made(Ok(_)) => 0,
-        Done::Made(Err(refused)) => report_refusal(refused.refusal, faults),
-        Done::Lived(Ok(life)) => report_finish(life.outcome.end, faults),
-        Done::Lived(Err(refused)) => report_refusal(refused.refusal, faults),
-        Done::BadValue => report_bad_value(faults),
-    }
-}
-
-/// Does what the words ask for, over the machine's files where they name one. The first word is the
-/// program's own name; with no more words it is a run over the request lines of `reader`, over a
-/// new register in memory.
+/// Does the job over the register in the file, and names what kept it from its end.
 ///
-/// Gives the exit status: 0 where all went well, 1 where the words are no command, ask for help or
-/// have a bad value, 2 where the register could not be made or opened, 3 after an end of the
-/// register or want of memory for the words, and 4 after a fault of a stream or an import without
-/// its header row.
-pub fn act<F: Files + Drop, N: Network + Clock + Drop, R: Read + Drop, W: Write, E: Write>(
+/// Gives what came of it, with the exit status: 0 where all went well, 2 where the register could
+/// not be made or opened, 3 after an end of the register, and 4 after a fault of a stream or an
+/// import without its header row.
+pub fn act<F: Files + Drop, N: Network + Clock + Drop, R: Read, W: Write, E: Write>(
     machine: Machine<F, N>,
-    words: &[String],
-    reader: R,
+    file: &str,
+    job: &Job,
+    inputs: &mut Inputs<R>,
     outputs: &mut Outputs<W, E>,
-) -> u8
-    requires { outputs.old.writer.failed ≡ false }
-    // A task is done as it says, or the words are none and nothing is written; and what kept it
-    // from its end is named on the writer of faults, and nothing else.
-    ensures does { ActsBy F.Opened.Store F.may_leave F.start W.contents E.contents
-        (R.remaining reader) outputs.old outputs.new result }
-    // With no words but its name, what is written and the status are those of a run from the empty
-    // history.
-    ensures acts { ActsWithoutWords (length words.now) (R.remaining reader) result
-        (W.contents outputs.old.writer.inner) (W.contents outputs.new.writer.inner) }
+) -> Acted<F::Opened, F::Failed>
+    requires reader { inputs.old.reader.failed ≡ false }
+    requires attendance { inputs.old.attendance ≡ nobody }
+    requires writer { outputs.old.writer.failed ≡ false }
+    // It comes to what the call that the job names comes to.
+    ensures performs { Performs F.Opened.Store F.may_leave F.may_leave_failed (F.start file.now)
+        job.now (R.remaining inputs.old.reader.inner) (W.contents outputs.old.writer.inner)
+        (W.contents outputs.new.writer.inner) result.done }
+    // What a stream or the network is blamed for has its cause there.
+    ensures ends { EndsFor job.now (R.remaining inputs.old.reader.inner) inputs.new
+        outputs.new.writer result.done }
+    // Whatever register the file held, it holds that after the life that this was.
+    ensures leads { LeadsFrom F.Opened.Store F.may_leave F.may_leave_failed (F.start file.now)
+        job.now (R.remaining inputs.old.reader.inner) (W.contents outputs.old.writer.inner)
+        (W.contents outputs.new.writer.inner) result.done }
+    // What kept it from its end is named on the writer of faults, and nothing else.
+    ensures tells { Tells E.contents (line_after (end_of result.done)) outputs.old.faults
+        outputs.new.faults }
+    ensures status { result.status ≡ status_after (end_of result.done) }
 {
     let Outputs { writer, faults } = outputs;
-    let alloc = machine.alloc;
-    match read_words(alloc, words) {
-        Ok(task) => report_done(perform_task(machine, &task, reader, writer), faults),
-        Err(error) => report_words_error(alloc, &error, faults),
-    }
+    let done = perform(machine, file, job, inputs, writer);
+    let status = report(done.end(), faults);
+    Acted { done, status }
 }

@@ -1,5 +1,5 @@
 //! The files of a register, whoever opens them.
-ghost use Rattle.std.specs.Prelude.{◌≡◌, false, IfOk, IfErr, IsTrue};
+ghost use Rattle.std.specs.Prelude.{◌≡◌, ℕ, List, false, IfOk, IfErr, IsTrue};
 ghost use Rattle.sqlite.specs.Held.{AreDatabases, state};
 ghost use Rattle.sqlite.specs.Files.{HoldsDatabase};
 ghost use Rattle.sqlite.specs.Recovery.{Image};
@@ -7,7 +7,7 @@ ghost use Rattle.sqlite.specs.State.{HasCleanDisk};
 ghost use Rattle.sqlite.specs.Tree.{Trees};
 ghost use Rattle.register_desk.specs.DatabaseFiles.{ShowsFiles};
 ghost use Rattle.register_desk.specs.OpenRefusal.{RefusesNoTable};
-ghost use Rattle.register_program.specs.Closing.{ClosesFiles};
+ghost use Rattle.register_program.specs.Closing.{ClosesFiles, StandsAs};
 
 use register_desk::OpenRefusal;
 use sqlite::{Alter, Connection};
@@ -31,31 +31,60 @@ pub struct Closed<S> {
     pub log: LogCopy,
 }
 
+/// What becomes of an opening where there is no file.
+#[derive(Clone, Copy, Drop)]
+pub enum Absent {
+    /// One is made.
+    Made,
+    /// The opening fails.
+    Refused,
+}
+
+/// Why files could not be opened.
+#[derive(Drop)]
+pub struct NotConnected<U> {
+    pub refusal: OpenRefusal,
+    /// What is left of them.
+    pub failed: U,
+}
+
 /// How the files of a register are opened and closed: the database file, and its log beside it.
 pub trait Files {
     /// The store that they are opened as.
     type Opened: Alter + Drop;
 
-    /// What they hold before they are opened.
-    ghost start: { Image };
+    /// What is left of them where they could not be opened. Nobody else makes one, so none is there
+    /// but of a [`connect`](Files::connect) that failed.
+    type Failed: Drop;
+
+    /// What the file of this path and its log hold before they are opened.
+    ghost start: { List ℕ → Image };
 
     /// What a stop may leave in them.
     ghost may_leave: { Self.Opened → Image → Type 0 };
 
-    /// Whether there is a file of this name, or the system does not tell.
-    fn may_be_there(&self, file: &str) -> bool;
+    /// What a stop may leave in them where they could not be opened.
+    ghost may_leave_failed: { Self.Failed → Image → Type 0 };
 
-    /// A connection to the file, which is made where there is none.
+    /// A connection to the file.
     ///
     /// # Errors
-    /// [`OpenRefusal::Store`] where the file cannot be opened, or is no database;
+    /// [`OpenRefusal::Store`] where the file cannot be opened, or is no database, or is not there and
+    /// is not to be made;
     /// [`OpenRefusal::Memory`] where memory gave out.
-    fn connect(self, file: &str) -> Result<Connection<Self::Opened>, OpenRefusal>
+    fn connect(
+        self,
+        file: &str,
+        absent: Absent,
+    ) -> Result<Connection<Self::Opened>, NotConnected<Self::Failed>>
         // The connection shows what the files hold.
         ensures shows { IfOk result (λ connection. HasCleanDisk (state Self.Opened.Store connection)
-            → ShowsFiles start (state Self.Opened.Store connection)) }
+            → ShowsFiles (start file.now) (state Self.Opened.Store connection)) }
         ensures idle { IfOk result (λ connection. connection.in_transaction ≡ false) }
-        ensures blames_none { IfErr result RefusesNoTable };
+        ensures blames_none { IfErr result (λ it. RefusesNoTable it.refusal) }
+        // What failed left what the files held.
+        ensures stands { IfErr result (λ it. (left : Image) → may_leave_failed it.failed left
+            → ∥ StandsAs (start file.now) left ∥₁) };
 
     /// Copies the log into the database file. What cannot be copied stays in the log, where the
     /// next opening finds it.

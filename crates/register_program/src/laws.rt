@@ -1,19 +1,15 @@
 //! Laws about files that were closed, and about runs of the program. A function's contract is the
 //! law; it does nothing.
-ghost use Rattle.std.specs.Prelude.{◌≡◌, ℕ, List, Option, None};
+ghost use Rattle.std.specs.Prelude.{◌≡◌, List};
 ghost use Rattle.sqlite.specs.Recovery.{Image};
 ghost use Rattle.register_requests.specs.declared.request.Request.{Request};
 ghost use Rattle.register_desk.specs.DatabaseFiles.{HoldsOneOf, HoldsRegister};
 ghost use Rattle.register_desk.specs.Lives.{after_lives};
-ghost use Rattle.register_program.specs.declared.acting.Done.{Done};
 ghost use Rattle.register_program.specs.Closing.{LeftIn, alone};
 ghost use Rattle.register_program.specs.FileCalls.{OpensFile};
 ghost use Rattle.register_program.specs.Life.{LeavesInFiles};
 ghost use Rattle.register_program.specs.Opening.{OpensAs};
-ghost use Rattle.register_program.specs.Sentence.{AreFoundAgain, FoundAgain, Leads};
-ghost use Rattle.register_program.specs.Sentence.{LeadsFrom, ProgramRun};
-ghost use Rattle.register_program.specs.Task.{Performs};
-ghost use Rattle.register_words.specs.declared.words.Task.{Task};
+ghost use Rattle.register_program.specs.Sentence.{AreFoundAgain, FoundAgain, ProgramRun};
 
 use crate::files::{Closed, Files, LogCopy};
 
@@ -27,23 +23,10 @@ pub fn database_file_holds_alone<F: Files>(closed: &Closed<F::Opened>)
         HoldsOneOf h other whole × HoldsOneOf h other (alone whole) }
 {}
 
-/// A task that was done as [`perform_task`](crate::perform_task) does it, over whatever the files
-/// held, leads from that to what they hold after the life that it was.
-pub fn tasks_are_lives<F: Files>()
-    ensures { (found : Image) (task : Task) (input : Option (List ℕ)) (old : Option (List ℕ))
-        (new : Option (List ℕ)) (done : Done F.Opened) →
-        Performs F.Opened.Store F.may_leave found task input old new done →
-        LeadsFrom F.Opened.Store F.may_leave found task input old new done }
-{}
-
-/// A run whose words are none, which leaves the files as they are, leads on too.
-pub fn idle_runs_lead_on()
-    ensures { (run : ProgramRun) → run.task ≡ None → run.left ≡ run.found → Leads run }
-{}
-
-/// Whatever the program is run for, as often as one likes, each run over what the one before left,
-/// at its end or at a stop, and the first over files that hold nothing or a register: the files
-/// hold nothing still, or exactly the register of lives that the runs were.
+/// Whatever job the program is run for, as [`act`](crate::act) does it, as often as one likes, each
+/// run over what the one before left, at its end or at a stop, and the first over files that hold
+/// nothing or a register: the files hold nothing still, or exactly the register of lives that the
+/// runs were.
 pub fn register_is_found_again()
     ensures { AreFoundAgain }
 {}
@@ -53,7 +36,7 @@ pub fn register_is_found_again()
 pub fn openings_find_lives<F: Files>()
     ensures { (h : List Request) (runs : List ProgramRun) (left : Image) →
         (again : FoundAgain h runs left) → (result : _) →
-        OpensFile F.Opened.Store F.may_leave left result →
+        OpensFile F.Opened.Store F.may_leave F.may_leave_failed left result →
         HoldsRegister (after_lives h again.lives) left →
         OpensAs F.Opened.Store (after_lives h again.lives) result }
 {}

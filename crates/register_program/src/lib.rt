@@ -11,13 +11,13 @@ mod network;
 mod register_file;
 mod serving;
 
-pub use acting::{Done, Machine, Outputs, act, perform_task};
+pub use acting::{Acted, Done, Inputs, Machine, Outputs, act, act_in_memory, read_task};
 pub use attendance::Attendance;
 pub use faults::{report_bad_value, report_end, report_refusal};
-pub use files::{Closed, Files, LogCopy};
+pub use files::{Absent, Closed, Files, LogCopy, NotConnected};
 pub use network::{Client, Listener, Network};
 pub use register_file::{
-    Life, Refused, export_file, import_file, init_file, open_file, report_file, run_file,
-    serve_file,
+    Life, Refused, RefusedFiles, export_file, import_file, init_file, open_file, report_file,
+    run_file, serve_file,
 };
 pub use serving::{Clocks, MachineClock, Now, serve_at, serve_on};

@@ -1,5 +1,5 @@
 //! The register in a file: the database file, and its log beside it.
-ghost use Rattle.std.specs.Prelude.{◌≡◌, None, false, IfErr};
+ghost use Rattle.std.specs.Prelude.{◌≡◌, None, false, IfErr, IfOk};
 ghost use Rattle.sqlite_trees.specs.View.{IsClean as IsCleanStore};
 ghost use Rattle.register_desk.specs.Desk.{IsClean};
 ghost use Rattle.register_program.specs.Closing.{ClosesDesk};
@@ -7,9 +7,11 @@ ghost use Rattle.register_program.specs.Within.Closing.{LeavesAsDesk};
 ghost use Rattle.register_program.specs.FileCalls.{Exports, ImportsRows, MakesRegister, OpensFile};
 ghost use Rattle.register_program.specs.FileCalls.{Reports, RunsLines, ServesExchanges};
 ghost use Rattle.register_program.specs.Life.{ClosesAs};
+ghost use Rattle.register_program.specs.Ends.{BlamesRecord, BlamesStreams, BlamesWriter, NoOther};
+ghost use Rattle.register_program.specs.ServedExchanges.{ExplainsEnd, nobody};
 
 use crate::attendance::Attendance;
-use crate::files::{Closed, Files};
+use crate::files::{Absent, Closed, Files, NotConnected};
 use crate::network::Network;
 use crate::serving::serve_at;
 use register_desk::{Desk, OpenRefusal, Outcome, Unopened, Watched, run};
@@ -29,28 +31,41 @@ pub struct Life<S> {
     pub files: Closed<S>,
 }
 
+/// Files in which no register was made or opened.
+#[derive(Drop)]
+pub enum RefusedFiles<S, U> {
+    /// They could not be opened at all.
+    Failed(U),
+    /// They were opened, and closed.
+    Shut(S),
+}
+
 /// Why a register was not made or opened.
 #[derive(Drop)]
-pub struct Refused<L> {
+pub struct Refused<S, U> {
     pub refusal: OpenRefusal,
-    /// The files as they were left; `None` where they could not be opened at all.
-    pub store: Option<L>,
+    /// The files as they were left.
+    pub files: RefusedFiles<S, U>,
 }
 
 /// The refusal of files that could not be opened.
-impl<L> From<OpenRefusal> for Refused<L> {
-    ghost from_gives = { λ refusal refused. refused ≡ record { refusal = refusal; store = None } };
+impl<S, U> From<NotConnected<U>> for Refused<S, U> {
+    ghost use Rattle.register_program.specs.declared.register_file.RefusedFiles.TheVariants.{Failed};
 
-    fn from(refusal: OpenRefusal) -> Self {
+    ghost from_gives = { λ it refused.
+        refused ≡ record { refusal = it.refusal; files = Failed it.failed } };
+
+    fn from(it: NotConnected<U>) -> Self {
+        let NotConnected { refusal, failed } = it;
         Refused {
             refusal,
-            store: None,
+            files: RefusedFiles::Failed(failed),
         }
     }
 }
 
 /// The refusal of files that were opened.
-impl<S: Alter + Drop> From<Unopened<S>> for Refused<S> {
+impl<S: Alter + Drop, U> From<Unopened<S>> for Refused<S, U> {
     ghost use Rattle.register_program.specs.Life.{GivesBack};
 
     ghost from_gives = { λ unopened refused. GivesBack S.Store unopened refused };
@@ -62,7 +77,7 @@ impl<S: Alter + Drop> From<Unopened<S>> for Refused<S> {
         } = unopened;
         Refused {
             refusal,
-            store: Some(close_connection_into_store(connection)),
+            files: RefusedFiles::Shut(close_connection_into_store(connection)),
         }
     }
 }
@@ -98,10 +113,10 @@ pub fn init_file<F: Files>(
     alloc: Global,
     file: &str,
     files: F,
-) -> Result<Closed<F::Opened>, Refused<F::Opened>>
-    ensures { MakesRegister F.Opened.Store F.may_leave F.start result }
+) -> Result<Closed<F::Opened>, Refused<F::Opened, F::Failed>>
+    ensures { MakesRegister F.Opened.Store F.may_leave F.may_leave_failed (F.start file.now) result }
 {
-    let connection = files.connect(file)?;
+    let connection = files.connect(file, Absent::Made)?;
     let desk = Desk::create(alloc, connection)?;
     Ok(close_desk::<F>(desk))
 }
@@ -115,13 +130,10 @@ pub fn open_file<F: Files + Drop>(
     alloc: Global,
     file: &str,
     files: F,
-) -> Result<Desk<F::Opened>, Refused<F::Opened>>
-    ensures { OpensFile F.Opened.Store F.may_leave F.start result }
+) -> Result<Desk<F::Opened>, Refused<F::Opened, F::Failed>>
+    ensures { OpensFile F.Opened.Store F.may_leave F.may_leave_failed (F.start file.now) result }
 {
-    if !files.may_be_there(file) {
-        return Err(Refused::from(OpenRefusal::Store));
-    }
-    let connection = files.connect(file)?;
+    let connection = files.connect(file, Absent::Refused)?;
     let desk = Desk::open(alloc, connection)?;
     Ok(desk)
 }
@@ -136,11 +148,13 @@ pub fn run_file<F: Files + Drop, R: Read, W: Write>(
     files: F,
     reader: &mut Watched<R>,
     writer: &mut Watched<W>,
-) -> Result<Life<F::Opened>, Refused<F::Opened>>
+) -> Result<Life<F::Opened>, Refused<F::Opened, F::Failed>>
     requires reader { reader.old.failed ≡ false }
     requires writer { writer.old.failed ≡ false }
-    ensures runs { RunsLines F.Opened.Store F.may_leave F.start (R.remaining reader.old.inner)
-        (W.contents writer.old.inner) (W.contents writer.new.inner) result }
+    ensures runs { RunsLines F.Opened.Store F.may_leave F.may_leave_failed (F.start file.now)
+        (R.remaining reader.old.inner) (W.contents writer.old.inner) (W.contents writer.new.inner)
+        result }
+    ensures ends { IfOk result (λ life. BlamesStreams NoOther reader.new writer.new life.outcome) }
     ensures untouched { IfErr result (λ _. writer.new ≡ writer.old) }
 {
     let mut desk = open_file(alloc, file, files)?;
@@ -163,12 +177,14 @@ pub fn import_file<F: Files + Drop, R: Read, W: Write>(
     terms: &Terms,
     reader: &mut Watched<R>,
     writer: &mut Watched<W>,
-) -> Result<Life<F::Opened>, Refused<F::Opened>>
+) -> Result<Life<F::Opened>, Refused<F::Opened, F::Failed>>
     requires reader { reader.old.failed ≡ false }
     requires writer { writer.old.failed ≡ false }
-    ensures imports { ImportsRows F.Opened.Store F.may_leave F.start terms.now
-        (R.remaining reader.old.inner) (W.contents writer.old.inner) (W.contents writer.new.inner)
-        result }
+    ensures imports { ImportsRows F.Opened.Store F.may_leave F.may_leave_failed
+        (F.start file.now) terms.now (R.remaining reader.old.inner) (W.contents writer.old.inner)
+        (W.contents writer.new.inner) result }
+    ensures ends { IfOk result (λ life. BlamesStreams (BlamesRecord (R.remaining reader.old.inner))
+        reader.new writer.new life.outcome) }
     ensures untouched { IfErr result (λ _. writer.new ≡ writer.old) }
 {
     let mut desk = open_file(alloc, file, files)?;
@@ -196,10 +212,11 @@ pub fn export_file<F: Files + Drop, W: Write>(
     file: &str,
     files: F,
     writer: &mut Watched<W>,
-) -> Result<Life<F::Opened>, Refused<F::Opened>>
+) -> Result<Life<F::Opened>, Refused<F::Opened, F::Failed>>
     requires { writer.old.failed ≡ false }
-    ensures exports { Exports F.Opened.Store F.may_leave F.start
+    ensures exports { Exports F.Opened.Store F.may_leave F.may_leave_failed (F.start file.now)
         (W.contents writer.old.inner) (W.contents writer.new.inner) result }
+    ensures ends { IfOk result (λ life. BlamesWriter writer.new life.outcome) }
     ensures untouched { IfErr result (λ _. writer.new ≡ writer.old) }
 {
     let mut desk = open_file(alloc, file, files)?;
@@ -221,10 +238,11 @@ pub fn report_file<F: Files + Drop, W: Write>(
     files: F,
     days: u32,
     writer: &mut Watched<W>,
-) -> Result<Life<F::Opened>, Refused<F::Opened>>
+) -> Result<Life<F::Opened>, Refused<F::Opened, F::Failed>>
     requires { writer.old.failed ≡ false }
-    ensures reports { Reports F.Opened.Store F.may_leave F.start days
+    ensures reports { Reports F.Opened.Store F.may_leave F.may_leave_failed (F.start file.now) days
         (W.contents writer.old.inner) (W.contents writer.new.inner) result }
+    ensures ends { IfOk result (λ life. BlamesWriter writer.new life.outcome) }
     ensures untouched { IfErr result (λ _. writer.new ≡ writer.old) }
 {
     let mut desk = open_file(alloc, file, files)?;
@@ -245,18 +263,22 @@ pub fn serve_file<F: Files + Drop, N: Network + Clock>(
     files: F,
     network: &N,
     bounds: &Bounds,
-) -> Result<Life<F::Opened>, Refused<F::Opened>>
-    ensures { ServesExchanges F.Opened.Store F.may_leave F.start bounds.now.exchanges result }
+    attendance: &mut Attendance,
+) -> Result<Life<F::Opened>, Refused<F::Opened, F::Failed>>
+    requires { attendance.old ≡ nobody }
+    ensures serves { ServesExchanges F.Opened.Store F.may_leave F.may_leave_failed (F.start file.now)
+        bounds.now.exchanges result }
+    ensures ends { IfOk result (λ life.
+        ExplainsEnd bounds.now.exchanges attendance.new life.outcome.end) }
 {
     let mut desk = open_file(alloc, file, files)?;
-    let mut attendance = Attendance::new();
     let end = serve_at(
         alloc,
         &mut desk,
         network,
         bounds.port,
         bounds.exchanges,
-        &mut attendance,
+        attendance,
     );
     Ok(Life {
         outcome: Outcome::ended_without_bytes(end),

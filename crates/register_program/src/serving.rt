@@ -4,6 +4,7 @@ ghost use Rattle.register_requests.specs.declared.request.Request.{Request};
 ghost use Rattle.register_desk.specs.Desk.{IsClean, IsWhole};
 ghost use Rattle.register_desk.specs.Register.{StandsFor};
 ghost use Rattle.register_http.specs.OneItem.{LeavesOne};
+ghost use Rattle.register_desk.specs.Run.{LeavesDesk};
 ghost use Rattle.register_program.specs.ServedExchanges.{ServesClients, nobody};
 ghost use Rattle.register_program.specs.Within.ServedExchanges.{may_serve_on};
 
@@ -121,6 +122,7 @@ fn serve_connection<S: Alter, L: Client, C: Clock>(
     ensures leaves { (h : List Request) → StandsFor S.Store desk.old h → IsWhole desk.old
         → IsClean S.Store desk.new → LeavesOne S.Store h desk.new result }
     ensures clean { IsClean S.Store desk.new → IsClean S.Store desk.old }
+    ensures desk { LeavesDesk desk.old desk.new result }
 {
     let Ok(start) = Instant::now(connection.timer) else {
         return Finish::Ended(End::ReadFault);

@@ -1,43 +1,79 @@
 //! What the program's words ask for.
 ghost use Rattle.std.specs.Prelude.{◌≡◌, ◌≤◌, length, Ok};
+ghost use Rattle.register_words.specs.Values.{Reads};
+ghost use Rattle.register_words.specs.Words.{IsJob};
 
-use crate::values::{GivenBounds, GivenTerms};
+use crate::values::{Bounds, GivenBounds, GivenTerms, Terms, read_days};
 use clap::error::ErrorKind;
 use clap::{Arg, ArgAction, ArgMatches, Command, Error};
 use std::alloc::{AllocError, Global};
 
-/// What the program is asked to do, its values as they were given.
+/// What the program is asked to do.
 #[derive(Clone, Copy)]
 pub enum Task<'a> {
     /// Request lines over a new register in memory.
     RunInMemory,
-    /// A new register in the file.
-    Init {
-        file: &'a str,
-    },
-    /// Request lines over the register in the file.
-    Run {
-        file: &'a str,
-    },
+    /// A job over the register in the file.
+    InFile { file: &'a str, job: Job },
+}
+
+/// What is to be done over a register in a file.
+#[derive(Clone, Copy)]
+pub enum Job {
+    /// An empty register is made in the file.
+    Init,
+    /// Request lines.
+    Run,
     /// A registration for each row of a table, on these terms.
-    Import {
-        file: &'a str,
-        terms: GivenTerms<'a>,
-    },
-    /// All keys of the register in the file, as a table.
-    Export {
-        file: &'a str,
-    },
+    Import { terms: Terms },
+    /// All keys, as a table.
+    Export,
     /// The keys that are due for rotation in this number of days.
-    Report {
-        file: &'a str,
-        days: &'a str,
-    },
-    /// HTTP exchanges over the register in the file, within these bounds.
-    Serve {
-        file: &'a str,
-        bounds: GivenBounds<'a>,
-    },
+    Report { days: u32 },
+    /// HTTP exchanges, within these bounds.
+    Serve { bounds: Bounds },
+}
+
+/// A job with its values as they were given.
+#[derive(Clone, Copy)]
+pub enum GivenJob<'a> {
+    Init,
+    Run,
+    Import { terms: GivenTerms<'a> },
+    Export,
+    Report { days: &'a str },
+    Serve { bounds: GivenBounds<'a> },
+}
+
+impl GivenJob<'_> {
+    /// The job, where each text is a value.
+    pub fn read(&self) -> Option<Job>
+        ensures { Reads IsJob self.now result }
+    {
+        match *self {
+            GivenJob::Init => Some(Job::Init),
+            GivenJob::Run => Some(Job::Run),
+            GivenJob::Import { terms } => Some(Job::Import {
+                terms: terms.read()?,
+            }),
+            GivenJob::Export => Some(Job::Export),
+            GivenJob::Report { days } => Some(Job::Report {
+                days: read_days(days)?,
+            }),
+            GivenJob::Serve { bounds } => Some(Job::Serve {
+                bounds: bounds.read()?,
+            }),
+        }
+    }
+}
+
+/// Why the words are no task.
+#[derive(Drop)]
+pub enum WordsError {
+    /// `clap`'s help, where that was asked for, or its account of what is wrong with the words.
+    NoCommand(Error),
+    /// A value among them is none.
+    BadValue,
 }
 
 /// The program's version (CHANGES.md), that of the tables that it writes, and the program logic
@@ -216,55 +252,65 @@ fn bounds_of<'a>(options: &ArgMatches<'a>) -> Option<GivenBounds<'a>> {
     })
 }
 
-/// What a command asks for, with the values of its options.
-fn task_of<'a>(command: &str, options: &ArgMatches<'a>) -> Option<Task<'a>> {
-    let file = options.get_str("file")?;
+/// The job that a command asks for, with the values of its options.
+fn job_of<'a>(command: &str, options: &ArgMatches<'a>) -> Option<GivenJob<'a>> {
     match command {
-        "init" => Some(Task::Init { file }),
-        "run" => Some(Task::Run { file }),
-        "import" => Some(Task::Import {
-            file,
+        "init" => Some(GivenJob::Init),
+        "run" => Some(GivenJob::Run),
+        "import" => Some(GivenJob::Import {
             terms: terms_of(options)?,
         }),
-        "export" => Some(Task::Export { file }),
-        "report" => Some(Task::Report {
-            file,
+        "export" => Some(GivenJob::Export),
+        "report" => Some(GivenJob::Report {
             days: options.get_str("days")?,
         }),
-        "serve" => Some(Task::Serve {
-            file,
+        "serve" => Some(GivenJob::Serve {
             bounds: bounds_of(options)?,
         }),
         _ => None,
     }
 }
 
-/// What the words ask for, where they are a command.
-fn given_task<'a>(matches: &ArgMatches<'a>) -> Option<Task<'a>> {
+/// The file of a command and the job over it.
+fn given_job<'a>(matches: &ArgMatches<'a>) -> Option<(&'a str, GivenJob<'a>)> {
     let (command, options) = matches.subcommand()?;
-    task_of(command, options)
+    Some((options.get_str("file")?, job_of(command, options)?))
 }
 
-/// What the words ask for, where they are a command below this one.
-fn task_by<'a>(command: &mut Command<'a>, words: &'a [String]) -> Result<Task<'a>, Error> {
+/// The file and the job that the words give, where they are a command below this one.
+fn job_by<'a>(
+    command: &mut Command<'a>,
+    words: &'a [String],
+) -> Result<(&'a str, GivenJob<'a>), Error> {
     let matches = command.try_get_matches_from_mut(words)?;
-    match given_task(&matches) {
-        Some(task) => Ok(task),
+    match given_job(&matches) {
+        Some(job) => Ok(job),
         None => Err(command.error(ErrorKind::MissingSubcommand, "a command is missing")?),
     }
+}
+
+/// The file and the job that the words give.
+fn read_command(alloc: Global, words: &[String]) -> Result<(&str, GivenJob<'_>), Error> {
+    let mut command = keyreg_command(alloc)?;
+    job_by(&mut command, words)
 }
 
 /// Reads the words, of which the first is the program's own name.
 ///
 /// # Errors
-/// `clap`'s help, where that was asked for, or its account of what is wrong with the words.
-pub fn read_words(alloc: Global, words: &[String]) -> Result<Task<'_>, Error>
+/// As [`WordsError`] tells.
+pub fn read_words(alloc: Global, words: &[String]) -> Result<Task<'_>, WordsError>
     ensures { length words.now ≤ 1 → result ≡ Ok Task.RunInMemory }
 {
     // `clap` would ask for a command.
     if words.len() <= 1 {
         return Ok(Task::RunInMemory);
     }
-    let mut command = keyreg_command(alloc)?;
-    task_by(&mut command, words)
+    match read_command(alloc, words) {
+        Ok((file, given)) => match given.read() {
+            Some(job) => Ok(Task::InFile { file, job }),
+            None => Err(WordsError::BadValue),
+        },
+        Err(error) => Err(WordsError::NoCommand(error)),
+    }
 }

@@ -3,7 +3,10 @@
 
 use disk_files::{DiskFiles, MachineNetwork};
 use register_desk::Watched;
-use register_program::{Files, Machine, Outputs, act};
+use register_program::{
+    Absent, Attendance, Files, Inputs, Machine, Outputs, act, act_in_memory, read_task,
+};
+use register_words::Task;
 use sqlite::{Start, Wary};
 use std::alloc::Global;
 use std::io::{Read, Write};
@@ -34,12 +37,24 @@ fn act_on<S: Start, R: Read + Drop, W: Write + Drop, E: Write + Drop>(
         writer: Watched::new(output),
         faults: Watched::new(faults),
     };
-    let machine = Machine {
-        alloc: rt.alloc(),
-        files: DiskFiles::new(rt, start),
-        network: MachineNetwork::new(rt),
-    };
-    Ok(act(machine, words.as_slice(), input, &mut outputs))
+    match read_task(rt.alloc(), words.as_slice(), &mut outputs.faults) {
+        Ok(Task::RunInMemory) => {
+            Ok(act_in_memory(rt.alloc(), &mut Watched::new(input), &mut outputs))
+        }
+        Ok(Task::InFile { file, job }) => {
+            let machine = Machine {
+                alloc: rt.alloc(),
+                files: DiskFiles::new(rt, start),
+                network: MachineNetwork::new(rt),
+            };
+            let mut inputs = Inputs {
+                reader: Watched::new(input),
+                attendance: Attendance::new(),
+            };
+            Ok(act(machine, file, &job, &mut inputs, &mut outputs).status)
+        }
+        Err(status) => Ok(status),
+    }
 }
 
 /// What the program did.
@@ -141,7 +156,7 @@ pub fn is_done(rt: &HostRuntime, act: &Act) -> Result<bool, Fail> {
 
 /// Runs the statement on the register in the file, whoever opens it.
 fn edit_by<F: Files>(files: F, file: &str, statement: &str) -> Result<(), Fail> {
-    let Ok(mut connection) = files.connect(file) else {
+    let Ok(mut connection) = files.connect(file, Absent::Made) else {
         return Err(Fail::from("no connection"));
     };
     connection.execute(statement, &[])?;

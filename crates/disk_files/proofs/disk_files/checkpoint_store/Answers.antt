@@ -18,7 +18,7 @@ use Rattle.disk_files.proofs.disk_files.checkpoint_store.Goals as goal
 -- nothing is new in what a stop leaves, and where the log was copied the database file alone holds it too
 closes_by : {D : Type 0} {g : Ghosts D} (old last : FileStore D g) (log : LogCopy)
     → (IsClean (view last) → IsClean (view old))
-    → (log ≡ Broken → IsClean (view last) → (view last).is_broken ≡ true) → ((db : Trees) → recovers last db → recovers old db)
+    → (log ≡ Broken → IsClean (view last) → ((view old).is_broken ≡ false) × ((view last).is_broken ≡ true)) → ((db : Trees) → recovers last db → recovers old db)
     → (IsClean (view last) → IsTrue (view old).is_numbered → (log ≡ Broken → IsTrue (view last).is_numbered)
     → IsTrue (view last).is_numbered)
     → (log ≡ Copied → IsClean (view last) → IsTrue (view last).is_numbered → AreDatabases (recovers last)
@@ -71,7 +71,10 @@ returns-in-Err g c =
     let first = c.rollback.ensures.quiet in
     let second = c.checkpoint.ensures.quiet in
     closes_by c.args.store c.checkpoint.new.self Broken (λ none. omega (arith, none, first.clean, second.clean))
-    (λ is none. cc (c.if-is_broken-2.ensures.shown none, c.if-is_broken-2.true))
+    (λ is none. (
+      cc (c.if-is_broken.ensures.shown (omega (arith, none, first.clean, second.clean)), c.if-is_broken.false),
+      cc (c.if-is_broken-2.ensures.shown none, c.if-is_broken-2.true),
+    ))
     (λ db may. first.outcomes db (second.outcomes db may)) (λ none was known. known refl) (λ is. absurd (cc is))
 
 pub returns-in-Err-2 : goal.returns-in-Err-2

@@ -1,4 +1,5 @@
 use Rattle.register_desk.proofs.Found.{leaves_still}
+use Rattle.register_program.proofs.Living.{exports_none}
 use Rattle.register_program.proofs.OfDesk.{of_desk}
 use Rattle.register_program.proofs.register_file.export_file.Goals as goal
 
@@ -23,3 +24,8 @@ returns-clause-exports g c = record {
 
 pub export-outcome-requires : goal.export-outcome-requires
 export-outcome-requires g c = c.requires
+
+pub returns-in_err-desk-clause-exports : goal.returns-in_err-desk-clause-exports
+returns-in_err-desk-clause-exports g c =
+    exports_none _ _ _ _
+    c.in_err-desk.field-0.0 c.in_err-desk.ensures.refuses _ _ c.from_residual.result c.from_residual.ensures.1

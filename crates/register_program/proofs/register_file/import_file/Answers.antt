@@ -35,7 +35,7 @@ returns-clause-imports g c =
             same = rw without.0.writer refl;
             leaves = leaves.one_of h h still;
           });
-      anyway = lives_anyway g.F.Opened.Store g.F.Files.may_leave g.F.Files.start run.result c.close_desk.result _ _
+      anyway = lives_anyway _ _ _ _ run.result c.close_desk.result _ _
           c.in_ok-desk.desk run.new.desk c.in_ok-desk.ensures.whole c.close_desk.ensures.closes
           c.close_desk.ensures.clean run.ensures.clean c.in_ok-desk.ensures.stands c.in_ok-desk.ensures.nothing
           (λ is. let none = run.ensures.bad_header is in (ap g.W.Write.contents none.writer, none.replies))
@@ -44,5 +44,5 @@ returns-clause-imports g c =
 
 pub returns-in_err-desk-clause-imports : goal.returns-in_err-desk-clause-imports
 returns-in_err-desk-clause-imports g c =
-    imports_none g.F.Opened.Store g.F.Files.may_leave g.F.Files.start c.in_err-desk.field-0.0
+    imports_none _ _ _ _ c.in_err-desk.field-0.0
     c.in_err-desk.ensures.refuses c.args.terms.now _ _ _ c.from_residual.result c.from_residual.ensures.1

@@ -34,16 +34,17 @@ returns g c = record {
 
 pub returns-in_err-connection : goal.returns-in_err-connection
 returns-in_err-connection g c =
-    made_closed g.F.Opened.Store g.F.Files.may_leave g.F.Files.start c.in_err-connection.field-0.0
-    c.from_residual.result c.from_residual.ensures.1 c.in_err-connection.ensures.blames_none
+    made_closed _ _ _ _
+    c.in_err-connection.field-0.0.failed c.in_err-connection.ensures.stands c.in_err-connection.field-0.0.refusal
+    c.in_err-connection.ensures.blames_none c.from_residual.result c.from_residual.ensures.1
 
 pub returns-in_err-desk : goal.returns-in_err-desk
 returns-in_err-desk g c =
     let it = c.in_err-desk.ensures in
     let unopened = c.in_err-desk.field-0.0 in
-    made_none g.F.Opened.Store g.F.Files.may_leave g.F.Files.start _ c.from_residual-in_err-desk.result
+    made_none _ _ _ _ _ c.from_residual-in_err-desk.result
     c.from_residual-in_err-desk.ensures.1
-    (λ refused gives. refuses_making g.F.Opened.Store g.F.Files.may_leave g.F.Files.start g.met.F.Files.opens_again
+    (λ refused gives. refuses_making _ _ _ _ g.met.F.Files.opens_again
     c.in_ok-connection.connection unopened.connection c.in_ok-connection.ensures.shows
     (λ clean. omega (arith, it.leaves.stop.clean, clean)) unopened.refusal it.refused (λ is. (it.there is).there)
     it.leaves_there it.leaves_made (λ there. (it.spares there).leaves)

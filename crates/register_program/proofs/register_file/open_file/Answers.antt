@@ -1,10 +1,8 @@
 use Rattle.std.proofs.Common.{arith, refl}
-use Rattle.register_desk.specs.declared.opening.OpenRefusal.TheVariants.{Store}
 use Rattle.register_desk.proofs.Found.{finds_nothing, finds_register, lawful_there}
 use Rattle.register_desk.proofs.NoRegister.{passes_nothing}
 use Rattle.register_desk.proofs.Opened.{meet_checks, stored_in}
-use Rattle.register_program.proofs.Refusing.{opens_closed, opens_none, opens_refused, refuses_closed}
-use Rattle.register_program.proofs.Refusing.{refuses_opened}
+use Rattle.register_program.proofs.Refusing.{opens_closed, opens_none, refuses_opened}
 use Rattle.register_program.proofs.register_file.open_file.Goals as goal
 
 pub returns : goal.returns
@@ -25,23 +23,19 @@ returns g c =
 
 pub returns-in_err-connection : goal.returns-in_err-connection
 returns-in_err-connection g c =
-    opens_closed g.F.Opened.Store g.F.Files.may_leave g.F.Files.start c.in_err-connection.field-0.0
-    c.from_residual.result c.from_residual.ensures.1 c.in_err-connection.ensures.blames_none
+    opens_closed _ _ _ _
+    c.in_err-connection.field-0.0.failed c.in_err-connection.ensures.stands c.in_err-connection.field-0.0.refusal
+    c.in_err-connection.ensures.blames_none c.from_residual.result c.from_residual.ensures.1
 
 pub returns-in_err-desk : goal.returns-in_err-desk
 returns-in_err-desk g c =
     let it = c.in_err-desk.ensures in
     let unopened = c.in_err-desk.field-0.0 in
-    opens_none g.F.Opened.Store g.F.Files.may_leave g.F.Files.start _ c.from_residual-in_err-desk.result
+    opens_none _ _ _ _ _ c.from_residual-in_err-desk.result
     c.from_residual-in_err-desk.ensures.1
-    (λ refused gives. refuses_opened g.F.Opened.Store g.F.Files.may_leave g.F.Files.start g.met.F.Files.opens_again
+    (λ refused gives. refuses_opened _ _ _ _ g.met.F.Files.opens_again
     c.in_ok-connection.connection unopened.connection c.in_ok-connection.ensures.shows
     (λ clean. omega (arith, it.stop.clean, clean)) unopened.refusal it.refused it.blames_none
     it.leaves_refused
     (λ version h lawful had. it.leaves_stored (stored_in version h) had (meet_checks version h lawful)) unopened
     refused gives refl refl)
-
-pub returns-then-not-may_be_there : goal.returns-then-not-may_be_there
-returns-then-not-may_be_there g c =
-    opens_refused g.F.Opened.Store g.F.Files.may_leave g.F.Files.start c.from.result
-    (refuses_closed g.F.Opened.Store g.F.Files.may_leave g.F.Files.start Store c.from.result c.from.ensures tt)

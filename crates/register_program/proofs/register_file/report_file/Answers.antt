@@ -31,5 +31,5 @@ returns-clause-reports g c = record {
 
 pub returns-in_err-desk-clause-reports : goal.returns-in_err-desk-clause-reports
 returns-in_err-desk-clause-reports g c =
-    reports_none g.F.Opened.Store g.F.Files.may_leave g.F.Files.start c.in_err-desk.field-0.0
+    reports_none _ _ _ _ c.in_err-desk.field-0.0
     c.in_err-desk.ensures.refuses c.args.days _ _ c.from_residual.result c.from_residual.ensures.1

@@ -18,7 +18,7 @@ returns-clause-runs g c =
             in_part = λ is. leaves.one_of _ _ (fault_leaves g.F.Opened.Store h items rest run.result _ _
                 c.in_ok-desk.desk run.new.desk c.in_ok-desk.ensures.whole run.ensures.desk after over is);
           });
-      anyway = lives_anyway g.F.Opened.Store g.F.Files.may_leave g.F.Files.start run.result c.close_desk.result _ _
+      anyway = lives_anyway _ _ _ _ run.result c.close_desk.result _ _
           c.in_ok-desk.desk run.new.desk c.in_ok-desk.ensures.whole c.close_desk.ensures.closes
           c.close_desk.ensures.clean run.ensures.clean c.in_ok-desk.ensures.stands c.in_ok-desk.ensures.nothing
           (λ is. absurd (run.ensures.no_header is)) run.ensures.lives;
@@ -26,5 +26,5 @@ returns-clause-runs g c =
 
 pub returns-in_err-desk-clause-runs : goal.returns-in_err-desk-clause-runs
 returns-in_err-desk-clause-runs g c =
-    runs_none g.F.Opened.Store g.F.Files.may_leave g.F.Files.start c.in_err-desk.field-0.0
+    runs_none _ _ _ _ c.in_err-desk.field-0.0
     c.in_err-desk.ensures.refuses _ _ _ c.from_residual.result c.from_residual.ensures.1

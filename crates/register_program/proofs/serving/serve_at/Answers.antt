@@ -1,5 +1,6 @@
 use Rattle.std.proofs.Common.{rules}
-use Rattle.register_program.proofs.Served.{served_nothing}
+use Rattle.register_program.proofs.Served.{leaves_at_fault, served_nothing}
+use Rattle.register_desk.proofs.Goings.{still}
 use Rattle.register_program.proofs.serving.serve_at.Goals as goal
 
 pub returns-in_default : goal.returns-in_default
@@ -8,6 +9,7 @@ returns-in_default g c = record {
   clean = λ clean. clean;
   ends = tt;
   cause = search rules;
+  desk = leaves_at_fault _ _ _ (still _ c.args.desk.now);
 }
 
 pub returns : goal.returns

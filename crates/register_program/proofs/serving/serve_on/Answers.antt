@@ -1,6 +1,8 @@
 use Rattle.std.proofs.Common.{ℕ, ◌+◌, ◌≤◌, ◌∙◌, ap, arith, refl, rules, sym}
 use Rattle.register_program.specs.declared.attendance.Attendance.{Attendance}
 use Rattle.register_program.proofs.Served.{ends_serving, explains_end, not_store, served_none, served_next, served_all, served_last}
+use Rattle.register_desk.proofs.Goings.{still}
+use Rattle.register_program.proofs.Served.{goes_on_by, leaves_at_end, leaves_at_fault, leaves_by}
 use Rattle.register_program.proofs.serving.serve_on.Goals as goal
 
 pub exchanges-init : goal.exchanges-init
@@ -10,6 +12,7 @@ exchanges-init g c = record {
   within = omega arith;
   accepted = ap (λ (a : Attendance). a.accepted) c.requires;
   sound = ap (λ (a : Attendance). a.failed) c.requires;
+  goes_on = still _ _;
 }
 
 pub exchanges-preserved : goal.exchanges-preserved
@@ -25,6 +28,9 @@ exchanges-preserved g c = record {
       ∙ ap (λ (n : ℕ). n + 1) c.exchanges.invariant.accepted;
   sound = ap (λ (a : Attendance). a.failed) (c.in-Some-tell_moment.ensures.tells ∙ c.in-Some.ensures.counts)
       ∙ c.exchanges.invariant.sound;
+  goes_on = goes_on_by _ _ c.exchanges.desk _ c.serve_connection-finish.result c.exchanges.invariant.goes_on
+      c.serve_connection-finish.ensures.desk
+      (not_store c.serve_connection-finish.result (sym c.may_serve_on.ensures ∙ c.if-not-may_serve_on.false));
 }
 
 pub returns-in_default : goal.returns-in_default
@@ -34,6 +40,7 @@ returns-in_default g c = record {
   clean = c.exchanges.invariant.clean;
   ends = tt;
   cause = search rules;
+  desk = leaves_at_fault _ _ c.exchanges.desk c.exchanges.invariant.goes_on;
 }
 
 pub returns-in_default-tell_moment : goal.returns-in_default-tell_moment
@@ -43,6 +50,7 @@ returns-in_default-tell_moment g c = record {
   clean = c.exchanges.invariant.clean;
   ends = tt;
   cause = search rules;
+  desk = leaves_at_fault _ _ c.exchanges.desk c.exchanges.invariant.goes_on;
 }
 
 pub returns-then-not-may_serve_on : goal.returns-then-not-may_serve_on
@@ -59,6 +67,7 @@ returns-then-not-may_serve_on g c =
       clean = λ clean. c.exchanges.invariant.clean (finish.ensures.clean clean);
       ends = ends_serving finish.result on;
       cause = explains_end finish.result c.args.exchanges c.tell_moment.new.self on (omega (arith, counted));
+      desk = leaves_by _ _ c.exchanges.desk _ finish.result c.exchanges.invariant.goes_on finish.ensures.desk on;
     }
 
 pub returns : goal.returns
@@ -71,4 +80,5 @@ returns g c = record {
     omega (arith, c.exchanges.invariant.within, c.exchanges.invariant.accepted, c.exchanges-test.false),
     c.exchanges.invariant.sound,
   );
+  desk = leaves_at_end _ _ c.exchanges.desk c.exchanges.invariant.goes_on;
 }

@@ -1,7 +1,7 @@
 -- After each exchange the desk is whole and of some items more.
 use Rattle.std.proofs.Common.{◌≡◌, ◌-◌, ◌≤◌, List, false}
 use Rattle.register_requests.specs.declared.request.Request.{Request}
-use Rattle.register_desk.specs.Desk.{IsClean, IsWhole}
+use Rattle.register_desk.specs.Desk.{GoesOn, IsClean, IsWhole}
 use Rattle.register_desk.specs.Register.{StandsFor}
 use Rattle.register_program.specs.Within.ServedExchanges.{StandsForSome}
 use Rattle.register_program.proofs.serving.serve_on.Given as goal
@@ -14,6 +14,7 @@ invariant-exchanges g l = record {
   within : l.served ≤ l.exchanges;
   accepted : l.attendance.accepted ≡ l.served;
   sound : l.attendance.failed ≡ false;
+  goes_on : GoesOn l.fn.desk l.desk;
 }
 
 abbrev pub decreases-exchanges : goal.decreases-exchanges

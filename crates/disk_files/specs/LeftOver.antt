@@ -1,0 +1,26 @@
+-- What may be left of files on a disk that could not be opened.
+use Rattle.std.specs.Prelude.{◌≡◌, Option, None, Some}
+use Rattle.sqlite_disk.specs.declared.Disk.{Ghosts}
+use Rattle.sqlite_store.specs.FileStore.{recovers}
+use Rattle.sqlite_store.specs.Unopened.{state_of}
+use Rattle.sqlite.specs.declared.file.Leftover.{Leftover}
+use Rattle.sqlite.specs.declared.file.Leftover.TheVariants as left
+use Rattle.sqlite.specs.Files.{HoldsDatabase, IsCleanLeft}
+use Rattle.sqlite.specs.Recovery.{Image}
+use Rattle.sqlite.specs.Tree.{Trees}
+use Rattle.sqlite.specs.WalFiles.{outcomes}
+use Rattle.register_program.specs.Closing.{StandsAs}
+
+module _ {D : Type 0} {g : Ghosts D} (found : Image) where
+  -- What a stop leaves of files that were opened and given back. Of an opening that failed while it recovered the log or
+  -- made a first page the kit says what the next one takes, and not in every case that this stands for what was found,
+  -- so that is asked for.
+  abbrev pub IsLeftOf : Leftover D g → Image → Type 0
+  IsLeftOf (left.Files now) image = outcomes g now.log now.db image
+  IsLeftOf (left.Unopened now) image = (state_of now).may_leave image × StandsAs found image
+  IsLeftOf (left.Store now) image = (db : Trees) × recovers now db × HoldsDatabase image db
+
+  -- on a disk that gave back what was written; files that were not opened at all are as they were
+  abbrev pub MayBeLeft : Option (Leftover D g) → Image → Type 0
+  MayBeLeft None image = image ≡ found
+  MayBeLeft (Some left) image = IsCleanLeft left × IsLeftOf left image

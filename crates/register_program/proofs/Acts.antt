@@ -1,0 +1,65 @@
+-- What was done without words, and by a job.
+use Rattle.std.proofs.Common.{◌≡◌, ℕ, List, Option, Some, Result, Ok, Err, IfOk, IfErr, OnErr, inl, inr, ap, subst, sym}
+use Rattle.sqlite_trees.specs.declared.store.Store.{Ghosts}
+use Rattle.sqlite.specs.Recovery.{Image}
+use Rattle.register_requests.specs.declared.request.Request.{Request}
+use Rattle.register_desk.specs.declared.opening.OpenRefusal.{OpenRefusal}
+use Rattle.register_desk.specs.declared.runs.Outcome.{Outcome}
+use Rattle.register_desk.specs.InMemory.{RunsInMemory}
+use Rattle.register_desk.specs.Input.{HasItems}
+use Rattle.register_desk.specs.Run.{LeavesReader, LeavesWriter}
+use Rattle.register_words.specs.declared.words.Job.{Job}
+use Rattle.register_program.specs.declared.acting.Done.{Done}
+use Rattle.register_program.specs.declared.acting.Inputs.{Inputs}
+use Rattle.register_program.specs.Act.{Acts}
+use Rattle.register_program.specs.Alone.{RunsWithoutFile, end_alone}
+use Rattle.register_program.specs.Ends.{BlamesStreams, NoOther}
+use Rattle.register_program.specs.Job.{EndsSo, Performs, status_after}
+use Rattle.streams.specs.declared.watched.Watched.{Watched}
+
+-- ---- over no file
+
+pub acts_alone : (input old new : Option (List ℕ)) (came : Result Outcome OpenRefusal) (status : ℕ)
+    → status ≡ status_after (end_alone came) → RunsWithoutFile input old new came
+    → (bytes : List ℕ) (items : List (Option Request)) (rest : List ℕ) → input ≡ Some bytes → HasItems bytes items rest
+    → Acts items rest status old new
+acts_alone input old new (Ok outcome) status told runs bytes items rest known cut =
+    inr (record { outcome = outcome; runs = runs bytes items rest known cut; status_is = told })
+acts_alone input old new (Err refusal) status told same bytes items rest known cut =
+    inl (record { status_is = told; same = same })
+
+pub ran_without_file : (input old new : Option (List ℕ)) (came : Result Outcome OpenRefusal)
+    → IfOk came (RunsInMemory input old new) → OnErr came (new ≡ old) → RunsWithoutFile input old new came
+ran_without_file input old new (Ok outcome) runs same = runs
+ran_without_file input old new (Err refusal) runs same = same
+
+pub blames_streams : {R W E : Type 0} (remaining : R → Option (List ℕ)) (contents : W → Option (List ℕ))
+    (reader reader_new : Watched R) (writer writer_new : Watched W) (came : Result Outcome E)
+    → IfOk came (LeavesReader remaining reader reader_new) → IfOk came (LeavesWriter contents writer writer_new)
+    → IfOk came (BlamesStreams NoOther reader_new writer_new)
+blames_streams remaining contents reader reader_new writer writer_new (Ok outcome) reads writes =
+    record { reads = λ is. inl (reads.fault is); writes = writes.fault }
+blames_streams remaining contents reader reader_new writer writer_new (Err refusal) reads writes = tt
+
+-- ---- by a job
+
+-- a writer that is as it was has got nothing
+pub untouched : {W A E : Type 0} (contents : W → Option (List ℕ)) (r : Result A E) (old new : W)
+    → IfErr r (λ _. new ≡ old) → OnErr r (contents new ≡ contents old)
+untouched contents (Ok x) old new same = tt
+untouched contents (Err e) old new same = ap contents same
+
+-- a job that was told apart
+pub performs_as : {S U : Type 0} (g : Ghosts S) (may_leave : S → Image → Type 0) (may_stay : U → Image → Type 0)
+    (found : Image) (input old new : Option (List ℕ)) (done : Done S U) (given job : Job) → given ≡ job
+    → Performs g may_leave may_stay found job input old new done → Performs g may_leave may_stay found given input old new done
+performs_as g may_leave may_stay found input old new done given job is performs =
+    subst (λ (it : Job). Performs g may_leave may_stay found it input old new done) (sym is) performs
+
+-- and what it ended by
+pub ends_so : {R W X E : Type 0} (input : Option (List ℕ)) (inputs : Inputs R) (writer : Watched W) (given job : Job)
+    → given ≡ job → (outcome : X → Outcome) (came : Result X E)
+    → IfOk came (λ it. EndsSo job input inputs writer (outcome it))
+    → IfOk came (λ it. EndsSo given input inputs writer (outcome it))
+ends_so input inputs writer given job is outcome came ends =
+    subst (λ (it : Job). IfOk came (λ x. EndsSo it input inputs writer (outcome x))) (sym is) ends

@@ -1,0 +1,30 @@
+-- What the program does where it has no words but its own name, and so no file.
+use Rattle.std.specs.Prelude.{◌≡◌, ℕ, List, Option, Result, Ok, Err, IfOk}
+use Rattle.streams.specs.declared.watched.Watched.{Watched}
+use Rattle.register_desk.specs.declared.opening.OpenRefusal.{OpenRefusal}
+use Rattle.register_desk.specs.declared.runs.Finish.{Finish}
+use Rattle.register_desk.specs.declared.runs.Outcome.{Outcome}
+use Rattle.register_desk.specs.InMemory.{RunsInMemory}
+use Rattle.register_program.specs.declared.acting.Outputs.{Outputs}
+use Rattle.register_program.specs.Ends.{BlamesStreams, NoOther}
+use Rattle.register_program.specs.Faults.{Tells}
+use Rattle.register_program.specs.Job.{line_after, status_after}
+
+-- request lines over a register in memory, or none was made and nothing was written
+abbrev pub RunsWithoutFile : Option (List ℕ) → Option (List ℕ) → Option (List ℕ) → Result Outcome OpenRefusal → Type 0
+RunsWithoutFile input old new (Ok outcome) = RunsInMemory input old new outcome
+RunsWithoutFile input old new (Err refusal) = new ≡ old
+
+-- how that ended
+abbrev pub end_alone : Result Outcome OpenRefusal → Result Finish OpenRefusal
+end_alone (Ok outcome) = Ok outcome.end
+end_alone (Err refusal) = Err refusal
+
+module _ {R W E : Type 0} (written : W → Option (List ℕ)) (told : E → Option (List ℕ)) where
+  -- It was run over this input; the status is that of what this came to, which the writer of faults was told.
+  pub record ActsAlone (input : Option (List ℕ)) (reader : Watched R) (old new : Outputs W E) (status : ℕ) : Type 0 where
+    pub came : Result Outcome OpenRefusal
+    pub runs : RunsWithoutFile input (written old.writer.inner) (written new.writer.inner) came
+    pub ends : IfOk came (BlamesStreams NoOther reader new.writer)
+    pub tells : Tells told (line_after (end_alone came)) old.faults new.faults
+    pub status_is : status ≡ status_after (end_alone came)

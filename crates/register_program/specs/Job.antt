@@ -1,0 +1,69 @@
+-- What comes of a job over a register in a file.
+use Rattle.std.specs.Prelude.{◌≡◌, ℕ, List, Option, Result, Ok, Err, IfOk, OnErr}
+use Rattle.sqlite_trees.specs.declared.store.Store.{Ghosts}
+use Rattle.sqlite.specs.Recovery.{Image}
+use Rattle.register_desk.specs.declared.opening.OpenRefusal.{OpenRefusal}
+use Rattle.register_desk.specs.declared.runs.Finish.{Finish}
+use Rattle.register_desk.specs.declared.runs.Finish.TheVariants.{AtEnd}
+use Rattle.register_desk.specs.declared.runs.Outcome.{Outcome}
+use Rattle.streams.specs.declared.watched.Watched.{Watched}
+use Rattle.register_words.specs.declared.words.Job.{Job}
+use Rattle.register_words.specs.declared.words.Job.TheVariants.{Init, Run, Import, Export, Report, Serve}
+use Rattle.register_program.specs.declared.acting.Done.{Done}
+use Rattle.register_program.specs.declared.acting.Done.TheVariants.{Made, Lived}
+use Rattle.register_program.specs.declared.acting.Inputs.{Inputs}
+use Rattle.register_program.specs.Act.{unopened_status, status_of}
+use Rattle.register_program.specs.Ends.{BlamesRecord, BlamesStreams, BlamesWriter, NoOther}
+use Rattle.register_program.specs.Faults.{finish_line, refusal_line}
+use Rattle.register_program.specs.FileCalls.{Exports, ImportsRows, MakesRegister, Reports, RunsLines, ServesExchanges}
+use Rattle.register_program.specs.ServedExchanges.{ExplainsEnd}
+
+-- how it ended: at an end of the register, which one that was made has not, or before that
+abbrev pub end_of : {S U : Type 0} → Done S U → Result Finish OpenRefusal
+end_of (Made (Ok closed)) = Ok (AtEnd 0)
+end_of (Made (Err refused)) = Err refused.refusal
+end_of (Lived (Ok life)) = Ok life.outcome.end
+end_of (Lived (Err refused)) = Err refused.refusal
+
+-- the exit status after such an end
+abbrev pub status_after : Result Finish OpenRefusal → ℕ
+status_after (Ok finish) = status_of finish
+status_after (Err refusal) = unopened_status
+
+-- what is said of it on the writer of faults
+abbrev pub line_after : Result Finish OpenRefusal → List ℕ
+line_after (Ok finish) = finish_line finish
+line_after (Err refusal) = refusal_line refusal
+
+module _ {S U : Type 0} (g : Ghosts S) (may_leave : S → Image → Type 0) (may_stay : U → Image → Type 0)
+    (found : Image) where
+  -- A job comes to what the call that it names comes to. Nothing is written where the register is not opened, nor by a
+  -- job that serves connections.
+  abbrev pub Performs : Job → Option (List ℕ) → Option (List ℕ) → Option (List ℕ) → Done S U → Type 0
+  Performs Init input old new (Made came) = MakesRegister g may_leave may_stay found came × (new ≡ old)
+  Performs Run input old new (Lived came) =
+      RunsLines g may_leave may_stay found input old new came × OnErr came (new ≡ old)
+  Performs (Import terms) input old new (Lived came) =
+      ImportsRows g may_leave may_stay found terms input old new came × OnErr came (new ≡ old)
+  Performs Export input old new (Lived came) =
+      Exports g may_leave may_stay found old new came × OnErr came (new ≡ old)
+  Performs (Report days) input old new (Lived came) =
+      Reports g may_leave may_stay found days old new came × OnErr came (new ≡ old)
+  Performs (Serve bounds) input old new (Lived came) =
+      ServesExchanges g may_leave may_stay found bounds.exchanges came × (new ≡ old)
+  Performs job input old new done = ⊥
+
+-- what ended a life of a register by this job has its cause where it is blamed
+abbrev pub EndsSo : {R W : Type 0} → Job → Option (List ℕ) → Inputs R → Watched W → Outcome → Type 0
+EndsSo Init input inputs writer outcome = ⊥
+EndsSo Run input inputs writer outcome = BlamesStreams NoOther inputs.reader writer outcome
+EndsSo (Import terms) input inputs writer outcome =
+    BlamesStreams (BlamesRecord input) inputs.reader writer outcome
+EndsSo Export input inputs writer outcome = BlamesWriter writer outcome
+EndsSo (Report days) input inputs writer outcome = BlamesWriter writer outcome
+EndsSo (Serve bounds) input inputs writer outcome =
+    ExplainsEnd bounds.exchanges inputs.attendance outcome.end
+
+abbrev pub EndsFor : {R W S U : Type 0} → Job → Option (List ℕ) → Inputs R → Watched W → Done S U → Type 0
+EndsFor job input inputs writer (Made came) = Unit {0}
+EndsFor job input inputs writer (Lived came) = IfOk came (λ life. EndsSo job input inputs writer life.outcome)

@@ -1,0 +1,18 @@
+-- What a command of the words asks for.
+use Rattle.std.specs.Prelude.{◌≡◌, ℕ}
+use Rattle.register_words.specs.declared.values.Bounds.{Bounds}
+use Rattle.register_words.specs.declared.values.Terms.{Terms}
+use Rattle.register_words.specs.declared.words.GivenJob.{GivenJob}
+use Rattle.register_words.specs.declared.words.GivenJob.TheVariants as given
+use Rattle.register_words.specs.declared.words.Job.{Job}
+use Rattle.register_words.specs.declared.words.Job.TheVariants as job
+use Rattle.register_words.specs.Values.{AreBounds, AreTerms, IsDays}
+
+-- it is this job, of the values that were given
+abbrev pub IsJob : GivenJob → Job → Type 0
+IsJob given.Init it = it ≡ job.Init
+IsJob given.Run it = it ≡ job.Run
+IsJob (given.Import terms) it = (value : Terms) × AreTerms terms value × (it ≡ job.Import value)
+IsJob given.Export it = it ≡ job.Export
+IsJob (given.Report days) it = (value : ℕ) × IsDays days.now value × (it ≡ job.Report value)
+IsJob (given.Serve bounds) it = (value : Bounds) × AreBounds bounds value × (it ≡ job.Serve value)
