@@ -90,8 +90,10 @@ REST = (
     Part("desk_in_browser.py", 3600, cores=2),
     Part("desk_in_firefox.py", 300, commands=("firefox-esr",)),
     Part("timeline_drawn.py", 900, cores=2, commands=("pdftotext",)),
-    Part("packaged.py", 1800, commands=(*ROOT_OF_DEBIAN, "lintian", "tmux", "zsh", "fish", "readelf"), is_roots=True),
-    Part("in_systemd.py", 3600, commands=ROOT_OF_DEBIAN, is_roots=True),
+    # These two make packages/ anew, so neither runs beside the other.
+    Part("packaged.py", 1800, cores=2, is_roots=True,
+         commands=(*ROOT_OF_DEBIAN, "lintian", "tmux", "zsh", "fish", "readelf")),
+    Part("in_systemd.py", 3600, cores=2, commands=ROOT_OF_DEBIAN, is_roots=True),
     Part("same_package.py", 900, commands=("readelf",)),
     Part("completed.py", 300, commands=("tmux", "zsh", "fish")),
     Part("client_tried.py", 900),
