@@ -42,7 +42,7 @@ use register_program::{
     Attendance, Inputs, Machine, Outputs, act, act_in_memory, read_task, report_bad_value,
     report_end,
 };
-use register_words::Task;
+use register_words::{Task, read_words};
 use sqlite::{Start, Wary};
 use std::env;
 use std::io::{self, ErrorKind, Read, Write};
@@ -62,7 +62,8 @@ fn act_on_disk<S: Start, R: Read + Drop, W: Write, E: Write>(
     ensures acts { length words.now ≤ 1 → ActsInMemory (R.remaining reader) result
         (W.contents outputs.old.writer.inner) (W.contents outputs.new.writer.inner) }
 {
-    match read_task(rt.alloc(), words, &mut outputs.faults) {
+    let given = read_words(rt.alloc(), words);
+    match read_task(rt.alloc(), &given, &mut outputs.faults) {
         Ok(Task::RunInMemory) => act_in_memory(rt.alloc(), &mut Watched::new(reader), outputs),
         Ok(Task::InFile { file, job }) => {
             let machine = Machine {

@@ -56,8 +56,8 @@ That the program's runs take this step is a clause of `act` (`leads`), of any jo
 `Performs` says all that a job does, so of exports, reports, refusals and what an opening checks too, and `EndsFor` why
 it ended. They stand on half as many definitions again, which this page leaves out: the step needs none of them. A run
 names no `Files`, since each has its own: what its path holds at first (`start`) is what it found. The machine's are
-`DiskFiles`. Words that are none, or that name no file, reach none: `read_task` and `act_in_memory` are not given any.
-To be read is `main`, with `act_on_disk`, which calls these three; `checks/given.py` holds every word of it.
+`DiskFiles`. Words that are none, or that name no file, reach none: `read_words`, `read_task` and `act_in_memory` are not
+given any. To be read is `main`, with `act_on_disk`, which calls these; `checks/given.py` holds every word of it.
 
 What an opening finds in files that hold a register is a part of the contract of `open_file`, which each command calls
 that needs it; so an opening of what runs left finds what they come to:
@@ -80,10 +80,10 @@ that needs it; so an opening of what runs left finds what they come to:
 | and at most one more | `one_more` of each life: nothing stands past the line of what was applied |
 | every key's state is the one its dates and the latest accepted moment give | so `tables` have it, by `key_of` |
 
-Its premises beside the sentence's own are two, of which the kit says nothing: a store that a fault shut while its log
-was copied is numbered still (`LeftIn`, part `numbered`); and what an opening left that failed while it recovered a log
-or made a first page stands for what it found (`IsLeftOf` of `disk_files`; of every other failed opening that is
-proved). What README lists as trusted is trusted here too.
+Its premises beside the sentence's own are two, in the kit's words, of which the kit says nothing: a store that a fault
+shut while its log was copied is numbered still (`LeftIn`, part `numbered`); and the files that an opening left which
+failed while it recovered a log hold the database that they held (`KeepsDatabase` of `disk_files`; of every other failed
+opening that is proved). What README lists as trusted is trusted here too.
 
 What it does not say: that an opening succeeds, since memory may give out or the disk refuse; of exchanges any reply,
 since no contract knows the bytes of a connection; of an import that its items are those of its rows, which the contract

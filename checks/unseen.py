@@ -10,6 +10,10 @@
 - Whether memory gave out: the end 30, and the error that becomes it, is told in the places of TOLD,
   behind a call that asks for memory, or where a count of bytes would pass 2^64. None asks for room
   beforehand, so that no more is asked for than a value needs.
+- Whether a call of the database was refused, which no contract of `sqlite`'s ties to what it left:
+  the end 31, the refusal and the errors that become it, and the mark of a broken desk, are made in
+  the places of REFUSED, each behind such a call, or behind a row that no register holds. The one
+  `sqlite::Error` that is made here is that of rows past 2^64.
 - How often a connection was called: each function of `Counted` makes the calls of CALLS, once.
 """
 import collections
@@ -68,6 +72,28 @@ TOLD = {
 # A value, and no pattern of a match, nor of an `if let`, nor a type.
 MEMORY = re.compile(r"\b(?:End|OpenRefusal|AskFault|StoreError|CheckError|RowsError)::Memory\b"
                     r"(?!\)*\s*(?:=>|=[^=]|\|)|\.fmt)|(?<![<,:] )(?<!<)\bAllocError\b(?!>)")
+
+# In how many places a file tells so that a call of the database was refused.
+REFUSED = {
+    "disk_files/src/disk_files.rt": 2,
+    "register_desk/src/desk.rt": 3,
+    "register_desk/src/desk/applying.rt": 3,
+    "register_desk/src/desk/listing.rt": 2,
+    "register_desk/src/desk/look_ups.rt": 5,
+    "register_desk/src/desk/showing.rt": 1,
+    "register_desk/src/memory.rt": 1,
+    "register_desk/src/opening.rt": 2,
+    "register_desk/src/rows.rt": 1,
+    "register_program/src/faults.rt": 1,
+    "register_report/src/table_writing.rt": 1,
+    "register_store/src/counted.rt": 3,
+    "register_store/src/error.rt": 4,
+    "register_store/src/stored_key.rt": 1,
+    "row_checks/src/reading.rt": 4,
+}
+REFUSAL = re.compile(r"\b(?:(?:End|OpenRefusal)::Store|StoreError::NoRegister"
+                     r"|(?:StoreError|CheckError|CreateError|RowsError)::Database|(?<!\w)Error::SqliteFailure)\b"
+                     r"(?!(?:\([^()]*\))?\)*\s*(?:=>|=[^=]|\|)|\.fmt)|\bbreak_desk\(\)|\bis_broken = |\bis_broken: true")
 
 # What asks for room beforehand, whose refusal is want of memory.
 ROOM = re.compile(r"\b(?:with_capacity|(?:try_)?reserve(?:_exact)?|from_elem)\b|\bvec!\[[^\]]*;")
@@ -132,17 +158,23 @@ def attended_faults() -> list[str]:
             for name in sorted(found.keys() | ATTENDED.keys()) if found.get(name) != ATTENDED.get(name)]
 
 
-def memory_faults() -> list[str]:
-    """Where want of memory is told in more places than it should be, or in fewer, or room is asked for beforehand."""
-    told, faults = {}, []
-    for path in sorted(CRATES.glob("*/src/**/*.rt")):
-        name = str(path.relative_to(CRATES))
-        if not name.startswith("test_"):
-            lines = [line for line in code(path) if "use " not in line and "ensures" not in line]
-            told[name] = sum(len(MEMORY.findall(line)) for line in lines)
-            faults += [f"{name} asks for room: {line.strip()}" for line in lines if ROOM.search(line)]
-    return faults + [f"{name} tells want of memory in {told.get(name, 0)} places, and not in {TOLD.get(name, 0)}"
-                     for name in sorted(told.keys() | TOLD.keys()) if told.get(name, 0) != TOLD.get(name, 0)]
+def told_faults(what: str, told: re.Pattern, table: dict[str, int]) -> list[str]:
+    """Where this is told in more places than it should be, or in fewer."""
+    found = {name: sum(len(told.findall(line)) for line in lines) for name, lines in bodies_of_crates()}
+    return [f"{name} tells {what} in {found.get(name, 0)} places, and not in {table.get(name, 0)}"
+            for name in sorted(found.keys() | table.keys()) if found.get(name, 0) != table.get(name, 0)]
+
+
+def bodies_of_crates() -> list[tuple[str, list[str]]]:
+    """The files of crates that are no tests, with their lines but for imports and clauses."""
+    return [(str(path.relative_to(CRATES)), [line for line in code(path) if "use " not in line and "ensures" not in line])
+            for path in sorted(CRATES.glob("*/src/**/*.rt")) if not path.relative_to(CRATES).parts[0].startswith("test_")]
+
+
+def room_faults() -> list[str]:
+    """Where room is asked for beforehand."""
+    return [f"{name} asks for room: {line.strip()}"
+            for name, lines in bodies_of_crates() for line in lines if ROOM.search(line)]
 
 
 def call_faults() -> list[str]:
@@ -159,9 +191,10 @@ def call_faults() -> list[str]:
 
 
 def main() -> int:
-    faults = mark_faults() + attended_faults() + memory_faults() + call_faults()
+    faults = mark_faults() + attended_faults() + room_faults() + call_faults()
+    faults += told_faults("want of memory", MEMORY, TOLD) + told_faults("a refused call", REFUSAL, REFUSED)
     print(*faults, sep="\n", end="\n" if faults else "")
-    print(f"marks of streams, {sum(TOLD.values())} places that tell want of memory, "
+    print(f"marks of streams, {sum(TOLD.values())} places that tell want of memory, {sum(REFUSED.values())} a refused call, "
           f"{len(CALLS)} functions that call a connection: {len(faults)} faults")
     return 1 if faults else 0
 

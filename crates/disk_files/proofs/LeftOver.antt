@@ -1,5 +1,6 @@
 -- What is left of files that could not be opened stands for what was found.
 use Rattle.std.proofs.Common.{◌≡◌, Bool, List, [], ◌∷◌, Option, None, Some, ℕ, cond, inl, inr, subst, subst₂, sym}
+use Rattle.std.proofs.Math.Logic.{∥∥₁_map}
 use Rattle.std.specs.Prelude.{IfSome}
 use Rattle.sqlite.specs.WalFiles.{outcomes}
 use Rattle.sqlite_disk.specs.Events.{Event, replay, settled}
@@ -8,13 +9,14 @@ use Rattle.sqlite_disk.specs.declared.Disk.{Ghosts}
 use Rattle.sqlite_disk.specs.declared.Files.{Files}
 use Rattle.sqlite.specs.declared.file.Leftover.{Leftover}
 use Rattle.sqlite.specs.declared.file.Leftover.TheVariants as left
-use Rattle.sqlite.specs.Files.{HoldsDatabase, AreFoundIn, IsCleanLeft, LeavesFiles, image_of}
+use Rattle.sqlite.proofs.FileLemmas.{is_something}
+use Rattle.sqlite.specs.Files.{HoldsDatabase, AreFoundIn, IsCleanLeft, IsNothing, IsUnderWay, LeavesFiles, image_of}
 use Rattle.sqlite.specs.Recovery.{Image}
 use Rattle.sqlite.specs.Tree.{Trees}
 use Rattle.register_desk.proofs.Found.{finds_empty}
 use Rattle.register_desk.specs.DatabaseFiles.{HoldsNothing}
 use Rattle.register_program.specs.Closing.{StandsAs}
-use Rattle.disk_files.specs.LeftOver.{IsLeftOf, MayBeLeft}
+use Rattle.disk_files.specs.LeftOver.{IsLeftOf, KeepsDatabase, MayBeLeft}
 
 -- what is there still stands for itself
 pub stands_still : (found left : Image) → left ≡ found → StandsAs found left
@@ -37,6 +39,25 @@ leaves_only mixes log db c is_log given history key is fresh may =
     elim (subst₂ (LeavesOf mixes log db c) is fresh may) [ inl same ↦ same | inr same ↦ same ]
 
 module _ {D : Type 0} {g : Ghosts D} (found : Image) where
+  -- where there was no database none is lost, whatever a first page was made of
+  under_way : (files : Files D) → ((image : Image) → outcomes g files.log files.db image → image ≡ found)
+      → IsNothing found → (image : Image) → IsUnderWay g files image → ∥ StandsAs found image ∥₁
+  under_way files only none image (inl same) = ∣ stands_still found image (only image same) ∣₁
+  under_way files only none image (inr (inl blank)) = ∣ record {
+    database = λ db holds. absurd (is_something found db holds none);
+    nothing = λ nothing. inl blank;
+  } ∣₁
+  under_way files only none image (inr (inr empty)) = ∥∥₁_map empty (λ one. record {
+    database = λ db holds. absurd (is_something found db holds none);
+    nothing = λ nothing. inr one;
+  })
+
+  -- an empty database stays one
+  still_nothing : (image : Image) → KeepsDatabase found image → ¬ IsNothing found → HoldsNothing found
+      → HoldsNothing image
+  still_nothing image keeps some (inl none) = absurd (some none)
+  still_nothing image keeps some (inr empty) = inr (empty.0, keeps empty.0 empty.1, empty.2)
+
   -- of files that were given back
   stands_left : (files : Files D) → image_of g files ≡ found
       → ((image : Image) → outcomes g files.log files.db image → image ≡ found)
@@ -44,7 +65,13 @@ module _ {D : Type 0} {g : Ghosts D} (found : Image) where
       → ∥ StandsAs found image ∥₁
   stands_left files seen only (left.Files now) leaves image may =
       ∣ stands_still found image (only image (leaves image may)) ∣₁
-  stands_left files seen only (left.Unopened now) leaves image may = ∣ may.1 ∣₁
+  stands_left files seen only (left.Unopened now) leaves image may = elim leaves [
+    | inl new ↦ under_way files only (subst IsNothing seen new.0) image (new.1 image may.0)
+    | inr old ↦ ∣ record {
+      database = may.1;
+      nothing = still_nothing image may.1 (λ none. old.0 (subst IsNothing (sym seen) none));
+    } ∣₁
+  ]
   stands_left files seen only (left.Store now) leaves image one =
       let is = leaves one.0 one.1 in
       let same = λ (other : Trees) (holds : HoldsDatabase found other).

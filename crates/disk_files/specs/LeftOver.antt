@@ -9,15 +9,17 @@ use Rattle.sqlite.specs.Files.{HoldsDatabase, IsCleanLeft}
 use Rattle.sqlite.specs.Recovery.{Image}
 use Rattle.sqlite.specs.Tree.{Trees}
 use Rattle.sqlite.specs.WalFiles.{outcomes}
-use Rattle.register_program.specs.Closing.{StandsAs}
+
+-- the database that the files held, if they held one, they hold
+abbrev pub KeepsDatabase : Image → Image → Type 0
+KeepsDatabase found image = (db : Trees) → HoldsDatabase found db → HoldsDatabase image db
 
 module _ {D : Type 0} {g : Ghosts D} (found : Image) where
-  -- What a stop leaves of files that were opened and given back. Of an opening that failed while it recovered the log or
-  -- made a first page the kit says what the next one takes, and not in every case that this stands for what was found,
-  -- so that is asked for.
+  -- What a stop leaves of files that were opened and given back. Of an opening that failed while it recovered a log the
+  -- kit does not say that they hold the database that they held, so that is asked for.
   abbrev pub IsLeftOf : Leftover D g → Image → Type 0
   IsLeftOf (left.Files now) image = outcomes g now.log now.db image
-  IsLeftOf (left.Unopened now) image = (state_of now).may_leave image × StandsAs found image
+  IsLeftOf (left.Unopened now) image = (state_of now).may_leave image × KeepsDatabase found image
   IsLeftOf (left.Store now) image = (db : Trees) × recovers now db × HoldsDatabase image db
 
   -- on a disk that gave back what was written; files that were not opened at all are as they were

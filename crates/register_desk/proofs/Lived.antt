@@ -13,14 +13,9 @@ use Rattle.register_desk.specs.declared.end.End.TheVariants.{Memory, Store, Brok
 use Rattle.register_desk.specs.declared.runs.Finish.{Finish}
 use Rattle.register_desk.specs.declared.runs.Finish.TheVariants.{AtEnd, Ended}
 use Rattle.register_desk.specs.declared.desk.Desk.{Desk}
-use Rattle.std.proofs.Math.Logic.{∥∥₁_map, ∥∥₁_elim}
-use Rattle.sqlite.specs.Recovery.{Image}
-use Rattle.register_core.specs.Fold.{IsLawful}
-use Rattle.register_desk.proofs.Lives.{empty_lawful, lawful_on}
-use Rattle.register_desk.specs.DatabaseFiles.{FileLife, HoldsAfter, HoldsOneOf, HoldsRegister, LeadOn, left_by}
 use Rattle.register_desk.specs.Input.{AreItems}
 use Rattle.register_desk.specs.Desk.{IsClean, IsWhole}
-use Rattle.register_desk.specs.Lives.{after, applied, AreInRange, IsLife, LeavesLife, life_of, LivesSome}
+use Rattle.register_desk.specs.Lives.{after, AreInRange, IsLife, LeavesLife, life_of, LivesSome}
 use Rattle.register_desk.specs.Lives.{MayApplyOneMore}
 use Rattle.register_desk.specs.Register.{StandsFor, tables}
 use Rattle.register_desk.specs.Run.{Answered, LeavesDesk, RunsOver}
@@ -128,26 +123,3 @@ module _ {S : Type 0} (g : Ghosts S) (h : List Request) (items : List (Option Re
       → LivesSome g h end replies old new kept now
   lived_alone rest end old new kept may whole answered over =
       record { items = items; rest = rest; over = over; leaves = λ was. none_more end old new may (whole was) answered }
-
--- ---- one life after the other, in files
-
-pub lives_on : (all : List FileLife) (h : List Request) (found : Image) → IsLawful h → HoldsRegister h found
-    → LeadOn found all → ∥ HoldsAfter h all (left_by found all) ∥₁
-lives_on [] h found lawful holds lead = ∣ record { lives = []; were = tt; lawful = lawful; holds = holds } ∣₁
-lives_on (it ∷ all) h found lawful holds lead =
-    ∥∥₁_elim (lead.0 h lawful holds) squash₁ (λ one.
-    let lawful_next = lawful_on one.0.items h (applied one.0) lawful one.1.in_range in
-    ∥∥₁_map (lives_on all (after h one.0) it.left lawful_next one.2 lead.1)
-    (λ rest. record {
-      lives = one.0 ∷ rest.lives;
-      were = (one.1, rest.were);
-      lawful = rest.lawful;
-      holds = rest.holds;
-    }))
-
-pub lives_begun : (found : Image) (all : List FileLife) → HoldsOneOf [] [] found → LeadOn found all
-    → ∥ HoldsAfter [] all (left_by found all) ∥₁
-lives_begun found all holds lead = ∥∥₁_elim holds squash₁ (λ one. elim one [
-  | inl here ↦ lives_on all [] found empty_lawful here lead
-  | inr here ↦ lives_on all [] found empty_lawful here lead
-])

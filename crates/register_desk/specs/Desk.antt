@@ -1,5 +1,5 @@
 -- What the calls of a desk leave.
-use Rattle.std.specs.Prelude.{◌≡◌, ◌⊎◌, ◌<◌, ◌≤◌, ℕ, true, false, List, [], ◌∷◌, Option, None, Some, Result}
+use Rattle.std.specs.Prelude.{◌≡◌, ◌⊎◌, ◌<◌, ◌≤◌, ℕ, Bool, true, false, List, [], ◌∷◌, Option, None, Some, Result}
 use Rattle.std.specs.Prelude.{IfErr, IfOk, IsTrue, MatchResult, OnErr, OnOk}
 use Rattle.sqlite_trees.specs.declared.store.Store.{Ghosts}
 use Rattle.sqlite.specs.State.{HasCleanDisk, Survives}
@@ -15,6 +15,7 @@ use Rattle.register_store.specs.Tables.{Tables}
 use Rattle.register_store.specs.TableReads.{Calls, HasRequest, seen}
 use Rattle.register_desk.specs.TablesView.{judgement_over, reply_over, tables_after, verdict_over, with_accepted}
 use Rattle.register_desk.specs.declared.desk.Desk.{Desk}
+use Rattle.register_desk.specs.declared.desk.DeskMark.{DeskMark}
 use Rattle.register_desk.specs.declared.end.End.{End}
 use Rattle.register_desk.specs.declared.end.End.TheVariants.{Memory, Store, Broken, ReadFault, WriteFault, BadHeader}
 use Rattle.register_desk.specs.Register.{IsOver, Sees, Leaves, LeavesOneOf, LeavesEitherOf, StandsFor}
@@ -30,6 +31,10 @@ module _ {S : Type 0} {g : Ghosts S} where
 
   abbrev pub connection_of : Desk S g → Connection S
   connection_of desk = desk.connection.connection
+
+  -- the desk was given up with this mark
+  abbrev pub IsMarkOf : DeskMark → Desk S g → Type 0
+  IsMarkOf mark desk = mark.is_broken ≡ desk.is_broken
 
   -- ---- ends
 
@@ -50,6 +55,10 @@ module _ {S : Type 0} {g : Ghosts S} where
   -- a call that uses the database: an answer comes of a whole desk and leaves it whole, and an end as it says
   abbrev pub Ends : {T : Type 0} → Desk S g → Desk S g → Result T End → Type 0
   Ends old new result = MatchResult result (λ _. IsWhole old × IsWhole new) (EndsBy old new)
+
+-- whether the desk had broken when it was given up
+abbrev pub was_broken : DeskMark → Bool
+was_broken mark = mark.is_broken
 
 -- the steps that the database has taken for the desk
 abbrev pub steps_of : {S : Type 0} {g : Ghosts S} → Desk S g → ℕ

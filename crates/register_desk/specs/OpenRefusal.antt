@@ -45,6 +45,16 @@ check_refusal (checks.NewerVersion found) = NewerVersion found
 check_refusal checks.Memory = Memory
 check_refusal (checks.Database error) = Store
 
+-- why the connection did not become a desk, the connection, and what that shows
+abbrev pub refusal_in : {S : Type 0} → Unopened S → OpenRefusal
+refusal_in unopened = unopened.refusal
+
+abbrev pub connection_in : {S : Type 0} → Unopened S → Connection S
+connection_in unopened = unopened.connection
+
+abbrev pub state_in : {S : Type 0} → (g : Ghosts S) → Unopened S → State
+state_in g unopened = state g unopened.connection
+
 -- ---- what an opening finds
 
 -- the tables that were shown pass the checks of their version, and the desk has their counts; beside those of the first

@@ -14,7 +14,8 @@ use Rattle.register_program.specs.declared.acting.Inputs.{Inputs}
 use Rattle.register_program.specs.Act.{Acts}
 use Rattle.register_program.specs.Alone.{RunsWithoutFile, end_alone}
 use Rattle.register_program.specs.Ends.{BlamesStreams, NoOther}
-use Rattle.register_program.specs.Job.{EndsSo, Performs, status_after}
+use Rattle.register_program.specs.declared.register_file.Life.{Life}
+use Rattle.register_program.specs.Job.{BreaksSo, EndsSo, Performs, status_after}
 use Rattle.streams.specs.declared.watched.Watched.{Watched}
 
 -- ---- over no file
@@ -63,3 +64,10 @@ pub ends_so : {R W X E : Type 0} (input : Option (List ℕ)) (inputs : Inputs R)
     → IfOk came (λ it. EndsSo given input inputs writer (outcome it))
 ends_so input inputs writer given job is outcome came ends =
     subst (λ (it : Job). IfOk came (λ x. EndsSo it input inputs writer (outcome x))) (sym is) ends
+
+-- and what that left of the desk
+pub breaks_so : {S E : Type 0} (given job : Job) → given ≡ job → (came : Result (Life S) E)
+    → IfOk came (λ life. BreaksSo job life.outcome.end life.mark)
+    → IfOk came (λ life. BreaksSo given life.outcome.end life.mark)
+breaks_so given job is came breaks =
+    subst (λ (it : Job). IfOk came (λ life. BreaksSo it life.outcome.end life.mark)) (sym is) breaks

@@ -28,9 +28,9 @@ use Rattle.register_desk.proofs.Lived.{items_in_range}
 use Rattle.register_desk.proofs.Lives.{lawful_on}
 use Rattle.register_program.specs.declared.files.Closed.{Closed}
 use Rattle.register_program.specs.declared.register_file.Life.{Life as Lived_}
-use Rattle.register_program.specs.declared.register_file.Refused.{Refused}
-use Rattle.register_program.specs.declared.register_file.RefusedFiles.{RefusedFiles}
-use Rattle.register_program.specs.declared.register_file.RefusedFiles.TheVariants.{Failed, Shut}
+use Rattle.register_program.specs.declared.refused.Refused.{Refused}
+use Rattle.register_program.specs.declared.refused.RefusedFiles.{RefusedFiles}
+use Rattle.register_program.specs.declared.refused.RefusedFiles.TheVariants.{Failed, Shut}
 use Rattle.register_program.specs.FileCalls.{Exports, LivesAnyway, MakesRegister, OpensFirst}
 use Rattle.register_program.specs.FileCalls.{Reports, RunsLines, ServesExchanges}
 use Rattle.register_program.specs.Closing.{LeftIn}

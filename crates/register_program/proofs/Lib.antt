@@ -1,3 +1,4 @@
+mod Breaking
 mod OfDesk
 mod Living
 mod Refusing

@@ -7,6 +7,7 @@ use Rattle.sqlite.specs.Recovery.{Image}
 use Rattle.register_requests.specs.declared.request.Request.{Request}
 use Rattle.register_core.specs.Fold.{IsLawful, history}
 use Rattle.register_desk.specs.declared.desk.Desk.{Desk}
+use Rattle.register_desk.specs.declared.desk.DeskMark.{DeskMark}
 use Rattle.register_desk.specs.declared.runs.Finish.{Finish}
 use Rattle.register_desk.specs.declared.runs.Finish.TheVariants.{Ended}
 use Rattle.register_desk.specs.declared.end.End.TheVariants.{BadHeader, WriteFault}
@@ -22,7 +23,7 @@ use Rattle.register_program.specs.Closing.{ClosesDesk}
 use Rattle.register_program.specs.Within.Closing.{LeavesAsDesk}
 use Rattle.register_program.proofs.OfDesk.{of_desk}
 use Rattle.register_program.specs.declared.register_file.Life.{Life}
-use Rattle.register_program.specs.declared.register_file.Refused.{Refused}
+use Rattle.register_program.specs.declared.refused.Refused.{Refused}
 use Rattle.register_program.specs.FileCalls.{Exports, ImportsRows, LivesAnyway, OpensFirst, Reports, RunsLines}
 use Rattle.register_program.specs.FileCalls.{ServesExchanges}
 use Rattle.register_program.specs.Life.{LeavesLifeInFiles, LivesSome, Refuses}
@@ -53,7 +54,8 @@ module _ {S : Type 0} (g : Ghosts S) (may_leave : Image → Type 0) (outcome : O
 
 -- a call that opened a desk, and was a run over some items of whatever history that stood for
 pub lives_anyway : {S U : Type 0} (g : Ghosts S) (may_leave : S → Image → Type 0) (may_stay : U → Image → Type 0)
-    (found : Image) (outcome : Outcome) (files : Closed S) (old new : Option (List ℕ)) (kept now : Desk S g) → IsWhole kept
+    (found : Image) (outcome : Outcome) (mark : DeskMark) (files : Closed S) (old new : Option (List ℕ))
+    (kept now : Desk S g) → IsWhole kept
     → (IsCleanStore (g.view files.store) → ClosesDesk g may_leave now files (LeavesAsDesk g now))
     → (IsCleanStore (g.view files.store) → IsClean g now) → (IsClean g now → IsClean g kept)
     → ((h : List Request) → IsLawful h → HoldsRegister h found → IsClean g kept → StandsFor g kept h)
@@ -61,8 +63,8 @@ pub lives_anyway : {S U : Type 0} (g : Ghosts S) (may_leave : S → Image → Ty
     → (outcome.end ≡ Ended BadHeader → (new ≡ old) × (outcome.replies ≡ 0))
     → ((h : List Request) → StandsFor g kept h → IsClean g now
     → RunsSome g h outcome.end outcome.replies old new kept now)
-    → LivesAnyway g may_leave may_stay found old new (Ok (record { outcome = outcome; files = files }))
-lives_anyway g may_leave may_stay found outcome files old new kept now whole into closes before stands nothing unbegun runs =
+    → LivesAnyway g may_leave may_stay found old new (Ok (record { outcome = outcome; mark = mark; files = files }))
+lives_anyway g may_leave may_stay found outcome mark files old new kept now whole into closes before stands nothing unbegun runs =
     let some = λ (clean : IsCleanStore (g.view files.store)) (may : Image → Type 0) (leaves : LeavesAsDesk g now may)
     (h : List Request) (lawful : IsLawful h) (holds : HoldsRegister h found).
     lives_some g may outcome old new kept now leaves.lives

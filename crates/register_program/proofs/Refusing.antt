@@ -19,19 +19,20 @@ use Rattle.register_desk.specs.declared.opening.Unopened.{Unopened}
 use Rattle.register_desk.specs.declared.desk.Desk.{Desk}
 use Rattle.register_desk.specs.DatabaseFiles.{HoldsNothing, HoldsRegister, ShowsFiles}
 use Rattle.register_desk.specs.OpenRefusal.{IsMadeIn, IsReasonOf, IsTakenIn, LeavesBehind, LeavesCommitted, LeavesMade}
-use Rattle.register_desk.specs.OpenRefusal.{LeavesStored, RefusesNoTable, ShowsTable}
+use Rattle.register_desk.specs.OpenRefusal.{LeavesStored, RefusesNoTable, ShowsTable, connection_in, refusal_in}
 use Rattle.register_desk.specs.Within.Register.{HasHistoryIn}
 use Rattle.register_desk.proofs.Found.{finds_empty, finds_nothing, finds_register, holds_now, lawful_there}
 use Rattle.register_desk.proofs.Found.{registered_left}
 use Rattle.register_desk.proofs.NoRegister.{passes_nothing}
 use Rattle.register_desk.proofs.Opened.{stored_in}
 use Rattle.register_program.specs.declared.files.Closed.{Closed}
-use Rattle.register_program.specs.declared.register_file.Refused.{Refused}
-use Rattle.register_program.specs.declared.register_file.RefusedFiles.{RefusedFiles}
-use Rattle.register_program.specs.declared.register_file.RefusedFiles.TheVariants.{Failed, Shut}
+use Rattle.register_program.specs.declared.refused.Refused.{Refused}
+use Rattle.register_program.specs.declared.refused.RefusedFiles.{RefusedFiles}
+use Rattle.register_program.specs.declared.refused.RefusedFiles.TheVariants.{Failed, Shut}
 use Rattle.register_program.specs.Closing.{StandsAs}
 use Rattle.register_program.specs.FileCalls.{MakesRegister, OpensFile}
-use Rattle.register_program.specs.Life.{ClosesAs, GivesBack, IsCommittedOrMade, IsFoundIn, LeavesBehindIn, LeavesFound}
+use Rattle.register_program.specs.Life.{ClosesAs, GivesBack, IsCommittedOrMade, IsFoundIn, IsOfFailed, LeavesBehindIn}
+use Rattle.register_program.specs.Life.{LeavesFound}
 use Rattle.register_program.specs.Life.{LeavesInFiles, LeavesNoRequest, LeavesNothing, OfLeft, OfSound}
 use Rattle.register_program.specs.Life.{RefusesFiles, Refuses, RefusesMaking, RefusesToMake, SparesRegister}
 use Rattle.register_program.specs.Opening.{IsSound}
@@ -143,7 +144,7 @@ module _ {S U : Type 0} (g : Ghosts S) (may_leave : S → Image → Type 0) (may
 
     module _ (refusal : OpenRefusal) (none : RefusesNoTable refusal) where
       abbrev IsRefusal : Refused S U → Type 0
-      IsRefusal refused = refused ≡ record { refusal = refusal; files = Failed failed }
+      IsRefusal refused = IsOfFailed refusal failed refused
 
       refuses_closed : (refused : Refused S U) → IsRefusal refused → Refuses g may_leave may_stay found refused
       refuses_closed refused is = subst (Refuses g may_leave may_stay found) (sym is) (record {
@@ -250,7 +251,7 @@ module _ {S U : Type 0} (g : Ghosts S) (may_leave : S → Image → Type 0) (may
       )
 
       pub refuses_opened : (unopened : Unopened S) (refused : Refused S U) → GivesBack g unopened refused
-          → unopened.refusal ≡ refusal → unopened.connection ≡ new → Refuses g may_leave may_stay found refused
+          → refusal_in unopened ≡ refusal → connection_in unopened ≡ new → Refuses g may_leave may_stay found refused
       refuses_opened unopened refused gives was is =
           let closes = subst (λ (k : Held S). ClosesAs g k gives.store) is gives.closes in
           let same = gives.same ∙ was in
@@ -301,7 +302,7 @@ module _ {S U : Type 0} (g : Ghosts S) (may_leave : S → Image → Type 0) (may
       }
 
       pub refuses_making : (unopened : Unopened S) (refused : Refused S U) → GivesBack g unopened refused
-          → unopened.refusal ≡ refusal → unopened.connection ≡ new → RefusesMaking g may_leave may_stay found refused
+          → refusal_in unopened ≡ refusal → connection_in unopened ≡ new → RefusesMaking g may_leave may_stay found refused
       refuses_making unopened refused gives was is =
           let closes = subst (λ (k : Held S). ClosesAs g k gives.store) is gives.closes in
           record {

@@ -22,7 +22,7 @@ use Rattle.register_desk.specs.KeyRows.{all_rows}
 use Rattle.register_desk.specs.OpenRefusal.{ShowsTable}
 use Rattle.register_program.specs.declared.files.Closed.{Closed}
 use Rattle.register_program.specs.declared.register_file.Life.{Life}
-use Rattle.register_program.specs.declared.register_file.Refused.{Refused}
+use Rattle.register_program.specs.declared.refused.Refused.{Refused}
 use Rattle.register_words.specs.declared.values.Terms.{Terms}
 use Rattle.register_program.specs.Closing.{OfClosed}
 use Rattle.register_program.specs.Life.{EndsUnbegun, LeavesInFiles, LeavesMadeIn, LivesOver}

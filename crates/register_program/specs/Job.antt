@@ -2,6 +2,7 @@
 use Rattle.std.specs.Prelude.{◌≡◌, ℕ, List, Option, Result, Ok, Err, IfOk, OnErr}
 use Rattle.sqlite_trees.specs.declared.store.Store.{Ghosts}
 use Rattle.sqlite.specs.Recovery.{Image}
+use Rattle.register_desk.specs.declared.desk.DeskMark.{DeskMark}
 use Rattle.register_desk.specs.declared.opening.OpenRefusal.{OpenRefusal}
 use Rattle.register_desk.specs.declared.runs.Finish.{Finish}
 use Rattle.register_desk.specs.declared.runs.Finish.TheVariants.{AtEnd}
@@ -13,7 +14,7 @@ use Rattle.register_program.specs.declared.acting.Done.{Done}
 use Rattle.register_program.specs.declared.acting.Done.TheVariants.{Made, Lived}
 use Rattle.register_program.specs.declared.acting.Inputs.{Inputs}
 use Rattle.register_program.specs.Act.{unopened_status, status_of}
-use Rattle.register_program.specs.Ends.{BlamesRecord, BlamesStreams, BlamesWriter, NoOther}
+use Rattle.register_program.specs.Ends.{BlamesRecord, BlamesStreams, BlamesWriter, BreaksAs, BreaksNone, NoOther}
 use Rattle.register_program.specs.Faults.{finish_line, refusal_line}
 use Rattle.register_program.specs.FileCalls.{Exports, ImportsRows, MakesRegister, Reports, RunsLines, ServesExchanges}
 use Rattle.register_program.specs.ServedExchanges.{ExplainsEnd}
@@ -63,6 +64,19 @@ EndsSo Export input inputs writer outcome = BlamesWriter writer outcome
 EndsSo (Report days) input inputs writer outcome = BlamesWriter writer outcome
 EndsSo (Serve bounds) input inputs writer outcome =
     ExplainsEnd bounds.exchanges inputs.attendance outcome.end
+
+-- what a life of a register by this job left of its desk
+abbrev pub BreaksSo : Job → Finish → DeskMark → Type 0
+BreaksSo Init end mark = ⊥
+BreaksSo Run end mark = BreaksAs end mark
+BreaksSo (Import terms) end mark = BreaksAs end mark
+BreaksSo Export end mark = BreaksNone end mark
+BreaksSo (Report days) end mark = BreaksNone end mark
+BreaksSo (Serve bounds) end mark = BreaksAs end mark
+
+abbrev pub BreaksFor : {S U : Type 0} → Job → Done S U → Type 0
+BreaksFor job (Made came) = Unit {0}
+BreaksFor job (Lived came) = IfOk came (λ life. BreaksSo job life.outcome.end life.mark)
 
 abbrev pub EndsFor : {R W S U : Type 0} → Job → Option (List ℕ) → Inputs R → Watched W → Done S U → Type 0
 EndsFor job input inputs writer (Made came) = Unit {0}

@@ -20,11 +20,12 @@ use Rattle.register_desk.specs.declared.runs.Finish.TheVariants.{Ended}
 use Rattle.register_desk.specs.declared.runs.Outcome.{Outcome}
 use Rattle.register_desk.specs.DatabaseFiles.{HoldsLife, HoldsNothing, HoldsOneOf, HoldsRegister, ShowsFiles}
 use Rattle.register_desk.specs.OpenRefusal.{IsMadeIn, IsTakenIn, IsReasonOf, RefusesNoTable, ShowsTable}
+use Rattle.register_desk.specs.OpenRefusal.{connection_in, refusal_in}
 use Rattle.register_desk.specs.Lives.{AreInRange}
 use Rattle.register_desk.specs.Run.{RunsOver}
-use Rattle.register_program.specs.declared.register_file.Refused.{Refused}
-use Rattle.register_program.specs.declared.register_file.RefusedFiles.{RefusedFiles}
-use Rattle.register_program.specs.declared.register_file.RefusedFiles.TheVariants.{Failed, Shut}
+use Rattle.register_program.specs.declared.refused.Refused.{Refused}
+use Rattle.register_program.specs.declared.refused.RefusedFiles.{RefusedFiles}
+use Rattle.register_program.specs.declared.refused.RefusedFiles.TheVariants.{Failed, Shut}
 use Rattle.register_report.specs.Import.{EndsWithoutHeader}
 use Rattle.register_report.specs.TextWriter.{WritesText}
 
@@ -81,12 +82,20 @@ pub record ClosesAs {S : Type 0} (g : Ghosts S) (connection : Held S) (store : S
 
 -- ---- refusals
 
+-- why no register was made or opened
+abbrev pub refusal_of : {S U : Type 0} → Refused S U → OpenRefusal
+refusal_of refused = refused.refusal
+
+-- it was refused so, of files that could not be opened at all
+abbrev pub IsOfFailed : {S U : Type 0} → OpenRefusal → U → Refused S U → Type 0
+IsOfFailed refusal failed refused = refused ≡ record { refusal = refusal; files = Failed failed }
+
 -- what is given back of a connection that did not become a desk
 pub record GivesBack {S U : Type 0} (g : Ghosts S) (unopened : Unopened S) (refused : Refused S U) : Type 0 where
-  pub same : refused.refusal ≡ unopened.refusal
+  pub same : refused.refusal ≡ refusal_in unopened
   pub store : S
   pub back : refused.files ≡ Shut store
-  pub closes : ClosesAs g unopened.connection store
+  pub closes : ClosesAs g (connection_in unopened) store
 
 -- no table is to blame, and a stop leaves the register as it was
 abbrev pub SparesRegister : List Request → OpenRefusal → (Image → Type 0) → Type 0

@@ -10,9 +10,9 @@ use Rattle.register_desk.specs.DatabaseFiles.{HoldsRegister}
 use Rattle.register_desk.specs.Desk.{IsClean}
 use Rattle.register_desk.specs.OpenRefusal.{RefusesNoTable}
 use Rattle.register_desk.specs.Register.{StandsFor}
-use Rattle.register_program.specs.declared.register_file.Refused.{Refused}
-use Rattle.register_program.specs.declared.register_file.RefusedFiles.{RefusedFiles}
-use Rattle.register_program.specs.declared.register_file.RefusedFiles.TheVariants.{Failed, Shut}
+use Rattle.register_program.specs.declared.refused.Refused.{Refused}
+use Rattle.register_program.specs.declared.refused.RefusedFiles.{RefusedFiles}
+use Rattle.register_program.specs.declared.refused.RefusedFiles.TheVariants.{Failed, Shut}
 
 module _ {S U : Type 0} (g : Ghosts S) where
   -- the files are sound, if they could be opened

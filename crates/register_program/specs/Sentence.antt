@@ -18,8 +18,8 @@ use Rattle.register_program.specs.declared.files.Closed.{Closed}
 use Rattle.register_program.specs.Closing.{LeftIn}
 use Rattle.register_words.specs.declared.words.Job.{Job}
 use Rattle.register_words.specs.declared.words.Job.TheVariants.{Import, Run, Serve}
-use Rattle.register_program.specs.declared.register_file.RefusedFiles.{RefusedFiles}
-use Rattle.register_program.specs.declared.register_file.RefusedFiles.TheVariants.{Failed, Shut}
+use Rattle.register_program.specs.declared.refused.RefusedFiles.{RefusedFiles}
+use Rattle.register_program.specs.declared.refused.RefusedFiles.TheVariants.{Failed, Shut}
 use Rattle.register_program.specs.declared.acting.Done.{Done}
 use Rattle.register_program.specs.declared.acting.Done.TheVariants.{Lived, Made}
 

@@ -1,21 +1,25 @@
 //! What the program does, over the streams that it is given.
-ghost use Rattle.std.specs.Prelude.{◌≡◌, ◌≤◌, false, length, Ok, OnOk, IfErr};
+ghost use Rattle.std.specs.Prelude.{◌≡◌, false};
 ghost use Rattle.register_program.specs.Act.{ActsInMemory};
 ghost use Rattle.register_program.specs.Alone.{ActsAlone, end_alone};
-ghost use Rattle.register_program.specs.Faults.{Tells, TellsOfWords};
-ghost use Rattle.register_program.specs.Job.{EndsFor, Performs, end_of, line_after, status_after};
+ghost use Rattle.register_program.specs.Faults.{Tells};
+ghost use Rattle.register_program.specs.Words.{ReadsTask};
+ghost use Rattle.register_program.specs.Job.{BreaksFor, EndsFor, Performs, end_of, line_after};
+ghost use Rattle.register_program.specs.Job.{status_after};
 ghost use Rattle.register_program.specs.Sentence.{LeadsFrom};
 ghost use Rattle.register_program.specs.ServedExchanges.{nobody};
 
 use crate::attendance::Attendance;
-use crate::faults::{report_finish, report_refusal, report_words_error};
+use crate::faults::{report_bad_value, report_finish, report_no_command, report_refusal};
 use crate::files::{Closed, Files};
 use crate::network::Network;
+use crate::refused::Refused;
 use crate::register_file::{
-    Life, Refused, export_file, import_file, init_file, report_file, run_file, serve_file,
+    Life, export_file, import_file, init_file, report_file, run_file, serve_file,
 };
+use clap::Error;
 use register_desk::{Finish, OpenRefusal, Outcome, Watched, run_in_memory};
-use register_words::{Job, Task, read_words};
+use register_words::{GivenTask, Job, Task};
 use std::alloc::Global;
 use std::io::{Read, Write};
 use std::time::Clock;
@@ -50,9 +54,9 @@ impl<S, U> Done<S, U> {
     {
         match self {
             Done::Made(Ok(_)) => Ok(Finish::AtEnd { rest: 0 }),
-            Done::Made(Err(refused)) => Err(refused.refusal),
+            Done::Made(Err(refused)) => Err(refused.refusal()),
             Done::Lived(Ok(life)) => Ok(life.outcome.end),
-            Done::Lived(Err(refused)) => Err(refused.refusal),
+            Done::Lived(Err(refused)) => Err(refused.refusal()),
         }
     }
 }
@@ -74,25 +78,25 @@ pub struct Machine<F, N> {
     pub network: N,
 }
 
-/// What the words ask for. The first word is the program's own name; with no more words it is a run
-/// over request lines, over a new register in memory. It is given nothing of the machine, so where
-/// the words are none nothing is done.
+/// The task that was given, where each of its values is one. It is given nothing of the machine, so
+/// where there is no task nothing is done.
 ///
 /// # Errors
-/// The exit status, where they are none, and `faults` was told of them: 1 where they are no command,
-/// ask for help or have a bad value, and 3 after want of memory.
+/// The exit status, where the words are no command or ask for help, or a value among them is none,
+/// of which `faults` was told: 1, or 3 after want of memory.
 pub fn read_task<'a, E: Write>(
     alloc: Global,
-    words: &'a [String],
+    given: &Result<GivenTask<'a>, Error>,
     faults: &mut Watched<E>,
 ) -> Result<Task<'a>, u8>
-    ensures alone { length words.now ≤ 1 → result ≡ Ok Task.RunInMemory }
-    ensures quiet { OnOk result (faults.new ≡ faults.old) }
-    ensures tells { IfErr result (λ status. TellsOfWords E.contents status faults.old faults.new) }
+    ensures { ReadsTask E.contents given.now result faults.old faults.new }
 {
-    match read_words(alloc, words) {
-        Ok(task) => Ok(task),
-        Err(error) => Err(report_words_error(alloc, &error, faults)),
+    match given {
+        Ok(given) => match given.read() {
+            Some(task) => Ok(task),
+            None => Err(report_bad_value(faults)),
+        },
+        Err(error) => Err(report_no_command(alloc, error, faults)),
     }
 }
 
@@ -157,6 +161,7 @@ fn perform<F: Files + Drop, N: Network + Clock + Drop, R: Read, W: Write>(
         (W.contents writer.new.inner) result }
     ensures ends { EndsFor job.now (R.remaining inputs.old.reader.inner) inputs.new writer.new
         result }
+    ensures desk { BreaksFor job.now result }
 {
     let Machine {
         alloc,
@@ -200,6 +205,8 @@ pub fn act<F: Files + Drop, N: Network + Clock + Drop, R: Read, W: Write, E: Wri
     // What a stream or the network is blamed for has its cause there.
     ensures ends { EndsFor job.now (R.remaining inputs.old.reader.inner) inputs.new
         outputs.new.writer result.done }
+    // 31 comes of a call that broke the desk, and 32 of none.
+    ensures desk { BreaksFor job.now result.done }
     // Whatever register the file held, it holds that after the life that this was.
     ensures leads { LeadsFrom F.Opened.Store F.may_leave F.may_leave_failed (F.start file.now)
         job.now (R.remaining inputs.old.reader.inner) (W.contents outputs.old.writer.inner)

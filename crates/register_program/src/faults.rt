@@ -7,7 +7,6 @@ ghost use Rattle.register_program.specs.Faults.{finish_line, refusal_line};
 
 use clap::error::ErrorKind;
 use register_desk::{End, Finish, MAX_IDLE_TURNS, OpenRefusal, Watched};
-use register_words::WordsError;
 use std::alloc::Global;
 use std::io::Write;
 
@@ -89,24 +88,13 @@ pub fn report_refusal<E: Write>(refusal: OpenRefusal, faults: &mut Watched<E>) -
     UNOPENED
 }
 
-/// Writes `clap`'s account of the words to `faults`, or names a bad value among them or want of
-/// memory for them, and gives the exit status.
-pub(crate) fn report_words_error<E: Write>(
-    alloc: Global,
-    error: &WordsError,
-    faults: &mut Watched<E>,
-) -> u8
-    ensures { TellsOfWords E.contents result faults.old faults.new }
-{
-    match error {
-        WordsError::BadValue => report_bad_value(faults),
-        WordsError::NoCommand(error) => report_no_command(alloc, error, faults),
-    }
-}
-
 /// Writes `clap`'s account of the words to `faults`, or names want of memory for them, and gives
 /// the exit status.
-fn report_no_command<E: Write>(alloc: Global, error: &clap::Error, faults: &mut Watched<E>) -> u8
+pub(crate) fn report_no_command<E: Write>(
+    alloc: Global,
+    error: &clap::Error,
+    faults: &mut Watched<E>,
+) -> u8
     ensures { TellsOfWords E.contents result faults.old faults.new }
 {
     if error.kind() == ErrorKind::OutOfMemory {

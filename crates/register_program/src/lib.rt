@@ -8,6 +8,7 @@ mod faults;
 mod files;
 pub mod laws;
 mod network;
+mod refused;
 mod register_file;
 mod serving;
 
@@ -16,8 +17,8 @@ pub use attendance::Attendance;
 pub use faults::{report_bad_value, report_end, report_refusal};
 pub use files::{Absent, Closed, Files, LogCopy, NotConnected};
 pub use network::{Client, Listener, Network};
+pub use refused::{Refused, RefusedFiles};
 pub use register_file::{
-    Life, Refused, RefusedFiles, export_file, import_file, init_file, open_file, report_file,
-    run_file, serve_file,
+    Life, export_file, import_file, init_file, open_file, report_file, run_file, serve_file,
 };
 pub use serving::{Clocks, MachineClock, Now, serve_at, serve_on};

@@ -1,23 +1,23 @@
 //! The register in a file: the database file, and its log beside it.
-ghost use Rattle.std.specs.Prelude.{◌≡◌, None, false, IfErr, IfOk};
+ghost use Rattle.std.specs.Prelude.{◌≡◌, false, IfErr, IfOk};
 ghost use Rattle.sqlite_trees.specs.View.{IsClean as IsCleanStore};
-ghost use Rattle.register_desk.specs.Desk.{IsClean};
+ghost use Rattle.register_desk.specs.Desk.{IsClean, IsMarkOf};
 ghost use Rattle.register_program.specs.Closing.{ClosesDesk};
 ghost use Rattle.register_program.specs.Within.Closing.{LeavesAsDesk};
 ghost use Rattle.register_program.specs.FileCalls.{Exports, ImportsRows, MakesRegister, OpensFile};
 ghost use Rattle.register_program.specs.FileCalls.{Reports, RunsLines, ServesExchanges};
-ghost use Rattle.register_program.specs.Life.{ClosesAs};
-ghost use Rattle.register_program.specs.Ends.{BlamesRecord, BlamesStreams, BlamesWriter, NoOther};
+ghost use Rattle.register_program.specs.Ends.{BlamesRecord, BlamesStreams, BlamesWriter};
+ghost use Rattle.register_program.specs.Ends.{BreaksAs, BreaksNone, NoOther};
 ghost use Rattle.register_program.specs.ServedExchanges.{ExplainsEnd, nobody};
 
 use crate::attendance::Attendance;
-use crate::files::{Absent, Closed, Files, NotConnected};
+use crate::files::{Absent, Closed, Files};
 use crate::network::Network;
+use crate::refused::{Refused, close_connection_into_store};
 use crate::serving::serve_at;
-use register_desk::{Desk, OpenRefusal, Outcome, Unopened, Watched, run};
+use register_desk::{Desk, DeskMark, Outcome, Watched, run};
 use register_report::{export, import, rotation};
 use register_words::{Bounds, Terms};
-use sqlite::{Alter, Connection};
 use std::alloc::Global;
 use std::io::{Read, Write};
 use std::time::Clock;
@@ -27,79 +27,26 @@ use std::time::Clock;
 pub struct Life<S> {
     /// What was done.
     pub outcome: Outcome,
+    /// Whether that broke the desk.
+    pub mark: DeskMark,
     /// The files as it left them.
     pub files: Closed<S>,
 }
 
-/// Files in which no register was made or opened.
-#[derive(Drop)]
-pub enum RefusedFiles<S, U> {
-    /// They could not be opened at all.
-    Failed(U),
-    /// They were opened, and closed.
-    Shut(S),
-}
-
-/// Why a register was not made or opened.
-#[derive(Drop)]
-pub struct Refused<S, U> {
-    pub refusal: OpenRefusal,
-    /// The files as they were left.
-    pub files: RefusedFiles<S, U>,
-}
-
-/// The refusal of files that could not be opened.
-impl<S, U> From<NotConnected<U>> for Refused<S, U> {
-    ghost use Rattle.register_program.specs.declared.register_file.RefusedFiles.TheVariants.{Failed};
-
-    ghost from_gives = { λ it refused.
-        refused ≡ record { refusal = it.refusal; files = Failed it.failed } };
-
-    fn from(it: NotConnected<U>) -> Self {
-        let NotConnected { refusal, failed } = it;
-        Refused {
-            refusal,
-            files: RefusedFiles::Failed(failed),
-        }
-    }
-}
-
-/// The refusal of files that were opened.
-impl<S: Alter + Drop, U> From<Unopened<S>> for Refused<S, U> {
-    ghost use Rattle.register_program.specs.Life.{GivesBack};
-
-    ghost from_gives = { λ unopened refused. GivesBack S.Store unopened refused };
-
-    fn from(unopened: Unopened<S>) -> Self {
-        let Unopened {
-            refusal,
-            connection,
-        } = unopened;
-        Refused {
-            refusal,
-            files: RefusedFiles::Shut(close_connection_into_store(connection)),
-        }
-    }
-}
-
-/// The files of a connection that nobody uses any more.
-fn close_connection_into_store<S: Alter + Drop>(connection: Connection<S>) -> S
-    ensures { ClosesAs S.Store connection result }
-{
-    connection.into_store()
-}
-
-/// The files of a register that nobody uses any more, with the log copied into the database file.
-fn close_desk<F: Files>(desk: Desk<F::Opened>) -> Closed<F::Opened>
-    ensures clean { IsCleanStore (F.Opened.Store.view result.store)
+/// The files of a register that nobody uses any more, with the log copied into the database file,
+/// and whether its desk broke.
+fn close_desk<F: Files>(desk: Desk<F::Opened>) -> (Closed<F::Opened>, DeskMark)
+    ensures clean { IsCleanStore (F.Opened.Store.view result.0.store)
         → IsClean F.Opened.Store desk }
     // What a stop leaves of the register is what is found in the files, up to their closing and from
     // then on.
-    ensures closes { IsCleanStore (F.Opened.Store.view result.store)
-        → ClosesDesk F.Opened.Store F.may_leave desk result
+    ensures closes { IsCleanStore (F.Opened.Store.view result.0.store)
+        → ClosesDesk F.Opened.Store F.may_leave desk result.0
         (LeavesAsDesk F.Opened.Store desk) }
+    ensures mark { IsMarkOf result.1 desk }
 {
-    F::close(close_connection_into_store(desk.into_connection()))
+    let (connection, mark) = desk.close();
+    (F::close(close_connection_into_store(connection)), mark)
 }
 
 /// Makes an empty register in the file, which is made where there is none. Gives the files as it
@@ -118,7 +65,8 @@ pub fn init_file<F: Files>(
 {
     let connection = files.connect(file, Absent::Made)?;
     let desk = Desk::create(alloc, connection)?;
-    Ok(close_desk::<F>(desk))
+    let (closed, _) = close_desk::<F>(desk);
+    Ok(closed)
 }
 
 /// Opens the register in the file. Where there is no file none is made.
@@ -155,13 +103,16 @@ pub fn run_file<F: Files + Drop, R: Read, W: Write>(
         (R.remaining reader.old.inner) (W.contents writer.old.inner) (W.contents writer.new.inner)
         result }
     ensures ends { IfOk result (λ life. BlamesStreams NoOther reader.new writer.new life.outcome) }
+    ensures desk { IfOk result (λ life. BreaksAs life.outcome.end life.mark) }
     ensures untouched { IfErr result (λ _. writer.new ≡ writer.old) }
 {
     let mut desk = open_file(alloc, file, files)?;
     let outcome = run(reader, writer, &mut desk);
+    let (files, mark) = close_desk::<F>(desk);
     Ok(Life {
         outcome,
-        files: close_desk::<F>(desk),
+        mark,
+        files,
     })
 }
 
@@ -185,6 +136,7 @@ pub fn import_file<F: Files + Drop, R: Read, W: Write>(
         (W.contents writer.new.inner) result }
     ensures ends { IfOk result (λ life. BlamesStreams (BlamesRecord (R.remaining reader.old.inner))
         reader.new writer.new life.outcome) }
+    ensures desk { IfOk result (λ life. BreaksAs life.outcome.end life.mark) }
     ensures untouched { IfErr result (λ _. writer.new ≡ writer.old) }
 {
     let mut desk = open_file(alloc, file, files)?;
@@ -197,9 +149,11 @@ pub fn import_file<F: Files + Drop, R: Read, W: Write>(
         reader,
         writer,
     );
+    let (files, mark) = close_desk::<F>(desk);
     Ok(Life {
         outcome,
-        files: close_desk::<F>(desk),
+        mark,
+        files,
     })
 }
 
@@ -217,13 +171,16 @@ pub fn export_file<F: Files + Drop, W: Write>(
     ensures exports { Exports F.Opened.Store F.may_leave F.may_leave_failed (F.start file.now)
         (W.contents writer.old.inner) (W.contents writer.new.inner) result }
     ensures ends { IfOk result (λ life. BlamesWriter writer.new life.outcome) }
+    ensures desk { IfOk result (λ life. BreaksNone life.outcome.end life.mark) }
     ensures untouched { IfErr result (λ _. writer.new ≡ writer.old) }
 {
     let mut desk = open_file(alloc, file, files)?;
     let outcome = export(alloc, &mut desk, writer);
+    let (files, mark) = close_desk::<F>(desk);
     Ok(Life {
         outcome,
-        files: close_desk::<F>(desk),
+        mark,
+        files,
     })
 }
 
@@ -243,13 +200,16 @@ pub fn report_file<F: Files + Drop, W: Write>(
     ensures reports { Reports F.Opened.Store F.may_leave F.may_leave_failed (F.start file.now) days
         (W.contents writer.old.inner) (W.contents writer.new.inner) result }
     ensures ends { IfOk result (λ life. BlamesWriter writer.new life.outcome) }
+    ensures desk { IfOk result (λ life. BreaksNone life.outcome.end life.mark) }
     ensures untouched { IfErr result (λ _. writer.new ≡ writer.old) }
 {
     let mut desk = open_file(alloc, file, files)?;
     let outcome = rotation(alloc, &mut desk, days, writer);
+    let (files, mark) = close_desk::<F>(desk);
     Ok(Life {
         outcome,
-        files: close_desk::<F>(desk),
+        mark,
+        files,
     })
 }
 
@@ -270,6 +230,7 @@ pub fn serve_file<F: Files + Drop, N: Network + Clock>(
         bounds.now.exchanges result }
     ensures ends { IfOk result (λ life.
         ExplainsEnd bounds.now.exchanges attendance.new life.outcome.end) }
+    ensures desk { IfOk result (λ life. BreaksAs life.outcome.end life.mark) }
 {
     let mut desk = open_file(alloc, file, files)?;
     let end = serve_at(
@@ -280,8 +241,10 @@ pub fn serve_file<F: Files + Drop, N: Network + Clock>(
         bounds.exchanges,
         attendance,
     );
+    let (files, mark) = close_desk::<F>(desk);
     Ok(Life {
         outcome: Outcome::ended_without_bytes(end),
-        files: close_desk::<F>(desk),
+        mark,
+        files,
     })
 }

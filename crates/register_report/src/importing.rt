@@ -115,7 +115,8 @@ impl<R: Read> Items<Reader<R>> for Rows {
 
 /// Whether the reader failed, or has had all its turns.
 fn is_faulted<R>(reader: &Watched<R>) -> bool
-    ensures { OnTrue result (IsFaulted reader.now.failed max_reads reader.now.turns) }
+    ensures faulted { OnTrue result (IsFaulted reader.now.failed max_reads reader.now.turns) }
+    ensures sound { OnFalse result (IsFaulted reader.now.failed max_reads reader.now.turns → ⊥) }
 {
     reader.has_failed() || reader.turns() >= MAX_READS
 }
@@ -124,6 +125,9 @@ fn is_faulted<R>(reader: &Watched<R>) -> bool
 /// `csv`'s says that it was this one.
 fn is_unexplained<R>(end: Finish, rows: &Rows, reader: &Watched<R>) -> bool
     ensures of_reading { OnTrue result (end ≡ Finish.Ended End.ReadFault) }
+    ensures of_csv { OnTrue result (rows.now.reader_failed ≡ true) }
+    ensures unexplained { OnTrue result
+        (IsFaulted reader.now.failed max_reads reader.now.turns → ⊥) }
     ensures explained { OnFalse result (end ≡ Finish.Ended End.ReadFault
         → rows.now.reader_failed ≡ true
         → IsFaulted reader.now.failed max_reads reader.now.turns) }

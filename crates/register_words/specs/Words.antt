@@ -4,8 +4,12 @@ use Rattle.register_words.specs.declared.values.Bounds.{Bounds}
 use Rattle.register_words.specs.declared.values.Terms.{Terms}
 use Rattle.register_words.specs.declared.words.GivenJob.{GivenJob}
 use Rattle.register_words.specs.declared.words.GivenJob.TheVariants as given
+use Rattle.register_words.specs.declared.words.GivenTask.{GivenTask}
+use Rattle.register_words.specs.declared.words.GivenTask.TheVariants as task
 use Rattle.register_words.specs.declared.words.Job.{Job}
 use Rattle.register_words.specs.declared.words.Job.TheVariants as job
+use Rattle.register_words.specs.declared.words.Task.{Task}
+use Rattle.register_words.specs.declared.words.Task.TheVariants.{InFile, RunInMemory}
 use Rattle.register_words.specs.Values.{AreBounds, AreTerms, IsDays}
 
 -- it is this job, of the values that were given
@@ -16,3 +20,8 @@ IsJob (given.Import terms) it = (value : Terms) × AreTerms terms value × (it �
 IsJob given.Export it = it ≡ job.Export
 IsJob (given.Report days) it = (value : ℕ) × IsDays days.now value × (it ≡ job.Report value)
 IsJob (given.Serve bounds) it = (value : Bounds) × AreBounds bounds value × (it ≡ job.Serve value)
+
+-- it is this task, of the values that were given
+abbrev pub IsTask : GivenTask → Task → Type 0
+IsTask task.RunInMemory it = it ≡ RunInMemory
+IsTask (task.InFile file job) it = (value : Job) × IsJob job value × (it ≡ InFile file value)

@@ -5,4 +5,4 @@ mod values;
 mod words;
 
 pub use values::{Bounds, GivenBounds, GivenTerms, MAX_DAYS, MAX_EXCHANGES, Terms, read_days};
-pub use words::{GivenJob, Job, Task, WordsError, read_words};
+pub use words::{GivenJob, GivenTask, Job, Task, read_words};

@@ -1,7 +1,7 @@
 //! What the program's words ask for.
 ghost use Rattle.std.specs.Prelude.{◌≡◌, ◌≤◌, length, Ok};
 ghost use Rattle.register_words.specs.Values.{Reads};
-ghost use Rattle.register_words.specs.Words.{IsJob};
+ghost use Rattle.register_words.specs.Words.{IsJob, IsTask};
 
 use crate::values::{Bounds, GivenBounds, GivenTerms, Terms, read_days};
 use clap::error::ErrorKind;
@@ -67,13 +67,26 @@ impl GivenJob<'_> {
     }
 }
 
-/// Why the words are no task.
-#[derive(Drop)]
-pub enum WordsError {
-    /// `clap`'s help, where that was asked for, or its account of what is wrong with the words.
-    NoCommand(Error),
-    /// A value among them is none.
-    BadValue,
+/// What the program is asked to do, with the values as they were given.
+#[derive(Clone, Copy)]
+pub enum GivenTask<'a> {
+    RunInMemory,
+    InFile { file: &'a str, job: GivenJob<'a> },
+}
+
+impl<'a> GivenTask<'a> {
+    /// The task, where each text is a value.
+    pub fn read(&self) -> Option<Task<'a>>
+        ensures { Reads IsTask self.now result }
+    {
+        match *self {
+            GivenTask::RunInMemory => Some(Task::RunInMemory),
+            GivenTask::InFile { file, job } => Some(Task::InFile {
+                file,
+                job: job.read()?,
+            }),
+        }
+    }
 }
 
 /// The program's version (CHANGES.md), that of the tables that it writes, and the program logic
@@ -298,19 +311,14 @@ fn read_command(alloc: Global, words: &[String]) -> Result<(&str, GivenJob<'_>),
 /// Reads the words, of which the first is the program's own name.
 ///
 /// # Errors
-/// As [`WordsError`] tells.
-pub fn read_words(alloc: Global, words: &[String]) -> Result<Task<'_>, WordsError>
-    ensures { length words.now ≤ 1 → result ≡ Ok Task.RunInMemory }
+/// `clap`'s help, where that was asked for, or its account of what is wrong with the words.
+pub fn read_words(alloc: Global, words: &[String]) -> Result<GivenTask<'_>, Error>
+    ensures { length words.now ≤ 1 → result ≡ Ok GivenTask.RunInMemory }
 {
     // `clap` would ask for a command.
     if words.len() <= 1 {
-        return Ok(Task::RunInMemory);
+        return Ok(GivenTask::RunInMemory);
     }
-    match read_command(alloc, words) {
-        Ok((file, given)) => match given.read() {
-            Some(job) => Ok(Task::InFile { file, job }),
-            None => Err(WordsError::BadValue),
-        },
-        Err(error) => Err(WordsError::NoCommand(error)),
-    }
+    let (file, job) = read_command(alloc, words)?;
+    Ok(GivenTask::InFile { file, job })
 }

@@ -6,7 +6,7 @@ use register_desk::Watched;
 use register_program::{
     Absent, Attendance, Files, Inputs, Machine, Outputs, act, act_in_memory, read_task,
 };
-use register_words::Task;
+use register_words::{Task, read_words};
 use sqlite::{Start, Wary};
 use std::alloc::Global;
 use std::io::{Read, Write};
@@ -37,7 +37,8 @@ fn act_on<S: Start, R: Read + Drop, W: Write + Drop, E: Write + Drop>(
         writer: Watched::new(output),
         faults: Watched::new(faults),
     };
-    match read_task(rt.alloc(), words.as_slice(), &mut outputs.faults) {
+    let given = read_words(rt.alloc(), words.as_slice());
+    match read_task(rt.alloc(), &given, &mut outputs.faults) {
         Ok(Task::RunInMemory) => {
             Ok(act_in_memory(rt.alloc(), &mut Watched::new(input), &mut outputs))
         }

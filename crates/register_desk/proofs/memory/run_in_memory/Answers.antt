@@ -1,4 +1,4 @@
-use Rattle.std.proofs.Common.{true, refl, inl}
+use Rattle.std.proofs.Common.{ap, inl, length, refl, true}
 use Rattle.std.proofs.lemmas.Result.{IfOk-weaker}
 use Rattle.sqlite_trees.proofs.Doubt.{no_doubt}
 use Rattle.sqlite_pool.specs.Pool.{state}
@@ -12,7 +12,7 @@ returns-clause-runs g c =
     let clean = no_doubt true refl in
     let opened = c.in-Ok.ensures.opened clean in
     let found = c.in-Ok.ensures.found clean in
-    let nothing = finds_nothing _ _ (inl c.new-2.ensures.empty) (record {
+    let nothing = finds_nothing _ _ (inl (inl (inl (ap length c.new-2.ensures.empty)))) (record {
       opens = opened.0;
       live = opened.1;
       finds = record { holds = found.holds; reads = found.reads };

@@ -1,6 +1,6 @@
 use Rattle.std.proofs.Common.{refl}
 use Rattle.register_words.specs.declared.words.Job.TheVariants.{Init, Run, Import, Export, Report, Serve}
-use Rattle.register_program.proofs.Acts.{ends_so, performs_as, untouched}
+use Rattle.register_program.proofs.Acts.{breaks_so, ends_so, performs_as, untouched}
 use Rattle.register_program.proofs.acting.perform.Goals as goal
 
 pub returns-in-Init-clause-performs : goal.returns-in-Init-clause-performs
@@ -63,3 +63,23 @@ pub returns-clause-ends : goal.returns-clause-ends
 returns-clause-ends g c =
     ends_so _ _ _ c.args.job.now (Serve c.in-Serve.bounds) c.in-Serve.is (λ life. life.outcome)
     c.serve_file.result c.serve_file.ensures.ends
+
+pub returns-in-Run-clause-desk : goal.returns-in-Run-clause-desk
+returns-in-Run-clause-desk g c =
+    breaks_so c.args.job.now Run c.in-Run.is c.run_file.result c.run_file.ensures.desk
+
+pub returns-in-Import-clause-desk : goal.returns-in-Import-clause-desk
+returns-in-Import-clause-desk g c =
+    breaks_so c.args.job.now (Import c.in-Import.terms) c.in-Import.is c.import_file.result c.import_file.ensures.desk
+
+pub returns-in-Export-clause-desk : goal.returns-in-Export-clause-desk
+returns-in-Export-clause-desk g c =
+    breaks_so c.args.job.now Export c.in-Export.is c.export_file.result c.export_file.ensures.desk
+
+pub returns-in-Report-clause-desk : goal.returns-in-Report-clause-desk
+returns-in-Report-clause-desk g c =
+    breaks_so c.args.job.now (Report c.in-Report.days) c.in-Report.is c.report_file.result c.report_file.ensures.desk
+
+pub returns-clause-desk : goal.returns-clause-desk
+returns-clause-desk g c =
+    breaks_so c.args.job.now (Serve c.in-Serve.bounds) c.in-Serve.is c.serve_file.result c.serve_file.ensures.desk

@@ -36,7 +36,7 @@ as_desk g desk connection store same closes may opens = record {
 
 pub returns-clause-clean : goal.returns-clause-clean
 returns-clause-clean g c clean =
-    subst (λ (k : Held _). HasCleanDisk (state g.F.Opened.Store k)) c.into_connection.ensures.same
+    subst (λ (k : Held _). HasCleanDisk (state g.F.Opened.Store k)) c.close-connection.ensures.same
     (c.close_connection_into_store.ensures.clean (c.close.ensures.clean clean))
 
 pub returns-clause-closes : goal.returns-clause-closes
@@ -44,11 +44,11 @@ returns-clause-closes g c clean =
     let closes = c.close_connection_into_store.ensures in
     let store = c.close_connection_into_store.result in
     let sound = c.close.ensures.clean clean in
-    let same = sym c.into_connection.ensures.same in
-    let left_by = as_desk g.F.Opened.Store c.args.desk c.into_connection.result store same closes in
+    let same = sym c.close-connection.ensures.same in
+    let left_by = as_desk g.F.Opened.Store c.args.desk c.close-connection.result.0 store same closes in
     record {
       before = store;
-      gives = subst (λ (k : Held _). ClosesAs g.F.Opened.Store k store) c.into_connection.ensures.same closes;
+      gives = subst (λ (k : Held _). ClosesAs g.F.Opened.Store k store) c.close-connection.ensures.same closes;
       closes = c.close.ensures;
       up_to = left_by _ (g.met.F.Files.opens_again store (closes.numbered sound) (closes.sound sound));
       from = left_by _ (c.close.ensures.leaves clean (closes.numbered sound) (closes.sound sound));

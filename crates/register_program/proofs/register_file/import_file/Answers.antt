@@ -2,6 +2,7 @@ use Rattle.std.proofs.Common.{[], ap, refl}
 use Rattle.register_desk.proofs.Found.{leaves_alone}
 use Rattle.register_desk.specs.Desk.{LeavesEither}
 use Rattle.register_report.specs.ImportRows.{HasRowItems}
+use Rattle.register_program.proofs.Breaking.{breaks_as}
 use Rattle.register_program.proofs.OfDesk.{of_desk}
 use Rattle.register_program.proofs.Living.{fault_leaves, imports_none, lives_anyway}
 use Rattle.register_program.proofs.register_file.import_file.Goals as goal
@@ -13,12 +14,12 @@ returns-clause-imports g c =
       lives = λ h bytes items lawful holds known has clean.
           let under : HasRowItems c.args.terms.now.moment c.args.terms.now.caller c.get.result bytes items =
           rw c.get.ensures.value has in
-          let after = c.close_desk.ensures.clean clean in
+          let after = c.close_desk-files.ensures.clean clean in
           let stands = c.in_ok-desk.ensures.stands h lawful holds (run.ensures.clean after) in
           let runs = (run.ensures.table bytes known).runs items under in
           let next = runs.leaves h stands c.in_ok-desk.ensures.whole after in
           let over = runs.agrees h stands after in
-          of_desk (c.close_desk.ensures.closes clean) (λ may leaves. record {
+          of_desk (c.close_desk-files.ensures.closes clean) (λ may leaves. record {
             over = over;
             leaves = leaves.one_of _ _ next;
             in_part = λ is. leaves.one_of _ _ (fault_leaves g.F.Opened.Store h items [] run.result _ _ c.in_ok-desk.desk
@@ -26,18 +27,18 @@ returns-clause-imports g c =
           });
       without = λ h bytes lawful holds known none clean.
           let without = (run.ensures.table bytes known).without none in
-          let before = run.ensures.clean (c.close_desk.ensures.clean clean) in
+          let before = run.ensures.clean (c.close_desk-files.ensures.clean clean) in
           let alone = leaves_alone g.F.Opened.Store h c.in_ok-desk.desk
           (c.in_ok-desk.ensures.stands h lawful holds before) c.in_ok-desk.ensures.whole before in
           let still : LeavesEither g.F.Opened.Store h h run.new.desk = rw without.0.desk alone in
-          of_desk (c.close_desk.ensures.closes clean) (λ may leaves. record {
+          of_desk (c.close_desk-files.ensures.closes clean) (λ may leaves. record {
             ends = without.1;
             same = rw without.0.writer refl;
             leaves = leaves.one_of h h still;
           });
-      anyway = lives_anyway _ _ _ _ run.result c.close_desk.result _ _
-          c.in_ok-desk.desk run.new.desk c.in_ok-desk.ensures.whole c.close_desk.ensures.closes
-          c.close_desk.ensures.clean run.ensures.clean c.in_ok-desk.ensures.stands c.in_ok-desk.ensures.nothing
+      anyway = lives_anyway _ _ _ _ run.result c.close_desk-files.result.1 c.close_desk-files.result.0 _ _
+          c.in_ok-desk.desk run.new.desk c.in_ok-desk.ensures.whole c.close_desk-files.ensures.closes
+          c.close_desk-files.ensures.clean run.ensures.clean c.in_ok-desk.ensures.stands c.in_ok-desk.ensures.nothing
           (λ is. let none = run.ensures.bad_header is in (ap g.W.Write.contents none.writer, none.replies))
           run.ensures.lives;
     }
@@ -46,3 +47,8 @@ pub returns-in_err-desk-clause-imports : goal.returns-in_err-desk-clause-imports
 returns-in_err-desk-clause-imports g c =
     imports_none _ _ _ _ c.in_err-desk.field-0.0
     c.in_err-desk.ensures.refuses c.args.terms.now _ _ _ c.from_residual.result c.from_residual.ensures.1
+
+pub returns-clause-desk : goal.returns-clause-desk
+returns-clause-desk g c =
+    breaks_as g.F.Opened.Store c.close_desk-files.result.1 c.in_ok-desk.desk c.import-outcome.new.desk
+    c.in_ok-desk.ensures.whole c.close_desk-files.ensures.mark c.import-outcome.result.end c.import-outcome.ensures.desk

@@ -1,4 +1,5 @@
 use Rattle.std.proofs.Common.{arith, refl}
+use Rattle.register_desk.specs.OpenRefusal.{connection_in, refusal_in}
 use Rattle.register_desk.proofs.Found.{finds_nothing, finds_register, lawful_there}
 use Rattle.register_desk.proofs.NoRegister.{passes_nothing}
 use Rattle.register_desk.proofs.Opened.{meet_checks, stored_in}
@@ -34,8 +35,8 @@ returns-in_err-desk g c =
     opens_none _ _ _ _ _ c.from_residual-in_err-desk.result
     c.from_residual-in_err-desk.ensures.1
     (λ refused gives. refuses_opened _ _ _ _ g.met.F.Files.opens_again
-    c.in_ok-connection.connection unopened.connection c.in_ok-connection.ensures.shows
-    (λ clean. omega (arith, it.stop.clean, clean)) unopened.refusal it.refused it.blames_none
+    c.in_ok-connection.connection (connection_in unopened) c.in_ok-connection.ensures.shows
+    (λ clean. omega (arith, it.stop.clean, clean)) (refusal_in unopened) it.refused it.blames_none
     it.leaves_refused
     (λ version h lawful had. it.leaves_stored (stored_in version h) had (meet_checks version h lawful)) unopened
     refused gives refl refl)

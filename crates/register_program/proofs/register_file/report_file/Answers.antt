@@ -1,4 +1,5 @@
 use Rattle.register_desk.proofs.Found.{leaves_still}
+use Rattle.register_program.proofs.Breaking.{breaks_none}
 use Rattle.register_program.proofs.Living.{reports_none}
 use Rattle.register_program.proofs.OfDesk.{of_desk}
 use Rattle.register_program.proofs.register_file.report_file.Goals as goal
@@ -6,17 +7,17 @@ use Rattle.register_program.proofs.register_file.report_file.Goals as goal
 pub returns-clause-reports : goal.returns-clause-reports
 returns-clause-reports g c = record {
   keeps = λ h lawful holds clean.
-      let after = c.close_desk.ensures.clean clean in
+      let after = c.close_desk-files.ensures.clean clean in
       let alone = c.rotation-outcome.ensures.alone.reads in
       let stands = c.in_ok-desk.ensures.stands h lawful holds (alone.clean after) in
-      of_desk (c.close_desk.ensures.closes clean) (λ may leaves.
+      of_desk (c.close_desk-files.ensures.closes clean) (λ may leaves.
       leaves.one_of h h (leaves_still g.F.Opened.Store h c.in_ok-desk.desk
       c.rotation-outcome.new.desk alone stands c.in_ok-desk.ensures.whole after));
   lives = λ h rows lawful holds are clean.
-      let after = c.close_desk.ensures.clean clean in
+      let after = c.close_desk-files.ensures.clean clean in
       let alone = c.rotation-outcome.ensures.alone.reads in
       let stands = c.in_ok-desk.ensures.stands h lawful holds (alone.clean after) in
-      of_desk (c.close_desk.ensures.closes clean) (λ may leaves. record {
+      of_desk (c.close_desk-files.ensures.closes clean) (λ may leaves. record {
         writes = c.rotation-outcome.ensures.agrees h rows stands after are;
         leaves = leaves.one_of h h (leaves_still g.F.Opened.Store h c.in_ok-desk.desk
             c.rotation-outcome.new.desk alone stands c.in_ok-desk.ensures.whole after);
@@ -24,7 +25,7 @@ returns-clause-reports g c = record {
   opens = record {
     nothing = λ none clean.
         c.in_ok-desk.ensures.nothing none
-        (c.rotation-outcome.ensures.alone.reads.clean (c.close_desk.ensures.clean clean));
+        (c.rotation-outcome.ensures.alone.reads.clean (c.close_desk-files.ensures.clean clean));
     refuses = tt;
   };
 }
@@ -33,3 +34,8 @@ pub returns-in_err-desk-clause-reports : goal.returns-in_err-desk-clause-reports
 returns-in_err-desk-clause-reports g c =
     reports_none _ _ _ _ c.in_err-desk.field-0.0
     c.in_err-desk.ensures.refuses c.args.days _ _ c.from_residual.result c.from_residual.ensures.1
+
+pub returns-clause-desk : goal.returns-clause-desk
+returns-clause-desk g c =
+    breaks_none g.F.Opened.Store c.close_desk-files.result.1 c.in_ok-desk.desk c.rotation-outcome.new.desk
+    c.in_ok-desk.ensures.whole c.close_desk-files.ensures.mark c.rotation-outcome.result.end c.rotation-outcome.ensures.alone

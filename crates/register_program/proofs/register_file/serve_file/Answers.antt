@@ -1,5 +1,6 @@
 use Rattle.std.proofs.Common.{◌++◌}
 use Rattle.register_core.specs.Fold.{history}
+use Rattle.register_program.proofs.Breaking.{breaks_as}
 use Rattle.register_program.proofs.Living.{serves_none}
 use Rattle.register_program.proofs.OfDesk.{of_desk}
 use Rattle.register_program.proofs.register_file.serve_file.Goals as goal
@@ -9,10 +10,10 @@ returns-clause-serves g c =
     let serve = c.serve_at-end in
     rw (c.ended_without_bytes.ensures) (record {
       lives = λ h lawful holds clean.
-          let after = c.close_desk.ensures.clean clean in
+          let after = c.close_desk-files.ensures.clean clean in
           let stands = c.in_ok-desk.ensures.stands h lawful holds (serve.ensures.clean after) in
           let some = serve.ensures.leaves h stands c.in_ok-desk.ensures.whole after in
-          of_desk (c.close_desk.ensures.closes clean) (λ may leaves. record {
+          of_desk (c.close_desk-files.ensures.closes clean) (λ may leaves. record {
             items = some.items;
             next = some.next;
             one = some.one;
@@ -23,7 +24,7 @@ returns-clause-serves g c =
       ends = serve.ensures.ends;
       opens = record {
         nothing = λ none clean.
-            c.in_ok-desk.ensures.nothing none (serve.ensures.clean (c.close_desk.ensures.clean clean));
+            c.in_ok-desk.ensures.nothing none (serve.ensures.clean (c.close_desk-files.ensures.clean clean));
         refuses = tt;
       };
     })
@@ -33,3 +34,8 @@ returns-in_err-desk-clause-serves g c =
     serves_none _ _ _ _
     c.in_err-desk.field-0.0 c.in_err-desk.ensures.refuses c.args.bounds.now.exchanges c.from_residual.result
     c.from_residual.ensures.1
+
+pub returns-clause-desk : goal.returns-clause-desk
+returns-clause-desk g c =
+    rw (c.ended_without_bytes.ensures) (breaks_as g.F.Opened.Store c.close_desk-files.result.1 c.in_ok-desk.desk c.serve_at-end.new.desk
+    c.in_ok-desk.ensures.whole c.close_desk-files.ensures.mark c.serve_at-end.result c.serve_at-end.ensures.desk)

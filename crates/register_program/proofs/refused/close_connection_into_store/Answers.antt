@@ -1,5 +1,5 @@
 use Rattle.std.proofs.Common.{arith}
-use Rattle.register_program.proofs.register_file.close_connection_into_store.Goals as goal
+use Rattle.register_program.proofs.refused.close_connection_into_store.Goals as goal
 
 pub returns : goal.returns
 returns g c = record {
