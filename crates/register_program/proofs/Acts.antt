@@ -13,7 +13,7 @@ use Rattle.register_program.specs.declared.acting.Done.{Done}
 use Rattle.register_program.specs.declared.acting.Inputs.{Inputs}
 use Rattle.register_program.specs.Act.{Acts}
 use Rattle.register_program.specs.Alone.{RunsWithoutFile, end_alone}
-use Rattle.register_program.specs.Ends.{BlamesStreams, NoOther}
+use Rattle.register_program.specs.Ends.{EndsRun}
 use Rattle.register_program.specs.declared.register_file.Life.{Life}
 use Rattle.register_program.specs.Job.{BreaksSo, EndsSo, Performs, status_after}
 use Rattle.streams.specs.declared.watched.Watched.{Watched}
@@ -34,13 +34,12 @@ pub ran_without_file : (input old new : Option (List ℕ)) (came : Result Outcom
 ran_without_file input old new (Ok outcome) runs same = runs
 ran_without_file input old new (Err refusal) runs same = same
 
-pub blames_streams : {R W E : Type 0} (remaining : R → Option (List ℕ)) (contents : W → Option (List ℕ))
-    (reader reader_new : Watched R) (writer writer_new : Watched W) (came : Result Outcome E)
-    → IfOk came (LeavesReader remaining reader reader_new) → IfOk came (LeavesWriter contents writer writer_new)
-    → IfOk came (BlamesStreams NoOther reader_new writer_new)
-blames_streams remaining contents reader reader_new writer writer_new (Ok outcome) reads writes =
-    record { reads = λ is. inl (reads.fault is); writes = writes.fault }
-blames_streams remaining contents reader reader_new writer writer_new (Err refusal) reads writes = tt
+pub ends_run : {R W E : Type 0} (remaining : R → Option (List ℕ)) (contents : W → Option (List ℕ))
+    (reader reader_new : Watched R) (old new : Watched W) (came : Result Outcome E)
+    → IfOk came (LeavesReader remaining reader reader_new) → IfOk came (LeavesWriter contents old new)
+    → IfOk came (EndsRun remaining contents reader reader_new old new)
+ends_run remaining contents reader reader_new old new (Ok outcome) reads writer = record { reads = reads; writer = writer }
+ends_run remaining contents reader reader_new old new (Err refusal) reads writer = tt
 
 -- ---- by a job
 
@@ -58,12 +57,14 @@ performs_as g may_leave may_stay found input old new done given job is performs 
     subst (λ (it : Job). Performs g may_leave may_stay found it input old new done) (sym is) performs
 
 -- and what it ended by
-pub ends_so : {R W X E : Type 0} (input : Option (List ℕ)) (inputs : Inputs R) (writer : Watched W) (given job : Job)
-    → given ≡ job → (outcome : X → Outcome) (came : Result X E)
-    → IfOk came (λ it. EndsSo job input inputs writer (outcome it))
-    → IfOk came (λ it. EndsSo given input inputs writer (outcome it))
-ends_so input inputs writer given job is outcome came ends =
-    subst (λ (it : Job). IfOk came (λ x. EndsSo it input inputs writer (outcome x))) (sym is) ends
+pub ends_so : {R W X E : Type 0} (remaining : R → Option (List ℕ)) (contents : W → Option (List ℕ))
+    (inputs inputs_new : Inputs R) (old new : Watched W) (given job : Job) → given ≡ job
+    → (outcome : X → Outcome) (came : Result X E)
+    → IfOk came (λ it. EndsSo remaining contents job inputs inputs_new old new (outcome it))
+    → IfOk came (λ it. EndsSo remaining contents given inputs inputs_new old new (outcome it))
+ends_so remaining contents inputs inputs_new old new given job is outcome came ends =
+    subst (λ (it : Job). IfOk came (λ x. EndsSo remaining contents it inputs inputs_new old new (outcome x)))
+    (sym is) ends
 
 -- and what that left of the desk
 pub breaks_so : {S E : Type 0} (given job : Job) → given ≡ job → (came : Result (Life S) E)

@@ -6,7 +6,7 @@ use Rattle.register_desk.specs.declared.runs.Finish.{Finish}
 use Rattle.register_desk.specs.declared.runs.Outcome.{Outcome}
 use Rattle.register_desk.specs.InMemory.{RunsInMemory}
 use Rattle.register_program.specs.declared.acting.Outputs.{Outputs}
-use Rattle.register_program.specs.Ends.{BlamesStreams, NoOther}
+use Rattle.register_program.specs.Ends.{EndsRun}
 use Rattle.register_program.specs.Faults.{Tells}
 use Rattle.register_program.specs.Job.{line_after, status_after}
 
@@ -20,11 +20,12 @@ abbrev pub end_alone : Result Outcome OpenRefusal → Result Finish OpenRefusal
 end_alone (Ok outcome) = Ok outcome.end
 end_alone (Err refusal) = Err refusal
 
-module _ {R W E : Type 0} (written : W → Option (List ℕ)) (told : E → Option (List ℕ)) where
-  -- It was run over this input; the status is that of what this came to, which the writer of faults was told.
-  pub record ActsAlone (input : Option (List ℕ)) (reader : Watched R) (old new : Outputs W E) (status : ℕ) : Type 0 where
+module _ {R W E : Type 0} (remaining : R → Option (List ℕ)) (written : W → Option (List ℕ))
+    (told : E → Option (List ℕ)) where
+  -- It was run over this reader; the status is that of what this came to, which the writer of faults was told.
+  pub record ActsAlone (reader reader_new : Watched R) (old new : Outputs W E) (status : ℕ) : Type 0 where
     pub came : Result Outcome OpenRefusal
-    pub runs : RunsWithoutFile input (written old.writer.inner) (written new.writer.inner) came
-    pub ends : IfOk came (BlamesStreams NoOther reader new.writer)
+    pub runs : RunsWithoutFile (remaining reader.inner) (written old.writer.inner) (written new.writer.inner) came
+    pub ends : IfOk came (EndsRun remaining written reader reader_new old.writer new.writer)
     pub tells : Tells told (line_after (end_alone came)) old.faults new.faults
     pub status_is : status ≡ status_after (end_alone came)

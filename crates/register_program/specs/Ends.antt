@@ -8,24 +8,9 @@ use Rattle.register_desk.specs.declared.runs.Finish.{Finish}
 use Rattle.register_desk.specs.declared.runs.Finish.TheVariants.{AtEnd, Ended}
 use Rattle.register_desk.specs.declared.runs.Outcome.{Outcome}
 use Rattle.register_desk.specs.Desk.{was_broken}
-use Rattle.register_desk.specs.Run.{max_idle_turns, max_reads}
+use Rattle.register_desk.specs.Run.{LeavesReader, LeavesWriter, max_reads}
 use Rattle.register_report.specs.Import.{StopsAtRecord}
-
--- 36: the writer failed, or was interrupted too often in a row
-abbrev pub IsWritersFault : {W : Type 0} → Watched W → Outcome → Type 0
-IsWritersFault writer outcome = outcome.end ≡ Ended WriteFault → IsFaulted writer.failed max_idle_turns writer.idle
-
--- 35: the reader failed, or was asked too often; or there is another cause
-abbrev pub IsReadersFault : {R : Type 0} → (Outcome → Type 0) → Watched R → Outcome → Type 0
-IsReadersFault Other reader outcome =
-    outcome.end ≡ Ended ReadFault → IsFaulted reader.failed max_reads reader.turns ⊎ Other outcome
-
-abbrev pub NoOther : Outcome → Type 0
-NoOther outcome = ⊥
-
--- the next record of this input is no text, or a row too many
-abbrev pub BlamesRecord : Option (List ℕ) → Outcome → Type 0
-BlamesRecord input outcome = (bytes : List ℕ) → input ≡ Some bytes → StopsAtRecord bytes outcome.replies
+use Rattle.register_report.specs.TextWriter.{EndsAs}
 
 -- 31 leaves the desk broken, which was whole as it was opened, and any other end leaves it whole
 abbrev pub BreaksAs : Finish → DeskMark → Type 0
@@ -42,12 +27,24 @@ pub record BreaksNone (end : Finish) (mark : DeskMark) : Type 0 where
   pub whole : was_broken mark ≡ false
   pub none : end ≢ Ended Broken
 
-pub record BlamesStreams {R W : Type 0} (Other : Outcome → Type 0) (reader : Watched R) (writer : Watched W)
-    (outcome : Outcome) : Type 0 where
-  pub reads : IsReadersFault Other reader outcome
-  pub writes : IsWritersFault writer outcome
+-- the next record of this input is no text, or a row too many
+abbrev pub BlamesRecord : Option (List ℕ) → Outcome → Type 0
+BlamesRecord input outcome = (bytes : List ℕ) → input ≡ Some bytes → StopsAtRecord bytes outcome.replies
 
--- of a call that reads nothing
-pub record BlamesWriter {W : Type 0} (writer : Watched W) (outcome : Outcome) : Type 0 where
-  pub reads : outcome.end ≡ Ended ReadFault → ⊥
-  pub writes : IsWritersFault writer outcome
+-- of a call that reads nothing: 36 is its writer's fault
+pub record EndsWriting {W : Type 0} (contents : W → Option (List ℕ)) (old new : Watched W) (outcome : Outcome)
+    : Type 0 where
+  pub writer : LeavesWriter contents old new outcome
+  pub ends : EndsAs outcome.end
+
+module _ {R W : Type 0} (remaining : R → Option (List ℕ)) (contents : W → Option (List ℕ)) where
+  -- of request lines: 35 is their reader's fault, and 36 the writer's
+  pub record EndsRun (reader reader_new : Watched R) (old new : Watched W) (outcome : Outcome) : Type 0 where
+    pub reads : LeavesReader remaining reader reader_new outcome
+    pub writer : LeavesWriter contents old new outcome
+
+  -- of rows: 35 is their reader's fault, or a record's
+  pub record EndsImport (reader reader_new : Watched R) (old new : Watched W) (outcome : Outcome) : Type 0 where
+    pub reads : outcome.end ≡ Ended ReadFault
+        → IsFaulted reader_new.failed max_reads reader_new.turns ⊎ BlamesRecord (remaining reader.inner) outcome
+    pub writer : LeavesWriter contents old new outcome

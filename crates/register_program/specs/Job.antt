@@ -14,7 +14,7 @@ use Rattle.register_program.specs.declared.acting.Done.{Done}
 use Rattle.register_program.specs.declared.acting.Done.TheVariants.{Made, Lived}
 use Rattle.register_program.specs.declared.acting.Inputs.{Inputs}
 use Rattle.register_program.specs.Act.{unopened_status, status_of}
-use Rattle.register_program.specs.Ends.{BlamesRecord, BlamesStreams, BlamesWriter, BreaksAs, BreaksNone, NoOther}
+use Rattle.register_program.specs.Ends.{BreaksAs, BreaksNone, EndsImport, EndsRun, EndsWriting}
 use Rattle.register_program.specs.Faults.{finish_line, refusal_line}
 use Rattle.register_program.specs.FileCalls.{Exports, ImportsRows, MakesRegister, Reports, RunsLines, ServesExchanges}
 use Rattle.register_program.specs.ServedExchanges.{ExplainsEnd}
@@ -54,17 +54,6 @@ module _ {S U : Type 0} (g : Ghosts S) (may_leave : S → Image → Type 0) (may
       ServesExchanges g may_leave may_stay found bounds.exchanges came × (new ≡ old)
   Performs job input old new done = ⊥
 
--- what ended a life of a register by this job has its cause where it is blamed
-abbrev pub EndsSo : {R W : Type 0} → Job → Option (List ℕ) → Inputs R → Watched W → Outcome → Type 0
-EndsSo Init input inputs writer outcome = ⊥
-EndsSo Run input inputs writer outcome = BlamesStreams NoOther inputs.reader writer outcome
-EndsSo (Import terms) input inputs writer outcome =
-    BlamesStreams (BlamesRecord input) inputs.reader writer outcome
-EndsSo Export input inputs writer outcome = BlamesWriter writer outcome
-EndsSo (Report days) input inputs writer outcome = BlamesWriter writer outcome
-EndsSo (Serve bounds) input inputs writer outcome =
-    ExplainsEnd bounds.exchanges inputs.attendance outcome.end
-
 -- what a life of a register by this job left of its desk
 abbrev pub BreaksSo : Job → Finish → DeskMark → Type 0
 BreaksSo Init end mark = ⊥
@@ -78,6 +67,20 @@ abbrev pub BreaksFor : {S U : Type 0} → Job → Done S U → Type 0
 BreaksFor job (Made came) = Unit {0}
 BreaksFor job (Lived came) = IfOk came (λ life. BreaksSo job life.outcome.end life.mark)
 
-abbrev pub EndsFor : {R W S U : Type 0} → Job → Option (List ℕ) → Inputs R → Watched W → Done S U → Type 0
-EndsFor job input inputs writer (Made came) = Unit {0}
-EndsFor job input inputs writer (Lived came) = IfOk came (λ life. EndsSo job input inputs writer life.outcome)
+module _ {R W : Type 0} (remaining : R → Option (List ℕ)) (contents : W → Option (List ℕ)) where
+  -- what ended a life of a register by this job has its cause where it is blamed
+  abbrev pub EndsSo : Job → Inputs R → Inputs R → Watched W → Watched W → Outcome → Type 0
+  EndsSo Init inputs inputs_new old new outcome = ⊥
+  EndsSo Run inputs inputs_new old new outcome =
+      EndsRun remaining contents inputs.reader inputs_new.reader old new outcome
+  EndsSo (Import terms) inputs inputs_new old new outcome =
+      EndsImport remaining contents inputs.reader inputs_new.reader old new outcome
+  EndsSo Export inputs inputs_new old new outcome = EndsWriting contents old new outcome
+  EndsSo (Report days) inputs inputs_new old new outcome = EndsWriting contents old new outcome
+  EndsSo (Serve bounds) inputs inputs_new old new outcome =
+      ExplainsEnd bounds.exchanges inputs_new.attendance outcome.end
+
+  abbrev pub EndsFor : {S U : Type 0} → Job → Inputs R → Inputs R → Watched W → Watched W → Done S U → Type 0
+  EndsFor job inputs inputs_new old new (Made came) = Unit {0}
+  EndsFor job inputs inputs_new old new (Lived came) =
+      IfOk came (λ life. EndsSo job inputs inputs_new old new life.outcome)

@@ -133,7 +133,7 @@ pub fn act_in_memory<R: Read, W: Write, E: Write>(
 ) -> u8
     requires reader { reader.old.failed ≡ false }
     requires writer { outputs.old.writer.failed ≡ false }
-    ensures does { ActsAlone W.contents E.contents (R.remaining reader.old.inner) reader.new
+    ensures does { ActsAlone R.remaining W.contents E.contents reader.old reader.new
         outputs.old outputs.new result }
     // Of an input whose bytes are known, what is written and the status are those of a run from the
     // empty history.
@@ -159,7 +159,7 @@ fn perform<F: Files + Drop, N: Network + Clock + Drop, R: Read, W: Write>(
     ensures performs { Performs F.Opened.Store F.may_leave F.may_leave_failed (F.start file.now)
         job.now (R.remaining inputs.old.reader.inner) (W.contents writer.old.inner)
         (W.contents writer.new.inner) result }
-    ensures ends { EndsFor job.now (R.remaining inputs.old.reader.inner) inputs.new writer.new
+    ensures ends { EndsFor R.remaining W.contents job.now inputs.old inputs.new writer.old writer.new
         result }
     ensures desk { BreaksFor job.now result }
 {
@@ -203,8 +203,8 @@ pub fn act<F: Files + Drop, N: Network + Clock + Drop, R: Read, W: Write, E: Wri
         job.now (R.remaining inputs.old.reader.inner) (W.contents outputs.old.writer.inner)
         (W.contents outputs.new.writer.inner) result.done }
     // What a stream or the network is blamed for has its cause there.
-    ensures ends { EndsFor job.now (R.remaining inputs.old.reader.inner) inputs.new
-        outputs.new.writer result.done }
+    ensures ends { EndsFor R.remaining W.contents job.now inputs.old inputs.new
+        outputs.old.writer outputs.new.writer result.done }
     // 31 comes of a call that broke the desk, and 32 of none.
     ensures desk { BreaksFor job.now result.done }
     // Whatever register the file held, it holds that after the life that this was.

@@ -6,8 +6,8 @@ ghost use Rattle.register_program.specs.Closing.{ClosesDesk};
 ghost use Rattle.register_program.specs.Within.Closing.{LeavesAsDesk};
 ghost use Rattle.register_program.specs.FileCalls.{Exports, ImportsRows, MakesRegister, OpensFile};
 ghost use Rattle.register_program.specs.FileCalls.{Reports, RunsLines, ServesExchanges};
-ghost use Rattle.register_program.specs.Ends.{BlamesRecord, BlamesStreams, BlamesWriter};
-ghost use Rattle.register_program.specs.Ends.{BreaksAs, BreaksNone, NoOther};
+ghost use Rattle.register_program.specs.Ends.{BreaksAs, BreaksNone, EndsImport, EndsRun};
+ghost use Rattle.register_program.specs.Ends.{EndsWriting};
 ghost use Rattle.register_program.specs.ServedExchanges.{ExplainsEnd, nobody};
 
 use crate::attendance::Attendance;
@@ -102,7 +102,8 @@ pub fn run_file<F: Files + Drop, R: Read, W: Write>(
     ensures runs { RunsLines F.Opened.Store F.may_leave F.may_leave_failed (F.start file.now)
         (R.remaining reader.old.inner) (W.contents writer.old.inner) (W.contents writer.new.inner)
         result }
-    ensures ends { IfOk result (λ life. BlamesStreams NoOther reader.new writer.new life.outcome) }
+    ensures ends { IfOk result (λ life. EndsRun R.remaining W.contents reader.old reader.new
+        writer.old writer.new life.outcome) }
     ensures desk { IfOk result (λ life. BreaksAs life.outcome.end life.mark) }
     ensures untouched { IfErr result (λ _. writer.new ≡ writer.old) }
 {
@@ -134,8 +135,8 @@ pub fn import_file<F: Files + Drop, R: Read, W: Write>(
     ensures imports { ImportsRows F.Opened.Store F.may_leave F.may_leave_failed
         (F.start file.now) terms.now (R.remaining reader.old.inner) (W.contents writer.old.inner)
         (W.contents writer.new.inner) result }
-    ensures ends { IfOk result (λ life. BlamesStreams (BlamesRecord (R.remaining reader.old.inner))
-        reader.new writer.new life.outcome) }
+    ensures ends { IfOk result (λ life. EndsImport R.remaining W.contents reader.old reader.new
+        writer.old writer.new life.outcome) }
     ensures desk { IfOk result (λ life. BreaksAs life.outcome.end life.mark) }
     ensures untouched { IfErr result (λ _. writer.new ≡ writer.old) }
 {
@@ -170,7 +171,7 @@ pub fn export_file<F: Files + Drop, W: Write>(
     requires { writer.old.failed ≡ false }
     ensures exports { Exports F.Opened.Store F.may_leave F.may_leave_failed (F.start file.now)
         (W.contents writer.old.inner) (W.contents writer.new.inner) result }
-    ensures ends { IfOk result (λ life. BlamesWriter writer.new life.outcome) }
+    ensures ends { IfOk result (λ life. EndsWriting W.contents writer.old writer.new life.outcome) }
     ensures desk { IfOk result (λ life. BreaksNone life.outcome.end life.mark) }
     ensures untouched { IfErr result (λ _. writer.new ≡ writer.old) }
 {
@@ -199,7 +200,7 @@ pub fn report_file<F: Files + Drop, W: Write>(
     requires { writer.old.failed ≡ false }
     ensures reports { Reports F.Opened.Store F.may_leave F.may_leave_failed (F.start file.now) days
         (W.contents writer.old.inner) (W.contents writer.new.inner) result }
-    ensures ends { IfOk result (λ life. BlamesWriter writer.new life.outcome) }
+    ensures ends { IfOk result (λ life. EndsWriting W.contents writer.old writer.new life.outcome) }
     ensures desk { IfOk result (λ life. BreaksNone life.outcome.end life.mark) }
     ensures untouched { IfErr result (λ _. writer.new ≡ writer.old) }
 {

@@ -42,26 +42,26 @@ returns-clause-performs g c =
 
 pub returns-in-Run-clause-ends : goal.returns-in-Run-clause-ends
 returns-in-Run-clause-ends g c =
-    ends_so _ _ _ c.args.job.now Run c.in-Run.is (λ life. life.outcome) c.run_file.result c.run_file.ensures.ends
+    ends_so _ _ _ _ _ _ c.args.job.now Run c.in-Run.is (λ life. life.outcome) c.run_file.result c.run_file.ensures.ends
 
 pub returns-in-Import-clause-ends : goal.returns-in-Import-clause-ends
 returns-in-Import-clause-ends g c =
-    ends_so _ _ _ c.args.job.now (Import c.in-Import.terms) c.in-Import.is (λ life. life.outcome)
+    ends_so _ _ _ _ _ _ c.args.job.now (Import c.in-Import.terms) c.in-Import.is (λ life. life.outcome)
     c.import_file.result c.import_file.ensures.ends
 
 pub returns-in-Export-clause-ends : goal.returns-in-Export-clause-ends
 returns-in-Export-clause-ends g c =
-    ends_so _ _ _ c.args.job.now Export c.in-Export.is (λ life. life.outcome) c.export_file.result
+    ends_so _ _ _ _ _ _ c.args.job.now Export c.in-Export.is (λ life. life.outcome) c.export_file.result
     c.export_file.ensures.ends
 
 pub returns-in-Report-clause-ends : goal.returns-in-Report-clause-ends
 returns-in-Report-clause-ends g c =
-    ends_so _ _ _ c.args.job.now (Report c.in-Report.days) c.in-Report.is (λ life. life.outcome)
+    ends_so _ _ _ _ _ _ c.args.job.now (Report c.in-Report.days) c.in-Report.is (λ life. life.outcome)
     c.report_file.result c.report_file.ensures.ends
 
 pub returns-clause-ends : goal.returns-clause-ends
 returns-clause-ends g c =
-    ends_so _ _ _ c.args.job.now (Serve c.in-Serve.bounds) c.in-Serve.is (λ life. life.outcome)
+    ends_so _ _ _ _ _ _ c.args.job.now (Serve c.in-Serve.bounds) c.in-Serve.is (λ life. life.outcome)
     c.serve_file.result c.serve_file.ensures.ends
 
 pub returns-in-Run-clause-desk : goal.returns-in-Run-clause-desk

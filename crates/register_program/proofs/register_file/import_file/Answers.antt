@@ -52,3 +52,6 @@ pub returns-clause-desk : goal.returns-clause-desk
 returns-clause-desk g c =
     breaks_as g.F.Opened.Store c.close_desk-files.result.1 c.in_ok-desk.desk c.import-outcome.new.desk
     c.in_ok-desk.ensures.whole c.close_desk-files.ensures.mark c.import-outcome.result.end c.import-outcome.ensures.desk
+
+pub returns-clause-ends : goal.returns-clause-ends
+returns-clause-ends g c = record { reads = c.import-outcome.ensures.cause; writer = c.import-outcome.ensures.writer }

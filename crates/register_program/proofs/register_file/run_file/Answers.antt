@@ -34,3 +34,6 @@ pub returns-clause-desk : goal.returns-clause-desk
 returns-clause-desk g c =
     breaks_as g.F.Opened.Store c.close_desk-files.result.1 c.in_ok-desk.desk c.run-outcome.new.desk
     c.in_ok-desk.ensures.whole c.close_desk-files.ensures.mark c.run-outcome.result.end c.run-outcome.ensures.desk
+
+pub returns-clause-ends : goal.returns-clause-ends
+returns-clause-ends g c = record { reads = c.run-outcome.ensures.reader; writer = c.run-outcome.ensures.writer }
