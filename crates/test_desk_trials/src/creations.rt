@@ -1,6 +1,6 @@
 //! The worked row *made twice*: the making of a register where a table of its name is.
-use register_desk::{Desk, OpenRefusal};
-use sqlite::{Connection, MemStore};
+use crate::memory_desk::MemoryDatabase;
+use register_desk::OpenRefusal;
 use std::alloc::Global;
 use std::test::Fail;
 
@@ -16,42 +16,31 @@ static TABLES: [&str; 7] = [
 ];
 
 /// A database in memory with a table of this name that is none of ours, and a row in it.
-fn database_with(alloc: Global, table: &str) -> Result<Connection<MemStore>, Fail> {
-    let mut connection = Connection::open_in_memory(alloc)?;
-    let create = format!(in alloc; "CREATE TABLE {table} (note TEXT) STRICT")?;
-    connection.execute(create.as_str(), &[])?;
-    let insert = format!(in alloc; "INSERT INTO {table} (note) VALUES ('a')")?;
-    connection.execute(insert.as_str(), &[])?;
-    Ok(connection)
+fn database_with(alloc: Global, table: &str) -> Result<MemoryDatabase, Fail> {
+    let statements = format!(in alloc;
+        "CREATE TABLE {table} (note TEXT) STRICT; INSERT INTO {table} (note) VALUES ('a')"
+    )?;
+    MemoryDatabase::of(alloc, statements.as_str())
 }
 
-/// Whether the row is there, and another table is not.
-fn is_kept(
-    alloc: Global,
-    connection: &mut Connection<MemStore>,
-    table: &str,
-) -> Result<bool, Fail> {
-    let select = format!(in alloc; "SELECT note FROM {table}")?;
-    let note: String = connection.query_row(select.as_str(), &[])?.get(0)?;
+/// Whether the row that the query asks for is there, and another table is not.
+fn is_kept(database: &mut MemoryDatabase, table: &str, query: &str) -> bool {
     let other = if table == "keys" {
         "SELECT count(*) FROM meta"
     } else {
         "SELECT count(*) FROM keys"
     };
-    Ok(note.as_str() == "a" && connection.query_row(other, &[]).is_err())
+    database.tells(query, "a") && database.refuses(other)
 }
 
 /// Whether no register is made where the table is, which keeps its row, and no table comes.
 fn is_refused(alloc: Global, table: &str) -> Result<bool, Fail> {
-    let connection = database_with(alloc, table)?;
-    if !connection.is_autocommit() {
-        return Ok(false);
-    }
-    match Desk::create(alloc, connection) {
+    let query = format!(in alloc; "SELECT note FROM {table}")?;
+    match database_with(alloc, table)?.create() {
         Ok(_) => Ok(false),
-        Err(mut unopened) => Ok(
-            unopened.refusal == OpenRefusal::NotARegister
-                && is_kept(alloc, &mut unopened.connection, table)?,
+        Err(mut unmade) => Ok(
+            unmade.refusal == OpenRefusal::NotARegister
+                && is_kept(&mut unmade.database, table, query.as_str()),
         ),
     }
 }

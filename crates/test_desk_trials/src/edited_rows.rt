@@ -1,6 +1,6 @@
 //! Texts that no register holds, which came into its tables after an opening: a look-up that reads one
 //! tells so, and not that memory gave out, which meets any contract.
-use crate::fresh_run::desk_of;
+use crate::memory_desk::{MemoryDatabase, MemoryDesk};
 use register_core::Quorum;
 use register_store::{Counted, StoreError, load_key};
 use std::alloc::Global;
@@ -20,20 +20,25 @@ static EDITS: [&str; 5] = [
     "UPDATE keys SET kind = 8",
 ];
 
-/// Whether the key of the lines is found, once the statement was run.
-fn is_found(alloc: Global, edit: Option<&str>) -> Result<Result<bool, StoreError>, Fail> {
-    let mut connection = desk_of(alloc, LINES.as_bytes())?.into_connection();
-    if let Some(edit) = edit {
-        connection.execute(edit, &[])?;
+/// Whether key 1 is found in the database. No transaction is open there.
+fn looked_up(alloc: Global, database: MemoryDatabase) -> Result<bool, StoreError> {
+    if !database.connection.is_autocommit() {
+        return Ok(false);
     }
-    if !connection.is_autocommit() {
-        return Ok(Ok(false));
-    }
-    let mut tables = Counted::new(connection);
-    Ok(match load_key(alloc, &mut tables, 1, Quorum::LEAST) {
+    let mut tables = Counted::new(database.connection);
+    match load_key(alloc, &mut tables, 1, Quorum::LEAST) {
         Ok(found) => Ok(found.is_some()),
         Err(error) => Err(error),
-    })
+    }
+}
+
+/// Whether the key of the lines is found, once the statement was run.
+fn is_found(alloc: Global, edit: Option<&str>) -> Result<Result<bool, StoreError>, Fail> {
+    let mut database = MemoryDesk::after(alloc, LINES.as_bytes())?.into_database();
+    if let Some(edit) = edit {
+        database.execute(edit)?;
+    }
+    Ok(looked_up(alloc, database))
 }
 
 /// An edit of a row that is not told by the look-up, or the empty one where the row is not found as

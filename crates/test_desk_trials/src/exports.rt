@@ -1,8 +1,7 @@
 //! Exports and reports, over a register in memory.
-use crate::fresh_run::{desk_of, run_over};
-use register_desk::{Desk, End, Finish, Outcome, Watched};
-use register_report::{export, rotation};
-use sqlite::MemStore;
+use crate::calls::{Call, Called};
+use crate::memory_desk::MemoryDesk;
+use register_desk::{End, Finish, Outcome};
 use std::alloc::Global;
 use std::test::Fail;
 use test_faulty_devices::{Trouble, Troubled};
@@ -102,37 +101,33 @@ static REGISTERS: [Written; 4] = [
 ];
 
 /// Whether a call did this and wrote this text.
-fn is_written(outcome: Outcome, bytes: &[u8], text: &str) -> bool {
+fn is_written(called: &Called, text: &str) -> bool {
     let expected = Outcome {
         read: 0,
         written: text.len() as u64,
         replies: 0,
         end: Finish::AtEnd { rest: 0 },
     };
-    outcome == expected && bytes == text.as_bytes()
+    called.outcome == expected && called.output.as_slice() == text.as_bytes()
 }
 
-fn is_exported(alloc: Global, desk: &mut Desk<MemStore>, text: &str) -> bool {
-    let mut writer = Watched::new(Vec::new(alloc));
-    let outcome = export(alloc, desk, &mut writer);
-    is_written(outcome, writer.into_inner().as_slice(), text)
+fn is_exported(desk: &mut MemoryDesk, text: &str) -> bool {
+    is_written(&desk.make_call(Call::Export, b""), text)
 }
 
-fn is_reported(alloc: Global, desk: &mut Desk<MemStore>, days: u32, text: &str) -> bool {
-    let mut writer = Watched::new(Vec::new(alloc));
-    let outcome = rotation(alloc, desk, days, &mut writer);
-    is_written(outcome, writer.into_inner().as_slice(), text)
+fn is_reported(desk: &mut MemoryDesk, days: u32, text: &str) -> bool {
+    is_written(&desk.make_call(Call::Rotation { days }, b""), text)
 }
 
 /// Whether the register is written out so.
 fn is_written_out(alloc: Global, written: &Written) -> Result<bool, Fail> {
-    let mut desk = desk_of(alloc, written.lines.as_bytes())?;
     let text = export_of(alloc, written.export)?;
-    if !is_exported(alloc, &mut desk, text.as_str()) {
+    let mut desk = MemoryDesk::after(alloc, written.lines.as_bytes())?;
+    if !is_exported(&mut desk, text.as_str()) {
         return Ok(false);
     }
     for (days, report) in written.reports {
-        if !is_reported(alloc, &mut desk, *days, report) {
+        if !is_reported(&mut desk, *days, report) {
             return Ok(false);
         }
     }
@@ -155,26 +150,25 @@ pub fn is_export_ended_by_writer(alloc: Global) -> Result<bool, Fail> {
     let Some(several) = REGISTERS.get(2) else {
         return Ok(false);
     };
-    let mut desk = desk_of(alloc, several.lines.as_bytes())?;
     let text = export_of(alloc, several.export.get(..1).unwrap_or(&[]))?;
-    let mut writer = Watched::new(Troubled {
+    let mut desk = MemoryDesk::after(alloc, several.lines.as_bytes())?;
+    let writer = Troubled {
         inner: Vec::new(alloc),
         trouble: Trouble::FailsOnce,
         // Each line takes a write and a flush.
         good_turns: 4,
-    });
-    let outcome = export(alloc, &mut desk, &mut writer);
+    };
+    let ended = desk.call(Call::Export, b"".as_slice(), writer);
     let expected = Outcome {
         read: 0,
         written: text.len() as u64,
         replies: 0,
         end: Finish::Ended(End::WriteFault),
     };
-    let mut replies = Vec::new(alloc);
-    let _ = run_over(&mut desk, b"600 ann 6 advance\n", &mut replies);
+    let replies = desk.replies(b"600 ann 6 advance\n");
     Ok(
-        outcome == expected
-            && writer.into_inner().inner.as_slice() == text.as_bytes()
+        ended.outcome == expected
+            && ended.writer.inner.as_slice() == text.as_bytes()
             && replies.as_slice() == b"ok 0 - 600\n".as_slice(),
     )
 }

@@ -1,10 +1,8 @@
 //! Imports of tables, over a register in memory.
-use crate::fresh_run::make_desk;
-use moment_core::Moment;
-use register_core::Name;
-use register_desk::{Desk, End, Finish, Outcome, Watched};
-use register_report::{MAX_ROWS, import};
-use sqlite::MemStore;
+use crate::calls::Call;
+use crate::memory_desk::MemoryDesk;
+use register_desk::{End, Finish, Outcome};
+use register_report::MAX_ROWS;
 use std::alloc::Global;
 use std::test::Fail;
 
@@ -65,42 +63,27 @@ pub fn most_rows() -> u64 {
 
 /// Whether an import of the table at this moment, in seconds, ends so and writes these lines, each
 /// whole.
-fn is_answered(alloc: Global, desk: &mut Desk<MemStore>, table: &Table, seconds: u64) -> bool {
-    let (Some(moment), Some(caller)) = (Moment::new(seconds), Name::new(b"ann")) else {
-        return false;
-    };
-    if table.first == 0 || table.first > 9_007_199_254_740_991 {
-        return false;
-    }
-    let mut reader = Watched::new(table.bytes);
-    let mut writer = Watched::new(Vec::new(alloc));
-    let outcome = import(
-        alloc,
-        desk,
-        moment,
-        &caller,
-        table.first,
-        &mut reader,
-        &mut writer,
-    );
+fn is_answered(desk: &mut MemoryDesk, table: &Table, seconds: u64) -> bool {
+    let first = table.first;
+    let called = desk.make_call(Call::Import { seconds, first }, table.bytes);
     let expected = Outcome {
         read: 0,
         written: table.replies.len() as u64,
         replies: table.replies.lines().count() as u64,
         end: table.end,
     };
-    outcome == expected && writer.into_inner().as_slice() == table.replies.as_bytes()
+    called.outcome == expected && called.output.as_slice() == table.replies.as_bytes()
 }
 
 /// Whether the table is imported into an empty register as it should be, and sent again at 200 is
 /// answered alike and registers nothing.
 fn is_imported_once(alloc: Global, table: &Table) -> Result<bool, Fail> {
-    let mut desk = make_desk(alloc)?;
+    let mut desk = MemoryDesk::new(alloc)?;
+    let latest = if table.keys > 0 { 100 } else { 0 };
     Ok(
-        is_answered(alloc, &mut desk, table, 100)
-            && is_answered(alloc, &mut desk, table, 200)
-            && desk.count() == table.keys
-            && desk.latest().seconds() == (if table.keys > 0 { 100 } else { 0 }),
+        is_answered(&mut desk, table, 100)
+            && is_answered(&mut desk, table, 200)
+            && desk.stands() == (latest, table.keys),
     )
 }
 

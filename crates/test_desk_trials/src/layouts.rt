@@ -1,7 +1,5 @@
 //! A register whose tables stand in other trees than those of a register that was made here.
-use crate::fresh_run::run_over;
-use register_desk::Desk;
-use sqlite::{Connection, MemStore};
+use crate::memory_desk::{MemoryDatabase, MemoryDesk};
 use std::alloc::Global;
 use std::test::Fail;
 
@@ -36,23 +34,9 @@ static WITH_INDEXES_BETWEEN: [&str; 15] = [
 ];
 
 /// The desk over that register, or none where it is refused.
-fn with_indexes_between(alloc: Global) -> Result<Option<Desk<MemStore>>, Fail> {
-    let mut connection = Connection::open_in_memory(alloc)?;
-    for sql in &WITH_INDEXES_BETWEEN {
-        connection.execute(sql, &[])?;
-    }
-    reopen(alloc, connection)
-}
-
-/// The desk over the register of the connection, or none where it is refused.
-fn reopen(alloc: Global, connection: Connection<MemStore>) -> Result<Option<Desk<MemStore>>, Fail> {
-    if !connection.is_autocommit() {
-        return Ok(None);
-    }
-    match Desk::open(alloc, connection) {
-        Ok(desk) => Ok(Some(desk)),
-        Err(_) => Ok(None),
-    }
+fn with_indexes_between(alloc: Global) -> Result<Option<MemoryDesk>, Fail> {
+    let statements = WITH_INDEXES_BETWEEN.join(alloc, ";\n")?;
+    Ok(MemoryDatabase::of(alloc, statements.as_str())?.open())
 }
 
 /// Each table is written and read, and time moves the key.
@@ -77,10 +61,8 @@ const REPLIES: &str = "ok 1 Pre-Active 100\n\
     ok 1 Compromised 1001\n";
 
 /// Whether the lines are answered so.
-fn is_answered(alloc: Global, desk: &mut Desk<MemStore>) -> bool {
-    let mut output = Vec::new(alloc);
-    let _ = run_over(desk, LINES.as_bytes(), &mut output);
-    output.as_slice() == REPLIES.as_bytes()
+fn is_answered(desk: &mut MemoryDesk) -> bool {
+    desk.replies(LINES.as_bytes()).as_slice() == REPLIES.as_bytes()
 }
 
 /// Whether a register with such indexes opens, goes on, and opens again with the same replies.
@@ -88,9 +70,9 @@ pub fn goes_on_with_indexes_between(alloc: Global) -> Result<bool, Fail> {
     let Some(mut desk) = with_indexes_between(alloc)? else {
         return Ok(false);
     };
-    let is_first_told = is_answered(alloc, &mut desk);
-    let Some(mut desk) = reopen(alloc, desk.into_connection())? else {
+    let is_first_told = is_answered(&mut desk);
+    let Some(mut desk) = desk.into_database().open() else {
         return Ok(false);
     };
-    Ok(is_first_told && is_answered(alloc, &mut desk) && desk.count() == 1)
+    Ok(is_first_told && is_answered(&mut desk) && desk.stands().1 == 1)
 }

@@ -1,6 +1,7 @@
 //! A run over more turns than a mark of a stream may rest on: each turn is counted by the stream
 //! itself, and none comes behind a fault.
-use crate::fresh_run::fresh_run;
+use crate::calls::Call;
+use crate::memory_desk::MemoryDesk;
 use register_desk::{End, Finish};
 use std::alloc::Global;
 use std::io::{self, Error, ErrorKind, Read, Write};
@@ -93,7 +94,8 @@ fn is_answered(alloc: Global, lines: u64, good_writes: u64, end: Finish) -> Resu
     let input = Dripping {
         bytes_left: lines.saturating_mul(2),
     };
-    let ran = fresh_run(alloc, input, Tallied::new(good_writes))?;
+    let mut desk = MemoryDesk::new(alloc)?;
+    let ran = desk.call(Call::Run, input, Tallied::new(good_writes));
     let replies = good_writes.min(lines);
     Ok(
         ran.outcome.end == end

@@ -1,10 +1,11 @@
 //! The worked rows: what a run writes, against the rows, the plain program and what is shown of a
 //! key.
-use crate::fresh_run::{desk_after, fresh_run};
+use crate::calls::{Call, Called};
+use crate::memory_desk::MemoryDesk;
 use lifecycle_core::Dates;
 use moment_core::Moment;
 use register_core::{Name, Refusal, Reply, Request, read_request, reply_line};
-use register_desk::{Finish, Outcome, Watched, run_in_memory};
+use register_desk::{End, Finish, Outcome, Record, Watched, run_in_memory};
 use std::alloc::{AllocError, Global};
 use std::test::Fail;
 use test_faulty_devices::{Interrupted, OneByte, Short};
@@ -88,15 +89,22 @@ fn is_plain(
     Ok(stands == came_to && lines_of(alloc, &answers)?.as_slice() == output)
 }
 
+/// What a run over this input does, and where an empty register stands after it.
+fn ran(alloc: Global, input: &[u8]) -> Result<(Called, (u64, u32)), Fail> {
+    let mut desk = MemoryDesk::new(alloc)?;
+    let called = desk.make_call(Call::Run, input);
+    Ok((called, desk.stands()))
+}
+
 /// Whether a run over the row does and writes what it should, as does the plain program.
 fn is_run(alloc: Global, row: &WorkedRow) -> Result<bool, Fail> {
     let input = input_of(alloc, row)?;
     let output = output_of(alloc, row.lines)?;
-    let ran = fresh_run(alloc, input.as_slice(), Vec::new(alloc))?;
+    let (called, stands) = ran(alloc, &input)?;
     Ok(
-        ran.outcome == outcome_of(row, &input, &output)
-            && ran.writer.as_slice() == output.as_slice()
-            && is_plain(alloc, row, &output, ran.stands)?,
+        called.outcome == outcome_of(row, &input, &output)
+            && called.output.as_slice() == output.as_slice()
+            && is_plain(alloc, row, &output, stands)?,
     )
 }
 
@@ -122,10 +130,15 @@ fn join(alloc: Global, names: &[Name]) -> Result<String, AllocError> {
     Ok(text)
 }
 
+/// What is shown of key 1 after a run over the row.
+fn record_after(alloc: Global, row: &WorkedRow) -> Result<Result<Option<Record>, End>, Fail> {
+    let mut desk = MemoryDesk::after_row(alloc, row)?;
+    Ok(desk.show(1))
+}
+
 /// Whether key 1 is shown so after a run over the row.
 fn is_shown(alloc: Global, row: &WorkedRow, shown: &Shown) -> Result<bool, Fail> {
-    let mut desk = desk_after(alloc, row)?;
-    let Some(record) = desk.show(1)? else {
+    let Ok(Some(record)) = record_after(alloc, row)? else {
         return Ok(false);
     };
     Ok(
@@ -189,8 +202,9 @@ fn is_served_whole(
 /// Whether the row is served where each read gives a byte.
 fn is_read_in_bytes(alloc: Global, row: &WorkedRow) -> Result<bool, Fail> {
     let input = input_of(alloc, row)?;
-    let ran = fresh_run(alloc, OneByte(&input), Vec::new(alloc))?;
-    is_served_whole(alloc, row, &ran.outcome, &ran.writer)
+    let mut desk = MemoryDesk::new(alloc)?;
+    let ended = desk.call(Call::Run, OneByte(&input), Vec::new(alloc));
+    is_served_whole(alloc, row, &ended.outcome, &ended.writer)
 }
 
 /// Whether the row is served where reads and writes are interrupted, a read gives a byte and a
@@ -201,11 +215,12 @@ fn is_interrupted(alloc: Global, row: &WorkedRow) -> Result<bool, Fail> {
         inner: Vec::new(alloc),
         max_bytes: 3,
     });
-    let ran = fresh_run(alloc, Interrupted::new(OneByte(&input)), writer)?;
-    if ran.read_failed || ran.write_failed {
+    let mut desk = MemoryDesk::new(alloc)?;
+    let ended = desk.call(Call::Run, Interrupted::new(OneByte(&input)), writer);
+    if ended.read_failed || ended.write_failed {
         return Ok(false);
     }
-    is_served_whole(alloc, row, &ran.outcome, &ran.writer.inner.inner)
+    is_served_whole(alloc, row, &ended.outcome, &ended.writer.inner.inner)
 }
 
 /// Whether *first day* is served in pieces, and where it is interrupted.

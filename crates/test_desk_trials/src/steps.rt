@@ -1,8 +1,6 @@
 //! How many steps of the database each command takes: its calls, and the rows that they hand out.
-use crate::fresh_run::{desk_of, make_desk, run_over};
-use register_desk::{Desk, Watched};
-use register_report::{export, rotation};
-use sqlite::MemStore;
+use crate::calls::Call;
+use crate::memory_desk::MemoryDesk;
 use std::alloc::Global;
 use std::test::Fail;
 
@@ -36,18 +34,17 @@ static DAY: [(&str, &str, u64); 18] = [
 ];
 
 /// How many steps a run over the line takes, and what it writes.
-fn steps_of(alloc: Global, desk: &mut Desk<MemStore>, line: &str) -> Result<(u64, Vec<u8>), Fail> {
+fn steps_of(alloc: Global, desk: &mut MemoryDesk, line: &str) -> Result<(u64, Vec<u8>), Fail> {
     let before = desk.steps();
     let line = format!(in alloc; "{line}\n")?;
-    let mut output = Vec::new(alloc);
-    let _ = run_over(desk, line.as_bytes(), &mut output);
+    let output = desk.replies(line.as_bytes());
     Ok((desk.steps().saturating_sub(before), output))
 }
 
 /// A line of the day that has another reply or takes other steps, if there is one, or where a new
 /// desk has taken any.
 pub fn row_of_day_at_fault(alloc: Global) -> Result<Option<&'static str>, Fail> {
-    let mut desk = make_desk(alloc)?;
+    let mut desk = MemoryDesk::new(alloc)?;
     if desk.steps() != 0 {
         return Ok(Some(""));
     }
@@ -62,7 +59,7 @@ pub fn row_of_day_at_fault(alloc: Global) -> Result<Option<&'static str>, Fail> 
 
 /// The desk with a key of bob's of whose destruction sixteen custodians approve, with names as long
 /// as they may be.
-fn full_custody(alloc: Global) -> Result<Desk<MemStore>, Fail> {
+fn full_custody(alloc: Global) -> Result<MemoryDesk, Fail> {
     let mut lines = format!(in alloc; "100 ann 1 register master bob - - - root\n")?;
     for number in 11..27 {
         let name = format!(in alloc;
@@ -73,7 +70,7 @@ fn full_custody(alloc: Global) -> Result<Desk<MemStore>, Fail> {
         )?;
         lines.push_str(line.as_str())?;
     }
-    desk_of(alloc, lines.as_bytes())
+    MemoryDesk::after(alloc, lines.as_bytes())
 }
 
 /// A line, and how many steps it takes after that.
@@ -119,7 +116,7 @@ static ROWS: [(&[u64], u64, u64); 5] = [
 ];
 
 /// A desk with an Active key for each of these Protect Stop Dates.
-fn desk_with(alloc: Global, stops: &[u64]) -> Result<Desk<MemStore>, Fail> {
+fn desk_with(alloc: Global, stops: &[u64]) -> Result<MemoryDesk, Fail> {
     let mut lines = String::new(alloc);
     for (place, stop) in stops.iter().enumerate() {
         let line = format!(in alloc;
@@ -128,15 +125,15 @@ fn desk_with(alloc: Global, stops: &[u64]) -> Result<Desk<MemStore>, Fail> {
         )?;
         lines.push_str(line.as_str())?;
     }
-    desk_of(alloc, lines.as_bytes())
+    MemoryDesk::after(alloc, lines.as_bytes())
 }
 
 /// How many steps an export takes, and a report after it.
-fn table_steps(alloc: Global, desk: &mut Desk<MemStore>) -> (u64, u64) {
+fn table_steps(desk: &mut MemoryDesk) -> (u64, u64) {
     let before = desk.steps();
-    let _ = export(alloc, desk, &mut Watched::new(Vec::new(alloc)));
+    let _ = desk.make_call(Call::Export, b"");
     let between = desk.steps();
-    let _ = rotation(alloc, desk, 1, &mut Watched::new(Vec::new(alloc)));
+    let _ = desk.make_call(Call::Rotation { days: 1 }, b"");
     let after = desk.steps();
     (
         between.saturating_sub(before),
@@ -148,7 +145,7 @@ fn table_steps(alloc: Global, desk: &mut Desk<MemStore>) -> (u64, u64) {
 pub fn table_of_other_steps(alloc: Global) -> Result<Option<usize>, Fail> {
     for (stops, export, report) in &ROWS {
         let mut desk = desk_with(alloc, stops)?;
-        if table_steps(alloc, &mut desk) != (*export, *report) {
+        if table_steps(&mut desk) != (*export, *report) {
             return Ok(Some(stops.len()));
         }
     }

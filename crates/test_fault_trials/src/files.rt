@@ -1,15 +1,18 @@
 //! Registers in files in memory, of which calls fail.
 //!
 //! A function that names the type of the store costs about a minute in a proof, and any other a few
-//! seconds. So it stands in [`Lab::try_out`] alone, which is handed what to do as a [`Task`].
+//! seconds. So it stands in [`over_files`] alone, over any disk, and is handed what to do as a
+//! [`Task`]; and the disk stands in [`Lab::try_out`].
 ghost use Rattle.std.specs.Prelude.{◌≡◌, false, IfOk, IsTrue};
 ghost use Rattle.sqlite_disk.specs.Memory.{memory_is_usable};
 
+use crate::contents::{Contents, Stopped};
 use register_desk::{Desk, OpenRefusal};
 use sqlite::{Alter, Connection, FileStore, Files, Options};
-use sqlite_disk::{Disk, Memory};
+use sqlite_disk::{Crash, Disk, Memory};
 use std::alloc::Global;
 use std::test::Fail;
+use test_desk_trials::TriedDesk;
 use test_faulty_devices::{Counter, Plan, Planned};
 
 /// The files of a register that have the calls that fail.
@@ -56,7 +59,7 @@ impl Fault {
 /// What is left of files whose calls failed.
 #[derive(Drop)]
 pub struct Left {
-    pub files: Files<Memory>,
+    pub stopped: Stopped,
     /// Whether a call failed.
     pub has_failed: bool,
     /// How many calls the fault counted.
@@ -67,12 +70,12 @@ pub struct Left {
 pub trait Task {
     type Outcome: Drop;
 
-    /// Does it, and gives the connection back, whatever came of it.
+    /// Does it, and gives the store back, whatever came of it.
     fn perform<S: Alter + Drop>(
         &self,
         alloc: Global,
         connection: Connection<S>,
-    ) -> Result<(Connection<S>, Self::Outcome), Fail>
+    ) -> Result<(S, Self::Outcome), Fail>
         requires { connection.in_transaction ≡ false };
 }
 
@@ -81,7 +84,7 @@ pub trait DeskTask {
     type Outcome: Drop;
 
     /// Does it over the register's desk.
-    fn perform<S: Alter>(&self, alloc: Global, desk: &mut Desk<S>) -> Result<Self::Outcome, Fail>;
+    fn perform<D: TriedDesk>(&self, alloc: Global, desk: &mut D) -> Result<Self::Outcome, Fail>;
 }
 
 /// How a desk is come by.
@@ -104,6 +107,32 @@ pub enum NoDesk {
     Refused(OpenRefusal),
 }
 
+/// The store of a connection. It has no clause, as none of the functions over any store here has.
+fn store_of<S: Alter + Drop>(connection: Connection<S>) -> S {
+    connection.into_store()
+}
+
+/// The desk, or the store and why there is no desk.
+fn enter<S: Alter + Drop>(
+    alloc: Global,
+    entry: Entry,
+    connection: Connection<S>,
+) -> Result<Desk<S>, (S, OpenRefusal)>
+    requires { connection.in_transaction ≡ false }
+{
+    let entered = match entry {
+        Entry::Creation => Desk::create(alloc, connection),
+        Entry::Opening | Entry::Migration => Desk::open(alloc, connection),
+    };
+    match entered {
+        Ok(desk) => Ok(desk),
+        Err(unopened) => {
+            let refusal = unopened.refusal();
+            Err((store_of(unopened.into_connection()), refusal))
+        }
+    }
+}
+
 /// Makes or opens the register and does it over the desk.
 #[derive(Drop)]
 struct OverDesk<'a, T> {
@@ -118,17 +147,13 @@ impl<T: DeskTask> Task for OverDesk<'_, T> {
         &self,
         alloc: Global,
         connection: Connection<S>,
-    ) -> Result<(Connection<S>, Result<T::Outcome, OpenRefusal>), Fail> {
-        let entered = match self.entry {
-            Entry::Creation => Desk::create(alloc, connection),
-            Entry::Opening | Entry::Migration => Desk::open(alloc, connection),
-        };
-        match entered {
+    ) -> Result<(S, Result<T::Outcome, OpenRefusal>), Fail> {
+        match enter(alloc, self.entry, connection) {
             Ok(mut desk) => {
                 let outcome = self.task.perform(alloc, &mut desk)?;
-                Ok((desk.into_connection(), Ok(outcome)))
+                Ok((store_of(desk.close().0), Ok(outcome)))
             }
-            Err(unopened) => Ok((unopened.connection, Err(unopened.refusal))),
+            Err((store, refusal)) => Ok((store, Err(refusal))),
         }
     }
 }
@@ -139,7 +164,7 @@ pub struct Nothing;
 impl DeskTask for Nothing {
     type Outcome = ();
 
-    fn perform<S: Alter>(&self, _alloc: Global, _desk: &mut Desk<S>) -> Result<(), Fail> {
+    fn perform<D: TriedDesk>(&self, _alloc: Global, _desk: &mut D) -> Result<(), Fail> {
         Ok(())
     }
 }
@@ -164,33 +189,53 @@ fn options(spill_pages: usize) -> Options {
     }
 }
 
-/// A file with these bytes, all synced.
-pub fn file_of(alloc: Global, bytes: &[u8]) -> Result<Memory, Fail>
-    ensures { IfOk result (λ file. IsTrue (memory_is_usable file)) }
+/// A file with these bytes, all synced, whose calls fail so.
+fn file_of(
+    alloc: Global,
+    bytes: &[u8],
+    plan: Plan,
+    counter: Counter,
+) -> Result<Planned<Memory>, Fail>
+    ensures { IfOk result (λ file. IsTrue (⟦<Planned<Memory> as Disk>⟧.is_usable file)) }
 {
     let mut file = Memory::new(alloc);
     file.write_at(0, bytes)?;
     file.sync()?;
-    Ok(file)
+    Ok(Planned::new(file, plan, counter))
 }
 
-/// Files with nothing in them.
-pub fn no_files(alloc: Global) -> Files<Memory> {
-    Files {
-        log: Memory::new(alloc),
-        db: Memory::new(alloc),
-    }
-}
-
-fn left_of(files: Files<Planned<Memory>>) -> Left {
+fn left_of(alloc: Global, files: Files<Planned<Memory>>) -> Result<Left, Fail> {
     let Files { log, db } = files;
-    Left {
-        has_failed: log.has_failed() || db.has_failed(),
-        calls: log.calls(),
-        files: Files {
-            log: log.into_inner(),
-            db: db.into_inner(),
-        },
+    let has_failed = log.has_failed() || db.has_failed();
+    let calls = log.calls();
+    let (mut log, mut db) = (log.into_inner(), db.into_inner());
+    let written = Contents::of(alloc, log.bytes(), db.bytes())?;
+    log.crash();
+    db.crash();
+    let synced = Contents::of(alloc, log.bytes(), db.bytes())?;
+    Ok(Left {
+        stopped: Stopped { written, synced },
+        has_failed,
+        calls,
+    })
+}
+
+/// Does it over the files, and gives these back; `None` where the connection was refused.
+fn over_files<D: Disk + Drop, T: Task>(
+    alloc: Global,
+    files: Files<D>,
+    options: Options,
+    task: &T,
+) -> Result<(Option<T::Outcome>, Files<D>), Fail>
+    requires log { IsTrue (D.Disk.is_usable files.log) }
+    requires db { IsTrue (D.Disk.is_usable files.db) }
+{
+    match Connection::open_files(alloc, files, options) {
+        Ok(connection) => {
+            let (store, outcome) = task.perform(alloc, connection)?;
+            Ok((Some(outcome), store.close()))
+        }
+        Err((_, left)) => Ok((None, left.into_files())),
     }
 }
 
@@ -215,36 +260,29 @@ impl Lab {
     /// Does it over copies of the files; `None` where the connection was refused.
     pub fn try_out<T: Task>(
         &self,
-        files: &Files<Memory>,
+        files: &Contents,
         fault: Fault,
         task: &T,
     ) -> Result<(Option<T::Outcome>, Left), Fail> {
         let (of_log, of_database) = fault.plans();
         let counter = Counter::new(self.alloc)?;
-        let log = Planned::new(
-            file_of(self.alloc, files.log.bytes())?,
-            of_log,
-            counter.share()?,
-        );
-        let db = Planned::new(file_of(self.alloc, files.db.bytes())?, of_database, counter);
-        match Connection::open_files(self.alloc, Files { log, db }, options(self.spill_pages)) {
-            Ok(connection) => {
-                let (connection, outcome) = task.perform(self.alloc, connection)?;
-                Ok((Some(outcome), left_of(connection.into_store().close())))
-            }
-            Err((_, left)) => Ok((None, left_of(left.into_files()))),
-        }
+        let files = Files {
+            log: file_of(self.alloc, &files.log, of_log, counter.share()?)?,
+            db: file_of(self.alloc, &files.database, of_database, counter)?,
+        };
+        let (outcome, files) = over_files(self.alloc, files, options(self.spill_pages), task)?;
+        Ok((outcome, left_of(self.alloc, files)?))
     }
 
     /// Does it over files of which no call fails. What comes of it, and the files.
     pub fn carry_out<T: Task>(
         &self,
-        files: &Files<Memory>,
+        files: &Contents,
         task: &T,
-    ) -> Result<(T::Outcome, Files<Memory>), Fail> {
+    ) -> Result<(T::Outcome, Contents), Fail> {
         let (outcome, left) = self.try_out(files, HONEST, task)?;
         match outcome {
-            Some(outcome) => Ok((outcome, left.files)),
+            Some(outcome) => Ok((outcome, left.stopped.written)),
             None => Err(Fail::from("no connection where no call fails")),
         }
     }
@@ -252,7 +290,7 @@ impl Lab {
     /// Does it over the desk of the register in copies of the files.
     pub fn try_out_at_desk<T: DeskTask>(
         &self,
-        files: &Files<Memory>,
+        files: &Contents,
         fault: Fault,
         entry: Entry,
         task: &T,
@@ -270,13 +308,13 @@ impl Lab {
     /// the files.
     pub fn carry_out_at_desk<T: DeskTask>(
         &self,
-        files: &Files<Memory>,
+        files: &Contents,
         entry: Entry,
         task: &T,
-    ) -> Result<(T::Outcome, Files<Memory>), Fail> {
+    ) -> Result<(T::Outcome, Contents), Fail> {
         let (reached, left) = self.try_out_at_desk(files, HONEST, entry, task)?;
         match reached {
-            Ok(outcome) => Ok((outcome, left.files)),
+            Ok(outcome) => Ok((outcome, left.stopped.written)),
             Err(_) => Err(Fail::from("no desk where no call fails")),
         }
     }
@@ -318,33 +356,37 @@ impl Task for Running<'_> {
         &self,
         alloc: Global,
         mut connection: Connection<S>,
-    ) -> Result<(Connection<S>, String), Fail> {
+    ) -> Result<(S, String), Fail> {
         connection.execute_batch(self.statements)?;
         let mut rows = String::new(alloc);
         for sql in &SELECTED {
             rows.push_str(select(alloc, &mut connection, sql)?.as_str())?;
         }
-        Ok((connection, rows))
+        Ok((store_of(connection), rows))
     }
 }
 
 impl Lab {
     /// All rows of the register in the files.
-    pub fn rows_in(&self, files: &Files<Memory>) -> Result<String, Fail> {
+    pub fn rows_in(&self, files: &Contents) -> Result<String, Fail> {
         Ok(self.carry_out(files, &Running { statements: "" })?.0)
     }
 
     /// The files of a database that these statements make.
-    pub fn files_by(&self, statements: &str) -> Result<Files<Memory>, Fail> {
+    pub fn files_by(&self, statements: &str) -> Result<Contents, Fail> {
         Ok(
-            self.carry_out(&no_files(self.alloc), &Running { statements })?
+            self.carry_out(&Contents::none(self.alloc), &Running { statements })?
                 .1,
         )
     }
 
     /// The files of a new register.
-    pub fn new_files(&self) -> Result<Files<Memory>, Fail> {
-        let (_, files) = self.carry_out_at_desk(&no_files(self.alloc), Entry::Creation, &Nothing)?;
+    pub fn new_files(&self) -> Result<Contents, Fail> {
+        let (_, files) = self.carry_out_at_desk(
+            &Contents::none(self.alloc),
+            Entry::Creation,
+            &Nothing,
+        )?;
         Ok(files)
     }
 }

@@ -1,13 +1,12 @@
 //! Malicious bytes: none of them changes a register.
-use crate::calls::{Call, make_call};
-use crate::files::{DeskTask, Entry, HONEST, Lab, NoDesk, Nothing, file_of};
-use crate::texts::{ADVANCE, IMPORT_HEAD, KEY, Text, join};
+use crate::contents::Contents;
+use crate::files::{DeskTask, Entry, HONEST, Lab, NoDesk, Nothing};
+use crate::texts::{ADVANCE, EXCHANGE, IMPORT, IMPORT_HEAD, KEY, Text, join};
 use crate::trials::files_with;
-use register_desk::{Desk, OpenRefusal};
-use sqlite::{Alter, Files};
-use sqlite_disk::Memory;
+use register_desk::OpenRefusal;
 use std::alloc::Global;
 use std::test::Fail;
+use test_desk_trials::{Call, TriedDesk, make_call};
 
 /// An input is `head`, so often `piece`, and `tail`; what comes of it begins so.
 #[derive(Clone, Copy)]
@@ -34,35 +33,35 @@ static HOSTILE: [Hostile; 9] = [
     // A line of 5000 bytes.
     Hostile { call: Call::Run, head: &[], piece: b"x", count: 5000, tail: "\n", output: BAD_LINE },
     // 65 header lines.
-    Hostile { call: Call::Exchange, head: &[GET], piece: b"A: b\r\n", count: 64, tail: "\r\n", output: BAD_REQUEST },
+    Hostile { call: EXCHANGE, head: &[GET], piece: b"A: b\r\n", count: 64, tail: "\r\n", output: BAD_REQUEST },
     // A head of 8193 bytes.
     Hostile {
-        call: Call::Exchange, head: &[GET, "A: "], piece: b"x", count: 8155, tail: "\r\n\r\n",
+        call: EXCHANGE, head: &[GET, "A: "], piece: b"x", count: 8155, tail: "\r\n\r\n",
         output: "HTTP/1.1 413 ",
     },
     // A body of a thousand brackets.
     Hostile {
-        call: Call::Exchange, head: &[POST, "Content-Length: 1000\r\n\r\n"], piece: b"[", count: 1000, tail: "",
+        call: EXCHANGE, head: &[POST, "Content-Length: 1000\r\n\r\n"], piece: b"[", count: 1000, tail: "",
         output: BAD_REQUEST,
     },
     // Two hosts.
     Hostile {
-        call: Call::Exchange, head: &[POST, "Host: b\r\nContent-Length: 18\r\n\r\n"], piece: b"", count: 0,
+        call: EXCHANGE, head: &[POST, "Host: b\r\nContent-Length: 18\r\n\r\n"], piece: b"", count: 0,
         tail: "{\"kind\":\"advance\"}", output: BAD_REQUEST,
     },
     // A target that would be that of key 1 if it were decoded.
     Hostile {
-        call: Call::Exchange, head: &["GET /keys/%31 HTTP/1.1\r\nHost: a\r\n\r\n"], piece: b"", count: 0, tail: "",
+        call: EXCHANGE, head: &["GET /keys/%31 HTTP/1.1\r\nHost: a\r\n\r\n"], piece: b"", count: 0, tail: "",
         output: "HTTP/1.1 404 Not Found\r\nContent-Type: application/json\r\nContent-Length: 18\r\n",
     },
     // A quote that stays open over the next line.
     Hostile {
-        call: Call::Import, head: &[IMPORT_HEAD, "master,bob,,,,\"open\nmaster,bob,,,,x\n"], piece: b"", count: 0,
+        call: IMPORT, head: &[IMPORT_HEAD, "master,bob,,,,\"open\nmaster,bob,,,,x\n"], piece: b"", count: 0,
         tail: "", output: BAD_LINE,
     },
     // Purposes that are no UTF-8.
     Hostile {
-        call: Call::Import, head: &[IMPORT_HEAD, "master,bob,,,,"], piece: b"\xff", count: 1, tail: "\n",
+        call: IMPORT, head: &[IMPORT_HEAD, "master,bob,,,,"], piece: b"\xff", count: 1, tail: "\n",
         output: "",
     },
     Hostile {
@@ -81,8 +80,8 @@ struct Giving<'a> {
 impl DeskTask for Giving<'_> {
     type Outcome = Vec<u8>;
 
-    fn perform<S: Alter>(&self, alloc: Global, desk: &mut Desk<S>) -> Result<Vec<u8>, Fail> {
-        Ok(make_call(alloc, desk, self.call, self.input)?.output)
+    fn perform<D: TriedDesk>(&self, alloc: Global, desk: &mut D) -> Result<Vec<u8>, Fail> {
+        Ok(make_call(alloc, desk, self.call, self.input).output)
     }
 }
 
@@ -99,7 +98,7 @@ fn input_of(alloc: Global, hostile: &Hostile) -> Result<Vec<u8>, Fail> {
 /// Whether the input gives an output that begins so, and changes no row.
 fn is_harmless(
     lab: Lab,
-    files: &Files<Memory>,
+    files: &Contents,
     call: Call,
     input: &[u8],
     output: &str,
@@ -132,7 +131,7 @@ pub fn prefix_that_harms(alloc: Global) -> Result<Option<usize>, Fail> {
         let Some(input) = ADVANCE.as_bytes().get(..length) else {
             return Ok(Some(length));
         };
-        if !is_harmless(lab, &files, Call::Exchange, input, output)? {
+        if !is_harmless(lab, &files, EXCHANGE, input, output)? {
             return Ok(Some(length));
         }
     }
@@ -142,21 +141,17 @@ pub fn prefix_that_harms(alloc: Global) -> Result<Option<usize>, Fail> {
 /// What came of opening files that have no register, and whether the bytes are then as before.
 type Opened = (Result<(), NoDesk>, bool);
 
-fn open(lab: Lab, files: &Files<Memory>) -> Result<Opened, Fail> {
+fn open(lab: Lab, files: &Contents) -> Result<Opened, Fail> {
     let (entered, left) = lab.try_out_at_desk(files, HONEST, Entry::Opening, &Nothing)?;
-    let is_same = left.files.db.bytes() == files.db.bytes();
+    let is_same = left.stopped.written.database.as_slice() == files.database.as_slice();
     Ok((entered, is_same))
 }
 
 /// What comes of a file of zeros.
 fn open_zeros(lab: Lab) -> Result<Opened, Fail> {
-    let mut zeros = Vec::new(lab.alloc);
-    zeros.resize(8192, 0)?;
-    let files = Files {
-        log: Memory::new(lab.alloc),
-        db: file_of(lab.alloc, &zeros)?,
-    };
-    open(lab, &files)
+    let mut zeros = Contents::none(lab.alloc);
+    zeros.database.resize(8192, 0)?;
+    open(lab, &zeros)
 }
 
 /// What comes of a database of another program.

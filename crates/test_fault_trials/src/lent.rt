@@ -1,15 +1,15 @@
 //! Readers and writers that fail, are interrupted or take nothing, at each turn of a call.
-use crate::calls::{Call, call_over};
+use crate::contents::Contents;
 use crate::files::{DeskTask, Entry, Lab};
 use crate::texts::{
-    ADVANCE, Exchange, IMPORT_HEAD, IMPORT_ROWS, IMPORTED, IN_USE, KEY, REGISTERED, Text, join,
+    ADVANCE, EXCHANGE, Exchange, IMPORT, IMPORT_HEAD, IMPORT_ROWS, IMPORTED, IN_USE, KEY,
+    REGISTERED, ROTATION, Text, join,
 };
 use crate::trials::{files_with, rows_by_step};
-use register_desk::{Desk, End, Finish, Outcome, Watched};
-use sqlite::{Alter, Files};
-use sqlite_disk::Memory;
+use register_desk::{End, Finish, Outcome};
 use std::alloc::{AllocError, Global};
 use std::test::Fail;
+use test_desk_trials::{Call, TriedDesk};
 use test_faulty_devices::{Counted, Counter, OneByte, Trouble, Troubled};
 use test_worked_rows::{Cells, export_of};
 
@@ -36,6 +36,7 @@ impl Output {
 /// What is lent, over the register with one key, and what is to come of it.
 #[derive(Clone, Copy)]
 struct Lent {
+    name: &'static str,
     call: Call,
     /// The requests that it sends.
     sent: &'static [Exchange],
@@ -87,7 +88,10 @@ impl Case {
     /// import have a bound of 2000000000.
     fn is_for(self, call: Call) -> bool {
         let stays = self.stays && self.stream == Stream::Reader;
-        !(stays && (call == Call::Run || call == Call::Import))
+        match call {
+            Call::Run | Call::Import { .. } => !stays,
+            Call::Export | Call::Rotation { .. } | Call::Exchange { .. } => true,
+        }
     }
 
     /// After how many turns the call gives up a stream that is always interrupted after so many
@@ -127,7 +131,7 @@ struct Given {
     steps: usize,
     input: String,
     output: String,
-    files: Files<Memory>,
+    files: Contents,
     rows: Vec<String>,
 }
 
@@ -150,7 +154,7 @@ struct Lending<'a> {
 impl DeskTask for Lending<'_> {
     type Outcome = Done;
 
-    fn perform<S: Alter>(&self, alloc: Global, desk: &mut Desk<S>) -> Result<Done, Fail> {
+    fn perform<D: TriedDesk>(&self, alloc: Global, desk: &mut D) -> Result<Done, Fail> {
         let (good_reads, good_writes) = self.case.good_turns(self.good);
         let (reads, writes) = (Counter::new(alloc)?, Counter::new(alloc)?);
         let reader = Troubled {
@@ -158,15 +162,15 @@ impl DeskTask for Lending<'_> {
             trouble: self.case.count(reads.share()?),
             good_turns: good_reads,
         };
-        let mut writer = Watched::new(Troubled {
+        let writer = Troubled {
             inner: Vec::new(alloc),
             trouble: self.case.count(writes.share()?),
             good_turns: good_writes,
-        });
-        let outcome = call_over(alloc, desk, self.given.call, reader, &mut writer)?;
+        };
+        let ended = desk.call(alloc, self.given.call, reader, writer);
         Ok(Done {
-            outcome,
-            output: writer.into_inner().inner,
+            outcome: ended.outcome,
+            output: ended.writer.inner,
             turns: match self.case.stream {
                 Stream::Reader => reads.count(),
                 Stream::Writer => writes.count(),
@@ -178,11 +182,11 @@ impl DeskTask for Lending<'_> {
 /// The call over the register in the files, and these after it.
 fn lend(
     lab: Lab,
-    files: &Files<Memory>,
+    files: &Contents,
     given: &Given,
     case: Case,
     good: usize,
-) -> Result<(Done, Files<Memory>), Fail> {
+) -> Result<(Done, Contents), Fail> {
     lab.carry_out_at_desk(files, Entry::Opening, &Lending { given, case, good })
 }
 
@@ -232,7 +236,7 @@ impl Given {
 
     /// Whether the files have the register with the rows, and the call over it, with no trouble,
     /// then ends as it should, with the last rows.
-    fn is_left_so(&self, lab: Lab, files: &Files<Memory>, steps: usize) -> Result<bool, Fail> {
+    fn is_left_so(&self, lab: Lab, files: &Contents, steps: usize) -> Result<bool, Fail> {
         if self.rows.get(steps) != Some(&lab.rows_in(files)?) {
             return Ok(false);
         }
@@ -290,6 +294,7 @@ static CASES: [Case; 7] = [
 
 static LENT: [Lent; 6] = [
     Lent {
+        name: "run",
         call: Call::Run,
         sent: &[
             REGISTERED,
@@ -300,12 +305,14 @@ static LENT: [Lent; 6] = [
         output: Output::Pieces(&["ok 2 Pre-Active 100\nrefused 1 BadLine\nok 0 - 900\n"]),
     },
     Lent {
-        call: Call::Import,
+        name: "import",
+        call: IMPORT,
         sent: IMPORTED,
         input: &[IMPORT_HEAD, IMPORT_ROWS],
         output: Output::Pieces(&["ok 2 Active 100\nrefused 1 BadLine\nok 3 Pre-Active 100\n"]),
     },
     Lent {
+        name: "export",
         call: Call::Export,
         sent: &[],
         input: &[],
@@ -317,7 +324,8 @@ static LENT: [Lent; 6] = [
         ]),
     },
     Lent {
-        call: Call::Rotation,
+        name: "report",
+        call: ROTATION,
         sent: &[],
         input: &[],
         output: Output::Pieces(&[
@@ -327,7 +335,8 @@ static LENT: [Lent; 6] = [
         ]),
     },
     Lent {
-        call: Call::Exchange,
+        name: "post",
+        call: EXCHANGE,
         sent: &[("100 ann 1 advance", "ok 0 - 100")],
         input: &[ADVANCE],
         output: Output::Pieces(&[
@@ -336,7 +345,8 @@ static LENT: [Lent; 6] = [
         ]),
     },
     Lent {
-        call: Call::Exchange,
+        name: "get",
+        call: EXCHANGE,
         sent: &[],
         input: &["GET /keys/1/usage HTTP/1.1\r\nHost: localhost\r\n\r\n"],
         output: Output::Pieces(&[IN_USE]),
@@ -364,11 +374,11 @@ fn wrong_case(lab: Lab, given: &Given) -> Result<Option<Case>, Fail> {
 }
 
 /// The first call that does, with the case.
-pub fn trouble_at_fault(alloc: Global) -> Result<Option<(Call, Case)>, Fail> {
+pub fn trouble_at_fault(alloc: Global) -> Result<Option<(&'static str, Case)>, Fail> {
     let lab = Lab::new(alloc);
     for lent in &LENT {
         if let Some(case) = wrong_case(lab, &Given::new(lab, lent)?)? {
-            return Ok(Some((lent.call, case)));
+            return Ok(Some((lent.name, case)));
         }
     }
     Ok(None)

@@ -4,7 +4,7 @@
 //! tells whether all is as it should be, or gives the first case that is not.
 #![tactic(auto)]
 
-mod calls;
+mod contents;
 mod files;
 mod hostile;
 mod keys;

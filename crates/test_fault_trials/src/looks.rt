@@ -1,16 +1,14 @@
 //! Calls that read a register of twenty keys, of which a look-up fails.
-use crate::calls::{Call, Called, make_call};
+use crate::contents::Contents;
 use crate::files::{DeskTask, Entry, Fault, Lab, Place};
 use crate::keys::{ALL, DUE, export_text, is_answered, report_text, twenty_keys};
 use crate::sending::{Came, is_broken, of_reply};
-use crate::texts::IN_USE;
+use crate::texts::{EXCHANGE, IN_USE, ROTATION};
 use crate::trials::calls_of_opening;
-use moment_core::Moment;
-use register_desk::{Desk, End, Finish, KeyRows};
-use sqlite::{Alter, Files};
-use sqlite_disk::Memory;
+use register_desk::{End, Finish};
 use std::alloc::Global;
 use std::test::Fail;
+use test_desk_trials::{Call, Called, Seen, TriedDesk, make_call};
 use test_faulty_devices::Plan;
 
 /// More reads than any of the calls makes.
@@ -24,22 +22,22 @@ pub enum Look {
     /// The usage, by an exchange.
     Get,
     Keys,
-    /// Up to this moment.
-    Due(Moment),
+    /// Up to 600.
+    Due,
     Export,
     Report,
 }
 
-/// What came of it.
-#[derive(Clone, Copy, PartialEq, Eq)]
-enum Seen {
-    /// All that is to be seen.
-    Whole,
-    /// A prefix of it, and then the end 31.
-    Refused,
-    /// Anything else.
-    Wrong,
-}
+/// All of them.
+static LOOKS: [Look; 7] = [
+    Look::Show,
+    Look::Usage,
+    Look::Get,
+    Look::Keys,
+    Look::Due,
+    Look::Export,
+    Look::Report,
+];
 
 const GET: &[u8] = b"GET /keys/7/usage HTTP/1.1\r\nHost: localhost\r\n\r\n";
 
@@ -48,31 +46,6 @@ const GET: &[u8] = b"GET /keys/7/usage HTTP/1.1\r\nHost: localhost\r\n\r\n";
 struct Texts {
     export: String,
     report: String,
-}
-
-/// Reads the rows, which are to be of the keys with these numbers.
-fn read_rows<S: Alter>(rows: &mut KeyRows<'_, S>, numbers: &[u32]) -> Seen {
-    for number in numbers {
-        match rows.next_key() {
-            Ok(Some(row)) if row.number == *number => {}
-            Err(End::Store) => return Seen::Refused,
-            _ => return Seen::Wrong,
-        }
-    }
-    match rows.next_key() {
-        Ok(None) => Seen::Whole,
-        Err(End::Store) => Seen::Refused,
-        _ => Seen::Wrong,
-    }
-}
-
-/// The same, and that 32 comes after 31, and none after the last.
-fn read_out<S: Alter>(mut rows: KeyRows<'_, S>, numbers: &[u32]) -> Seen {
-    match (read_rows(&mut rows, numbers), rows.next_key()) {
-        (Seen::Whole, Ok(None)) => Seen::Whole,
-        (Seen::Refused, Err(End::Broken)) => Seen::Refused,
-        _ => Seen::Wrong,
-    }
 }
 
 /// What came of a table with this text.
@@ -91,15 +64,6 @@ fn of_table(called: &Called, text: &str) -> Seen {
     }
 }
 
-/// What came of a look at one key.
-fn of_key<T>(found: &Result<Option<T>, End>) -> Seen {
-    match found {
-        Ok(Some(_)) => Seen::Whole,
-        Err(End::Store) => Seen::Refused,
-        _ => Seen::Wrong,
-    }
-}
-
 /// What came of a look by an exchange.
 fn of_exchange(called: &Called) -> Seen {
     match of_reply(called, IN_USE) {
@@ -109,43 +73,27 @@ fn of_exchange(called: &Called) -> Seen {
     }
 }
 
-fn look_at<S: Alter>(
-    alloc: Global,
-    desk: &mut Desk<S>,
-    texts: &Texts,
-    look: Look,
-) -> Result<Seen, Fail> {
-    Ok(match look {
-        Look::Show => of_key(&desk.show(7)),
-        Look::Usage => of_key(&desk.usage(7)),
-        Look::Get => of_exchange(&make_call(alloc, desk, Call::Exchange, GET)?),
-        Look::Keys => match desk.keys() {
-            Ok(rows) => read_out(rows, &ALL),
-            Err(_) => Seen::Wrong,
-        },
-        Look::Due(until) => match desk.due(until) {
-            Ok(rows) => read_out(rows, &DUE),
-            Err(_) => Seen::Wrong,
-        },
-        Look::Export => of_table(&make_call(alloc, desk, Call::Export, b"")?, &texts.export),
-        Look::Report => of_table(&make_call(alloc, desk, Call::Rotation, b"")?, &texts.report),
-    })
+fn look_at<D: TriedDesk>(alloc: Global, desk: &mut D, texts: &Texts, look: Look) -> Seen {
+    match look {
+        Look::Show => desk.see_key(7),
+        Look::Usage => desk.see_usage(7),
+        Look::Get => of_exchange(&make_call(alloc, desk, EXCHANGE, GET)),
+        Look::Keys => desk.see_keys(&ALL),
+        Look::Due => desk.see_due(600, &DUE),
+        Look::Export => of_table(&make_call(alloc, desk, Call::Export, b""), &texts.export),
+        Look::Report => of_table(&make_call(alloc, desk, ROTATION, b""), &texts.report),
+    }
 }
 
 /// Whether a desk of which a look was refused is as it should be: broken by a look at one key, and
 /// else as it was.
-fn goes_on<S: Alter>(
-    alloc: Global,
-    desk: &mut Desk<S>,
-    texts: &Texts,
-    looked: Look,
-) -> Result<bool, Fail> {
+fn goes_on<D: TriedDesk>(alloc: Global, desk: &mut D, texts: &Texts, looked: Look) -> bool {
     match looked {
         Look::Show | Look::Usage | Look::Get => is_broken(alloc, desk),
-        _ => Ok(
-            look_at(alloc, desk, texts, looked)? == Seen::Whole
-                && is_answered(alloc, desk, "200 zed 1 advance\n", "ok 0 - 200\n")?,
-        ),
+        _ => {
+            look_at(alloc, desk, texts, looked) == Seen::Whole
+                && is_answered(alloc, desk, "200 zed 1 advance\n", "ok 0 - 200\n")
+        }
     }
 }
 
@@ -160,9 +108,9 @@ struct Looking<'a> {
 impl DeskTask for Looking<'_> {
     type Outcome = Seen;
 
-    fn perform<S: Alter>(&self, alloc: Global, desk: &mut Desk<S>) -> Result<Seen, Fail> {
-        let seen = look_at(alloc, desk, self.texts, self.looked)?;
-        let is_good = seen != Seen::Refused || goes_on(alloc, desk, self.texts, self.looked)?;
+    fn perform<D: TriedDesk>(&self, alloc: Global, desk: &mut D) -> Result<Seen, Fail> {
+        let seen = look_at(alloc, desk, self.texts, self.looked);
+        let is_good = seen != Seen::Refused || goes_on(alloc, desk, self.texts, self.looked);
         Ok(if is_good { seen } else { Seen::Wrong })
     }
 }
@@ -171,7 +119,7 @@ impl DeskTask for Looking<'_> {
 /// error how many were before the one at which it went otherwise.
 fn refusals(
     lab: Lab,
-    files: &Files<Memory>,
+    files: &Contents,
     texts: &Texts,
     looked: Look,
     fault: Fault,
@@ -193,9 +141,9 @@ fn refusals(
 /// too few are read.
 fn place_not_refused(
     lab: Lab,
-    files: &Files<Memory>,
+    files: &Contents,
     texts: &Texts,
-    looked: &Look,
+    looked: Look,
 ) -> Result<Option<Place>, Fail> {
     // What was copied into the database file is read there. The log may have nothing that a look at
     // one key needs.
@@ -204,7 +152,7 @@ fn place_not_refused(
             place,
             plan: Plan::FailRead(0),
         };
-        match refusals(lab, files, texts, *looked, fault)? {
+        match refusals(lab, files, texts, looked, fault)? {
             Ok(count) if count >= least => {}
             _ => return Ok(Some(place)),
         }
@@ -216,22 +164,13 @@ fn place_not_refused(
 pub fn look_at_fault(alloc: Global) -> Result<Option<(Look, Place)>, Fail> {
     let lab = Lab::new(alloc);
     let files = twenty_keys(lab)?;
-    let until = Moment::new(600).ok_or("no moment")?;
     let texts = Texts {
         export: export_text(lab.alloc)?,
         report: report_text(lab.alloc)?,
     };
-    for looked in [
-        Look::Show,
-        Look::Usage,
-        Look::Get,
-        Look::Keys,
-        Look::Due(until),
-        Look::Export,
-        Look::Report,
-    ] {
-        if let Some(place) = place_not_refused(lab, &files, &texts, &looked)? {
-            return Ok(Some((looked, place)));
+    for looked in &LOOKS {
+        if let Some(place) = place_not_refused(lab, &files, &texts, *looked)? {
+            return Ok(Some((*looked, place)));
         }
     }
     Ok(None)

@@ -1,11 +1,10 @@
 //! Requests that are sent over a register, and what came of it.
-use crate::calls::{Call, Called, make_call};
 use crate::files::Entry;
-use crate::texts::{Exchange, IMPORT_HEAD, join};
-use register_desk::{Desk, End, Finish};
-use sqlite::Alter;
+use crate::texts::{EXCHANGE, Exchange, IMPORT, IMPORT_HEAD, join};
+use register_desk::{End, Finish};
 use std::alloc::Global;
 use std::test::Fail;
+use test_desk_trials::{Call, Called, TriedDesk, make_call};
 
 /// How requests are sent.
 #[derive(Clone, Copy)]
@@ -75,18 +74,18 @@ pub fn of_reply(called: &Called, reply: &str) -> Came {
 }
 
 /// Sends the requests over the desk.
-pub fn send<S: Alter>(
+pub fn send<D: TriedDesk>(
     alloc: Global,
-    desk: &mut Desk<S>,
+    desk: &mut D,
     sent: &[Exchange],
     way: Way,
 ) -> Result<Came, Fail> {
     let (call, input) = match way {
         Way::Entry(_) | Way::Lines => (Call::Run, texts_of(alloc, sent)?.0),
-        Way::Rows(rows) => (Call::Import, join(alloc, &[IMPORT_HEAD, rows])?),
-        Way::Post(input, _) => (Call::Exchange, join(alloc, &[input])?),
+        Way::Rows(rows) => (IMPORT, join(alloc, &[IMPORT_HEAD, rows])?),
+        Way::Post(input, _) => (EXCHANGE, join(alloc, &[input])?),
     };
-    let called = make_call(alloc, desk, call, input.as_bytes())?;
+    let called = make_call(alloc, desk, call, input.as_bytes());
     match way {
         Way::Post(_, reply) => Ok(of_reply(&called, reply)),
         _ => of_items(alloc, sent, &called),
@@ -94,7 +93,7 @@ pub fn send<S: Alter>(
 }
 
 /// Whether the desk ends a run of a request by 32, with no reply.
-pub fn is_broken<S: Alter>(alloc: Global, desk: &mut Desk<S>) -> Result<bool, Fail> {
-    let called = make_call(alloc, desk, Call::Run, b"999 zed 9 advance\n")?;
-    Ok(called.outcome.end == Finish::Ended(End::Broken) && called.output.is_empty())
+pub fn is_broken<D: TriedDesk>(alloc: Global, desk: &mut D) -> bool {
+    let called = make_call(alloc, desk, Call::Run, b"999 zed 9 advance\n");
+    called.outcome.end == Finish::Ended(End::Broken) && called.output.is_empty()
 }

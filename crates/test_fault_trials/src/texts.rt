@@ -1,5 +1,6 @@
 //! Texts that several cases share.
 use std::alloc::{AllocError, Global};
+use test_desk_trials::Call;
 
 /// A request line and its reply line, each without its LF.
 pub type Exchange = (&'static str, &'static str);
@@ -27,6 +28,18 @@ pub const REGISTERED: Exchange = (
     "100 ann 1 register master bob - - - x",
     "ok 2 Pre-Active 100",
 );
+
+/// The import that trials make.
+pub const IMPORT: Call = Call::Import {
+    seconds: 100,
+    first: 1,
+};
+
+/// The report.
+pub const ROTATION: Call = Call::Rotation { days: 1 };
+
+/// The exchange.
+pub const EXCHANGE: Call = Call::Exchange { seconds: 100 };
 
 /// The header row of an import.
 pub const IMPORT_HEAD: &str = "type,owner,activation,protect_stop,deactivation,purpose\n";

@@ -1,15 +1,14 @@
 //! What is tried while calls of the files fail: something is done over a register, and what it
 //! leaves is opened again.
-use crate::files::{DeskTask, Entry, Fault, HONEST, Lab, Left, NoDesk, Nothing, no_files};
-use crate::leaving::{LEAVINGS, Leaving, Stopped, are_same};
+use crate::contents::{Contents, Stopped};
+use crate::files::{DeskTask, Entry, Fault, HONEST, Lab, Left, NoDesk, Nothing};
+use crate::leaving::{LEAVINGS, Leaving};
 use crate::sending::{Came, Way, is_broken, send};
 use crate::texts::Exchange;
-use register_desk::{Desk, OpenRefusal};
-use sqlite::{Alter, Files};
-use sqlite_disk::Memory;
+use register_desk::OpenRefusal;
 use std::alloc::Global;
 use std::test::Fail;
-use test_desk_trials::first_version;
+use test_desk_trials::{TriedDesk, first_version};
 
 /// More calls than any trial makes.
 const MAX_CALLS: u64 = 5000;
@@ -60,7 +59,7 @@ pub struct Count {
 /// The files that a trial begins with, and the rows of the register after each step.
 #[derive(Drop)]
 struct Made {
-    files: Files<Memory>,
+    files: Contents,
     rows: Vec<String>,
 }
 
@@ -74,9 +73,9 @@ struct Sending<'a> {
 impl DeskTask for Sending<'_> {
     type Outcome = Came;
 
-    fn perform<S: Alter>(&self, alloc: Global, desk: &mut Desk<S>) -> Result<Came, Fail> {
+    fn perform<D: TriedDesk>(&self, alloc: Global, desk: &mut D) -> Result<Came, Fail> {
         let came = send(alloc, desk, self.sent, self.way)?;
-        let is_good = came == Came::Whole || is_broken(alloc, desk)?;
+        let is_good = came == Came::Whole || is_broken(alloc, desk);
         Ok(if is_good { came } else { Came::Wrong })
     }
 }
@@ -91,7 +90,7 @@ struct Repeating<'a> {
 impl DeskTask for Repeating<'_> {
     type Outcome = bool;
 
-    fn perform<S: Alter>(&self, alloc: Global, desk: &mut Desk<S>) -> Result<bool, Fail> {
+    fn perform<D: TriedDesk>(&self, alloc: Global, desk: &mut D) -> Result<bool, Fail> {
         let trial = self.trial;
         Ok(
             send(alloc, desk, trial.sent, trial.way)? == Came::Whole
@@ -102,7 +101,7 @@ impl DeskTask for Repeating<'_> {
 }
 
 /// The files after the requests, which are answered as they should be.
-fn files_after(lab: Lab, files: &Files<Memory>, sent: &[Exchange]) -> Result<Files<Memory>, Fail> {
+fn files_after(lab: Lab, files: &Contents, sent: &[Exchange]) -> Result<Contents, Fail> {
     let sending = Sending {
         sent,
         way: Way::Lines,
@@ -114,17 +113,17 @@ fn files_after(lab: Lab, files: &Files<Memory>, sent: &[Exchange]) -> Result<Fil
 }
 
 /// The files of the register with these requests.
-pub fn files_with(lab: Lab, sent: &[Exchange]) -> Result<Files<Memory>, Fail> {
+pub fn files_with(lab: Lab, sent: &[Exchange]) -> Result<Contents, Fail> {
     files_after(lab, &lab.new_files()?, sent)
 }
 
 /// The files after one request more, whose rows are put after the others.
 fn take_step(
     lab: Lab,
-    files: &Files<Memory>,
+    files: &Contents,
     one: &[Exchange],
     rows: &mut Vec<String>,
-) -> Result<Files<Memory>, Fail> {
+) -> Result<Contents, Fail> {
     let files = files_after(lab, files, one)?;
     rows.push(lab.rows_in(&files)?)?;
     Ok(files)
@@ -142,7 +141,7 @@ pub fn rows_by_step(lab: Lab, before: &[Exchange], sent: &[Exchange]) -> Result<
 }
 
 /// The files of the worked register of the first version.
-fn files_of_first_version(lab: Lab) -> Result<Files<Memory>, Fail> {
+fn files_of_first_version(lab: Lab) -> Result<Contents, Fail> {
     let mut statements = String::new(lab.alloc);
     for sql in first_version() {
         statements.push_str(sql)?;
@@ -152,7 +151,7 @@ fn files_of_first_version(lab: Lab) -> Result<Files<Memory>, Fail> {
 }
 
 /// What leads from these files to those in one step.
-fn made_between(lab: Lab, files: Files<Memory>, after: &Files<Memory>) -> Result<Made, Fail> {
+fn made_between(lab: Lab, files: Contents, after: &Contents) -> Result<Made, Fail> {
     let mut rows = Vec::new(lab.alloc);
     rows.push(lab.rows_in(&files)?)?;
     rows.push(lab.rows_in(after)?)?;
@@ -161,7 +160,11 @@ fn made_between(lab: Lab, files: Files<Memory>, after: &Files<Memory>) -> Result
 
 fn make(lab: Lab, trial: &Trial) -> Result<Made, Fail> {
     match trial.way {
-        Way::Entry(Entry::Creation) => made_between(lab, no_files(lab.alloc), &lab.new_files()?),
+        Way::Entry(Entry::Creation) => made_between(
+            lab,
+            Contents::none(lab.alloc),
+            &lab.new_files()?,
+        ),
         Way::Entry(Entry::Migration) => {
             let files = files_of_first_version(lab)?;
             made_between(lab, files, &files_with(lab, trial.before)?)
@@ -174,13 +177,13 @@ fn make(lab: Lab, trial: &Trial) -> Result<Made, Fail> {
 }
 
 /// How many calls that the fault counts an opening takes.
-pub fn calls_of_opening(lab: Lab, files: &Files<Memory>, fault: Fault) -> Result<u64, Fail> {
+pub fn calls_of_opening(lab: Lab, files: &Contents, fault: Fault) -> Result<u64, Fail> {
     let (_, left) = lab.try_out_at_desk(files, fault.at(MAX_CALLS), Entry::Opening, &Nothing)?;
     Ok(left.calls)
 }
 
 /// How many calls that the fault counts come before those of the trial.
-fn calls_before(lab: Lab, trial: &Trial, files: &Files<Memory>, fault: Fault) -> Result<u64, Fail> {
+fn calls_before(lab: Lab, trial: &Trial, files: &Contents, fault: Fault) -> Result<u64, Fail> {
     match trial.way {
         Way::Entry(_) => Ok(0),
         Way::Lines | Way::Rows(_) | Way::Post(..) => calls_of_opening(lab, files, fault),
@@ -197,12 +200,7 @@ fn of_entry(entered: Result<(), NoDesk>) -> Came {
 }
 
 /// Does what is tried while calls fail.
-fn attempt(
-    lab: Lab,
-    trial: &Trial,
-    files: &Files<Memory>,
-    fault: Fault,
-) -> Result<(Came, Left), Fail> {
+fn attempt(lab: Lab, trial: &Trial, files: &Contents, fault: Fault) -> Result<(Came, Left), Fail> {
     match trial.way {
         Way::Entry(entry) => {
             let (entered, left) = lab.try_out_at_desk(files, fault, entry, &Nothing)?;
@@ -221,21 +219,21 @@ fn attempt(
 
 /// Sends all again over the register in the files, which is made where one was to be made and none
 /// is there. Whether it is answered as it was, and the files.
-fn repeated(lab: Lab, trial: &Trial, files: &Files<Memory>) -> Result<(bool, Files<Memory>), Fail> {
+fn repeated(lab: Lab, trial: &Trial, files: &Contents) -> Result<(bool, Contents), Fail> {
     let repeating = Repeating { trial };
     let (reached, left) = lab.try_out_at_desk(files, HONEST, Entry::Opening, &repeating)?;
     match (reached, trial.way) {
-        (Ok(is_told), _) => Ok((is_told, left.files)),
+        (Ok(is_told), _) => Ok((is_told, left.stopped.written)),
         (Err(NoDesk::Refused(OpenRefusal::NotARegister)), Way::Entry(Entry::Creation)) => {
-            lab.carry_out_at_desk(&left.files, Entry::Creation, &repeating)
+            lab.carry_out_at_desk(&left.stopped.written, Entry::Creation, &repeating)
         }
-        _ => Ok((false, left.files)),
+        _ => Ok((false, left.stopped.written)),
     }
 }
 
 /// Whether what was tried and what made the register is answered again as it was, and has then
 /// acted once in all.
-fn acts_once(lab: Lab, trial: &Trial, made: &Made, files: &Files<Memory>) -> Result<bool, Fail> {
+fn acts_once(lab: Lab, trial: &Trial, made: &Made, files: &Contents) -> Result<bool, Fail> {
     let (is_told, files) = repeated(lab, trial, files)?;
     let rows = lab.rows_in(&files)?;
     Ok(is_told && made.rows.last() == Some(&rows))
@@ -247,7 +245,7 @@ fn is_ahead(
     lab: Lab,
     trial: &Trial,
     made: &Made,
-    files: &Files<Memory>,
+    files: &Contents,
     steps: usize,
 ) -> Result<Option<bool>, Fail> {
     let rows = lab.rows_in(files)?;
@@ -271,7 +269,7 @@ struct Remains {
 #[derive(Drop)]
 struct Looked {
     steps: usize,
-    contents: Vec<Files<Memory>>,
+    contents: Vec<Contents>,
 }
 
 impl Looked {
@@ -282,8 +280,13 @@ impl Looked {
         }
     }
 
-    fn has(&self, files: &Files<Memory>) -> bool {
-        self.contents.iter().any(|content| are_same(content, files))
+    fn has(&self, files: &Contents) -> bool {
+        for content in &self.contents {
+            if content.is_same(files) {
+                return true;
+            }
+        }
+        false
     }
 }
 
@@ -300,7 +303,7 @@ fn look_at_all(
         *looked = Looked::new(lab.alloc, after.steps);
     }
     for leaving in &LEAVINGS {
-        let files = after.stopped.leave(lab.alloc, *leaving)?;
+        let files = leaving.of(lab.alloc, &after.stopped)?;
         if !looked.has(&files) {
             let Some(is_ahead) = is_ahead(lab, trial, made, &files, after.steps)? else {
                 return Ok(Some(*leaving));
@@ -340,7 +343,7 @@ fn leave_behind(
         Came::Refused(steps) if !is_over => steps,
         _ => return Ok(Err(came)),
     };
-    let stopped = Stopped::new(lab.alloc, left.files)?;
+    let stopped = left.stopped;
     Ok(Ok((Remains { steps, stopped }, is_over)))
 }
 
