@@ -60,6 +60,7 @@ GATE = (
     Part("large_office.py", 120),
     Part("words.py", 90),
     Part("copied_while_served.py --seconds 15", 90),
+    Part("connections.py", 90),
     Part("desk_in_browser.py --least", 180),
     Part("killed_migrations.py 16", 90),
     Part("killed_runs.py 20", 90),

@@ -1,6 +1,6 @@
 """What checks/words.py asks of `keyreg serve`: that it serves exactly so many connections on exactly that port and then ends, what it
-does where the port is taken, that a client has its reply that sends more than its request, and that one that sends
-slowly has its ten seconds and no more."""
+does where the port is taken, and registers at long paths. What a connection carries and how long it may take is looked at by
+checks/connections.py."""
 import os
 import shutil
 import socket
@@ -18,8 +18,6 @@ from serving import Served, free_port, listens
 PATIENCE, GLANCE = 10, 0.2
 KEYS = ("GET /keys/1 HTTP/1.1\r\nHost: localhost\r\n\r\n").encode()
 COMMAND = ("advance",)
-# More than the program reads of a request, less than the 1 MiB that it takes off a connection.
-BEHIND = 100_000
 Case = tuple[str, Any]
 
 
@@ -40,19 +38,6 @@ def post(number: int) -> bytes:
     body = compact(request_object(COMMAND))
     head = f"POST /requests HTTP/1.1\r\nHost: localhost\r\nCaller: zed\r\nRequest-Number: {number}\r\nContent-Length: {len(body)}"
     return f"{head}\r\n\r\n".encode() + body
-
-
-def heard(served: Served, given: bytes) -> Any:
-    """What a client hears that sends these bytes, up to the end of the connection, or what broke it."""
-    try:
-        with served.connected(PATIENCE) as connection:
-            connection.sendall(given)
-            pieces = []
-            while piece := connection.recv(65536):
-                pieces.append(piece)
-            return b"".join(pieces)
-    except OSError as broken:
-        return broken
 
 
 def is_reply_to(number: int, found: Any, begun: int) -> bool:
@@ -137,57 +122,9 @@ def paths(folder: str) -> Iterator[Case]:
             yield "serve, output full", None if run.wait(PATIENCE) == 0 else run.returncode
 
 
-def behind(folder: str) -> Iterator[Case]:
-    """Bytes behind a request are taken off the connection, so that no reply is lost; the request is applied once."""
-    file, key = made(os.path.join(folder, "behind")), get_reply(register(), 1, False)
-    with Served(exchanges=20, file=file) as served:
-        for place in range(1, 11):
-            found = heard(served, KEYS + b"x" * BEHIND)
-            yield f"a GET with {BEHIND} bytes behind it, {place}", None if found == key else found
-            begun = int(time.time())
-            found = heard(served, post(place) + b"\0" * BEHIND)
-            yield f"a POST with {BEHIND} bytes behind it, {place}", None if is_reply_to(place, found, begun) else found
-        found = end_of(served)
-        yield "the end after bytes behind requests", None if found == (0, b"", b"") else found
-
-
-# A byte each so many seconds, and the seconds in which an exchange is over, with some for a busy machine.
-SLOWNESS, LEAST, MOST = 4, 9, 14
-
-
-def seconds_of_slow_client(served: Served) -> Any:
-    """After how many seconds a client is left that sends a byte now and then, or what it was sent."""
-    with served.connected(2 * MOST) as connection:
-        begun = time.monotonic()
-        connection.settimeout(SLOWNESS)
-        for byte in KEYS:
-            try:
-                connection.sendall(bytes([byte]))
-                found = connection.recv(65536)
-                return found or time.monotonic() - begun
-            except TimeoutError:
-                if time.monotonic() - begun > 2 * MOST:
-                    break
-            except OSError:
-                return time.monotonic() - begun
-    return "it is not left"
-
-
-def slow(folder: str) -> Iterator[Case]:
-    """A client that sends a byte every four seconds has ten in all, and the next one is served."""
-    file, key = made(os.path.join(folder, "slow")), get_reply(register(), 1, False)
-    with Served(exchanges=2, file=file) as served:
-        found = seconds_of_slow_client(served)
-        yield "a byte every four seconds", None if isinstance(found, float) and LEAST <= found <= MOST else found
-        found = served.raw(KEYS)
-        yield "the client after it", None if found == key else found
-        found = end_of(served)
-        yield "the end after a slow client", None if found == (0, b"", b"") else found
-
-
 def look_at_serve(folder: str) -> Iterator[Case]:
     """Each case with what is wrong in it, or None."""
-    for part in (counted, where, paths, behind, slow):
+    for part in (counted, where, paths):
         inner = os.path.join(folder, part.__name__)
         os.mkdir(inner)
         yield from part(inner)

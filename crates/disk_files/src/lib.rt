@@ -5,4 +5,4 @@ mod disk_files;
 mod network;
 
 pub use disk_files::DiskFiles;
-pub use network::{MachineClient, MachineListener, MachineNetwork};
+pub use network::{MachineListener, MachineNetwork, MachineReadHalf, MachineWriteHalf};

@@ -1,5 +1,5 @@
 //! The machine's own network.
-use register_program::{Client, Listener, Network};
+use register_program::{Client, Listener, Network, ReadHalf, WriteHalf};
 use std::io::{self, Read, Write};
 use std::net::{Ipv4Addr, Shutdown, SocketAddr, TcpListener, TcpStream};
 use std::time::{Clock, Duration};
@@ -57,46 +57,60 @@ impl MachineListener {
 }
 
 impl Listener for MachineListener {
-    type Client = MachineClient;
+    type ReadHalf = MachineReadHalf;
 
-    fn accept_client(&self) -> io::Result<MachineClient> {
+    type WriteHalf = MachineWriteHalf;
+
+    fn accept_client(&self) -> io::Result<Client<MachineReadHalf, MachineWriteHalf>> {
         let (stream, _) = self.listener.accept()?;
-        Ok(MachineClient { stream })
+        let other = stream.try_clone()?;
+        Ok(Client {
+            read_half: MachineReadHalf { stream },
+            write_half: MachineWriteHalf { stream: other },
+        })
     }
 }
 
-/// A client's connection to such a port.
+/// The half of a connection to such a port on which the client's bytes come.
 #[derive(Drop)]
-pub struct MachineClient {
+pub struct MachineReadHalf {
     stream: TcpStream,
 }
 
-impl Client for MachineClient {
-    fn read_within(&self, wait: Duration, buf: &mut [u8]) -> io::Result<usize> {
+impl ReadHalf for MachineReadHalf {
+    fn read_within(&mut self, wait: Duration, buf: &mut [u8]) -> io::Result<usize> {
         self.stream.set_read_timeout(Some(wait))?;
-        let mut stream = &self.stream;
-        stream.read(buf)
+        self.stream.read(buf)
     }
 
-    fn write_within(&self, wait: Duration, buf: &[u8]) -> io::Result<usize> {
-        self.stream.set_write_timeout(Some(wait))?;
-        let mut stream = &self.stream;
-        stream.write(buf)
-    }
-
-    fn end_writing_and_drain(&self) {
-        if self.stream.shutdown(Shutdown::Write).is_err()
-            || self.stream.set_nonblocking(true).is_err()
-        {
+    fn drain(&mut self) {
+        if self.stream.set_nonblocking(true).is_err() {
             return;
         }
-        let mut stream = &self.stream;
         let mut piece = [0; 4096];
         for _ in 0..MAX_READS_BEHIND {
-            match stream.read(&mut piece) {
+            match self.stream.read(&mut piece) {
                 Ok(count) if count > 0 => {}
                 _ => return,
             }
         }
+    }
+}
+
+/// The half of a connection to such a port on which the client is answered.
+#[derive(Drop)]
+pub struct MachineWriteHalf {
+    stream: TcpStream,
+}
+
+impl WriteHalf for MachineWriteHalf {
+    fn write_within(&mut self, wait: Duration, buf: &[u8]) -> io::Result<usize> {
+        self.stream.set_write_timeout(Some(wait))?;
+        self.stream.write(buf)
+    }
+
+    fn end_writing(&mut self) {
+        // Where the client has left, there is nobody to be told.
+        let _ = self.stream.shutdown(Shutdown::Write);
     }
 }

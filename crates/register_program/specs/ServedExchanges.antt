@@ -1,5 +1,6 @@
 -- What serving exchanges one after the other leaves, whatever the clients sent.
 use Rattle.std.specs.Prelude.{◌≡◌, ℕ, ◌≤◌, true, false, List, ◌++◌, length, Option}
+use Rattle.std.specs.Io.KnownBytes.{Consumes}
 use Rattle.sqlite_trees.specs.declared.store.Store.{Ghosts}
 use Rattle.register_requests.specs.declared.request.Request.{Request}
 use Rattle.register_core.specs.Fold.{history}
@@ -12,6 +13,17 @@ use Rattle.register_desk.specs.Desk.{IsClean, IsWhole, LeavesEither}
 use Rattle.register_desk.specs.Register.{StandsFor}
 use Rattle.register_desk.specs.Lives.{AreInRange}
 use Rattle.register_desk.specs.Run.{LeavesDesk}
+
+-- some bytes that were to come were taken off
+abbrev pub LosesSome : Option (List ℕ) → Option (List ℕ) → Type 0
+LosesSome before after = (bytes : List ℕ) × Consumes before after bytes
+
+-- of the bytes that were to come this number was read, and some behind them were taken off
+pub record TookThenSome (before after : Option (List ℕ)) (read : ℕ) : Type 0 where
+  pub bytes : List ℕ
+  pub behind : List ℕ
+  pub took : Consumes before after (bytes ++ behind)
+  pub counted : read ≡ length bytes
 
 -- how serving ends: as many exchanges as were asked for came and went, or none may follow, or no connection was
 -- accepted or no moment told

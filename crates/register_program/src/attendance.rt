@@ -2,7 +2,7 @@
 //! these answered, so it is marked here and nowhere else.
 ghost use Rattle.std.specs.Prelude.{◌≡◌, ◌+◌, ◌^◌, ◌<◌, true, false, None, OnSome};
 
-use crate::network::{Listener, Network};
+use crate::network::{Client, Listener, Network};
 use crate::serving::Now;
 use moment_core::Moment;
 
@@ -53,7 +53,10 @@ impl Attendance {
     }
 
     /// Waits for the next client.
-    pub(crate) fn accept<L: Listener>(&mut self, listener: &L) -> Option<L::Client>
+    pub(crate) fn accept<L: Listener>(
+        &mut self,
+        listener: &L,
+    ) -> Option<Client<L::ReadHalf, L::WriteHalf>>
         requires { self.old.accepted + 1 < 2 ^ 32 }
         ensures counts { OnSome result
             (self.new ≡ record self.old { accepted = self.old.accepted + 1 }) }

@@ -16,9 +16,11 @@ pub use acting::{Acted, Done, Inputs, Machine, Outputs, act, act_in_memory, read
 pub use attendance::Attendance;
 pub use faults::{report_bad_value, report_end, report_refusal};
 pub use files::{Absent, Closed, Files, LogCopy, NotConnected};
-pub use network::{Client, Listener, Network};
+pub use network::{Client, Listener, Network, ReadHalf, WriteHalf};
 pub use refused::{Refused, RefusedFiles};
 pub use register_file::{
     Life, export_file, import_file, init_file, open_file, report_file, run_file, serve_file,
 };
-pub use serving::{Clocks, MachineClock, Now, serve_at, serve_on};
+pub use serving::{
+    Clocks, MachineClock, Now, ServedConnection, serve_at, serve_connection, serve_on,
+};

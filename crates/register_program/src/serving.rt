@@ -1,17 +1,18 @@
 //! Serves connections one after the other, one HTTP exchange each.
-ghost use Rattle.std.specs.Prelude.{◌≡◌, List};
+ghost use Rattle.std.specs.Prelude.{◌≡◌, List, true};
 ghost use Rattle.register_requests.specs.declared.request.Request.{Request};
-ghost use Rattle.register_desk.specs.Desk.{IsClean, IsWhole};
+ghost use Rattle.register_desk.specs.Desk.{IsClean, IsWhole, KeepsToSteps};
 ghost use Rattle.register_desk.specs.Register.{StandsFor};
+ghost use Rattle.register_http.specs.Exchange.{Exchanges};
 ghost use Rattle.register_http.specs.OneItem.{LeavesOne};
 ghost use Rattle.register_desk.specs.Run.{LeavesDesk};
-ghost use Rattle.register_program.specs.ServedExchanges.{ServesClients, nobody};
+ghost use Rattle.register_program.specs.ServedExchanges.{ServesClients, TookThenSome, nobody};
 ghost use Rattle.register_program.specs.Within.ServedExchanges.{may_serve_on};
 
 use crate::attendance::Attendance;
-use crate::network::{Client, Listener, Network};
+use crate::network::{Client, Listener, Network, ReadHalf, WriteHalf};
 use moment_core::Moment;
-use register_desk::{Desk, End, Finish, Watched};
+use register_desk::{Desk, End, Finish, Outcome, Watched};
 use register_http::{Routes, exchange};
 use sqlite::Alter;
 use std::alloc::Global;
@@ -57,36 +58,20 @@ pub struct Clocks<'a, C: Clock, N: Now> {
     pub moments: &'a N,
 }
 
-/// A client's connection, and what measures its time.
+/// A half of a client's connection, for as long as its exchange may take.
 #[derive(Drop)]
-struct Connection<'a, L: Client, C: Clock> {
-    client: &'a L,
+struct Timed<'a, H, C: Clock> {
+    half: H,
     timer: &'a C,
+    /// When the exchange began, where the timer told it.
+    start: Option<Instant>,
 }
 
-impl<'a, L: Client, C: Clock> Connection<'a, L, C> {
-    /// The connection, for as long as an exchange that began then may take.
-    fn timed_from(&self, start: Instant) -> Timed<'a, L, C> {
-        Timed {
-            client: self.client,
-            timer: self.timer,
-            start,
-        }
-    }
-}
-
-/// A client's connection, for as long as its exchange may take.
-#[derive(Drop)]
-struct Timed<'a, L: Client, C: Clock> {
-    client: &'a L,
-    timer: &'a C,
-    start: Instant,
-}
-
-impl<L: Client, C: Clock> Timed<'_, L, C> {
+impl<H, C: Clock> Timed<'_, H, C> {
     /// How long the client may still keep the exchange waiting.
     fn time_left(&self) -> io::Result<Duration> {
-        let elapsed = self.start.elapsed(self.timer)?;
+        let start = self.start.ok_or(io::Error::from(ErrorKind::Other))?;
+        let elapsed = start.elapsed(self.timer)?;
         match Duration::from_secs(MAX_CLIENT_SECONDS).checked_sub(elapsed) {
             Some(left) if !left.is_zero() => Ok(left),
             _ => Err(io::Error::from(ErrorKind::TimedOut)),
@@ -94,15 +79,21 @@ impl<L: Client, C: Clock> Timed<'_, L, C> {
     }
 }
 
-impl<L: Client, C: Clock> Read for Timed<'_, L, C> {
+impl<R: ReadHalf, C: Clock> Read for Timed<'_, R, C> {
+    ghost remaining = { λ timed. R.remaining timed.half };
+
     fn read(&mut self, buf: &mut [u8]) -> io::Result<usize> {
-        self.client.read_within(self.time_left()?, buf)
+        let wait = self.time_left()?;
+        self.half.read_within(wait, buf)
     }
 }
 
-impl<L: Client, C: Clock> Write for Timed<'_, L, C> {
+impl<W: WriteHalf, C: Clock> Write for Timed<'_, W, C> {
+    ghost contents = { λ timed. W.contents timed.half };
+
     fn write(&mut self, buf: &[u8]) -> io::Result<usize> {
-        self.client.write_within(self.time_left()?, buf)
+        let wait = self.time_left()?;
+        self.half.write_within(wait, buf)
     }
 
     fn flush(&mut self) -> io::Result<()> {
@@ -111,27 +102,68 @@ impl<L: Client, C: Clock> Write for Timed<'_, L, C> {
     }
 }
 
-/// Serves one connection: one exchange at this moment.
-fn serve_connection<S: Alter, L: Client, C: Clock>(
+/// What serving one connection came to.
+#[derive(Drop)]
+pub struct ServedConnection<R, W> {
+    /// What the exchange did.
+    pub outcome: Outcome,
+    /// The connection, on which no more is written or read.
+    pub client: Client<R, W>,
+}
+
+/// Serves one connection: one [`exchange`] at this moment, for which the client has ten seconds in
+/// all. The client is then told that no more comes, and what it has sent besides its request is
+/// taken off. It ends by [`End::ReadFault`], too, where the timer fails.
+pub fn serve_connection<S: Alter, R: ReadHalf, W: WriteHalf, C: Clock>(
     alloc: Global,
     routes: &mut Routes,
     desk: &mut Desk<S>,
-    connection: &Connection<'_, L, C>,
+    client: Client<R, W>,
+    timer: &C,
     moment: Moment,
-) -> Finish
+) -> ServedConnection<R, W>
+    // Where the client's bytes are known, the reply is to those, and it is what was sent.
+    ensures exchanges { Exchanges S.Store moment (R.remaining client.read_half) desk.old desk.new
+        (W.contents client.write_half) (W.contents result.client.write_half) result.outcome }
+    ensures reads { TookThenSome (R.remaining client.read_half)
+        (R.remaining result.client.read_half) result.outcome.read }
+    ensures ended { W.has_ended result.client.write_half ≡ true }
+    ensures drained { R.is_drained result.client.read_half ≡ true }
+
+    // Whatever the client tells of its bytes, at most one request was handed to the register.
     ensures leaves { (h : List Request) → StandsFor S.Store desk.old h → IsWhole desk.old
-        → IsClean S.Store desk.new → LeavesOne S.Store h desk.new result }
+        → IsClean S.Store desk.new → LeavesOne S.Store h desk.new result.outcome.end }
     ensures clean { IsClean S.Store desk.new → IsClean S.Store desk.old }
-    ensures desk { LeavesDesk desk.old desk.new result }
+    ensures desk { LeavesDesk desk.old desk.new result.outcome.end }
+    ensures steps { KeepsToSteps S.Store 51 desk.old desk.new }
 {
-    let Ok(start) = Instant::now(connection.timer) else {
-        return Finish::Ended(End::ReadFault);
-    };
-    let mut reader = Watched::new(connection.timed_from(start));
-    let mut writer = Watched::new(connection.timed_from(start));
+    let Client {
+        read_half,
+        write_half,
+    } = client;
+    let start = Instant::now(timer).ok();
+    let mut reader = Watched::new(Timed {
+        half: read_half,
+        timer,
+        start,
+    });
+    let mut writer = Watched::new(Timed {
+        half: write_half,
+        timer,
+        start,
+    });
     let outcome = exchange(alloc, routes, desk, moment, &mut reader, &mut writer);
-    connection.client.end_writing_and_drain();
-    outcome.end
+    let mut read_half = reader.into_inner().half;
+    let mut write_half = writer.into_inner().half;
+    write_half.end_writing();
+    read_half.drain();
+    ServedConnection {
+        outcome,
+        client: Client {
+            read_half,
+            write_half,
+        },
+    }
 }
 
 /// Whether a next exchange may follow one that ended so: the register may be asked again.
@@ -172,11 +204,8 @@ pub fn serve_on<S: Alter, L: Listener, C: Clock, N: Now>(
         let Some(moment) = attendance.tell_moment(clocks.moments) else {
             return Finish::Ended(End::ReadFault);
         };
-        let connection = Connection {
-            client: &client,
-            timer: clocks.timer,
-        };
-        let finish = serve_connection(alloc, &mut routes, desk, &connection, moment);
+        let connection = serve_connection(alloc, &mut routes, desk, client, clocks.timer, moment);
+        let finish = connection.outcome.end;
         if !may_serve_on(finish) {
             return finish;
         }

@@ -1,11 +1,13 @@
 //! Serving over a network of tests, of which a call fails: listening, accepting, reading, writing,
 //! or a look at a clock.
+ghost use Rattle.std.specs.Prelude.{Some};
+
 use register_desk::{Desk, End, Finish};
-use register_program::{Attendance, Client, Listener, Network, serve_at};
+use register_program::{Attendance, Client, Listener, Network, ReadHalf, WriteHalf, serve_at};
 use sqlite::MemStore;
 use std::alloc::{AllocError, Global};
 use std::cell::Cell;
-use std::io::{self, ErrorKind};
+use std::io::{self, ErrorKind, Read, Write};
 use std::rc::Rc;
 use std::test::Fail;
 use std::time::{Clock, Duration};
@@ -59,6 +61,7 @@ impl Calls {
 /// A network whose clients send *advanced*, sixteen bytes at a time, and take all.
 #[derive(Drop)]
 struct Tested {
+    alloc: Global,
     calls: Calls,
 }
 
@@ -68,6 +71,7 @@ impl Network for Tested {
     fn listen_at_localhost(&self, _port: u16) -> io::Result<Tested> {
         self.calls.make(Call::Listen)?;
         Ok(Tested {
+            alloc: self.alloc,
             calls: self.calls.share()?,
         })
     }
@@ -86,41 +90,60 @@ impl Clock for Tested {
 }
 
 impl Listener for Tested {
-    type Client = Sender;
+    type ReadHalf = Sender;
 
-    fn accept_client(&self) -> io::Result<Sender> {
+    type WriteHalf = Taker;
+
+    fn accept_client(&self) -> io::Result<Client<Sender, Taker>> {
         self.calls.make(Call::Accept)?;
-        Ok(Sender {
-            calls: self.calls.share()?,
-            sent: Cell::new(0),
+        Ok(Client {
+            read_half: Sender {
+                calls: self.calls.share()?,
+                rest: ADVANCE.as_bytes(),
+            },
+            write_half: Taker {
+                calls: self.calls.share()?,
+                taken: Vec::new(self.alloc),
+            },
         })
     }
 }
 
-/// A client, and how much of its request it has sent.
+/// A client that sends, and what it has still to send.
 #[derive(Drop)]
 struct Sender {
     calls: Calls,
-    sent: Cell<usize>,
+    rest: &'static [u8],
 }
 
-impl Client for Sender {
-    fn read_within(&self, _wait: Duration, buf: &mut [u8]) -> io::Result<usize> {
+impl ReadHalf for Sender {
+    ghost remaining = { λ sender. Some sender.rest.now };
+
+    fn read_within(&mut self, _wait: Duration, buf: &mut [u8]) -> io::Result<usize> {
         self.calls.make(Call::Read)?;
-        let request = ADVANCE.as_bytes();
-        let sent = self.sent.get().min(request.len());
-        let count = (request.len() - sent).min(buf.len()).min(16);
-        buf[..count].copy_from_slice(&request[sent..sent + count]);
-        self.sent.set(sent + count);
-        Ok(count)
+        let count = buf.len().min(16);
+        self.rest.read(&mut buf[..count])
     }
 
-    fn write_within(&self, _wait: Duration, buf: &[u8]) -> io::Result<usize> {
+    fn drain(&mut self) {}
+}
+
+/// The same client as it takes its reply, and what it has taken.
+#[derive(Drop)]
+struct Taker {
+    calls: Calls,
+    taken: Vec<u8>,
+}
+
+impl WriteHalf for Taker {
+    ghost contents = { λ taker. Some taker.taken.items };
+
+    fn write_within(&mut self, _wait: Duration, buf: &[u8]) -> io::Result<usize> {
         self.calls.make(Call::Write)?;
-        Ok(buf.len())
+        self.taken.write(buf)
     }
 
-    fn end_writing_and_drain(&self) {}
+    fn end_writing(&mut self) {}
 }
 
 /// How serving two clients ends, the latest moment after it in seconds, and how many calls of this
@@ -129,6 +152,7 @@ fn served(alloc: Global, call: Call, before: u64) -> Result<(Finish, u64, u64), 
     let mut desk: Desk<MemStore> = make_desk(alloc)?;
     let made = Rc::new(alloc, Cell::new(0))?;
     let network = Tested {
+        alloc,
         calls: Calls {
             call,
             before,

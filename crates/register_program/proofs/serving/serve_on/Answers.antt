@@ -18,19 +18,19 @@ exchanges-init g c = record {
 pub exchanges-preserved : goal.exchanges-preserved
 exchanges-preserved g c = record {
   so_far = λ h stands whole clean. served_next g.S.Store h c.exchanges.served c.exchanges.desk
-      c.serve_connection-finish.new.desk c.serve_connection-finish.result
-      (c.exchanges.invariant.so_far h stands whole (c.serve_connection-finish.ensures.clean clean))
-      c.serve_connection-finish.ensures.leaves clean
-      (not_store c.serve_connection-finish.result (sym c.may_serve_on.ensures ∙ c.if-not-may_serve_on.false));
-  clean = λ clean. c.exchanges.invariant.clean (c.serve_connection-finish.ensures.clean clean);
+      c.serve_connection-connection.new.desk c.serve_connection-connection.result.outcome.end
+      (c.exchanges.invariant.so_far h stands whole (c.serve_connection-connection.ensures.clean clean))
+      c.serve_connection-connection.ensures.leaves clean
+      (not_store c.serve_connection-connection.result.outcome.end (sym c.may_serve_on.ensures ∙ c.if-not-may_serve_on.false));
+  clean = λ clean. c.exchanges.invariant.clean (c.serve_connection-connection.ensures.clean clean);
   within = omega (arith, c.exchanges-test.true);
   accepted = ap (λ (a : Attendance). a.accepted) (c.in-Some-tell_moment.ensures.tells ∙ c.in-Some.ensures.counts)
       ∙ ap (λ (n : ℕ). n + 1) c.exchanges.invariant.accepted;
   sound = ap (λ (a : Attendance). a.failed) (c.in-Some-tell_moment.ensures.tells ∙ c.in-Some.ensures.counts)
       ∙ c.exchanges.invariant.sound;
-  goes_on = goes_on_by _ _ c.exchanges.desk _ c.serve_connection-finish.result c.exchanges.invariant.goes_on
-      c.serve_connection-finish.ensures.desk
-      (not_store c.serve_connection-finish.result (sym c.may_serve_on.ensures ∙ c.if-not-may_serve_on.false));
+  goes_on = goes_on_by _ _ c.exchanges.desk _ c.serve_connection-connection.result.outcome.end c.exchanges.invariant.goes_on
+      c.serve_connection-connection.ensures.desk
+      (not_store c.serve_connection-connection.result.outcome.end (sym c.may_serve_on.ensures ∙ c.if-not-may_serve_on.false));
 }
 
 pub returns-in_default : goal.returns-in_default
@@ -55,19 +55,20 @@ returns-in_default-tell_moment g c = record {
 
 pub returns-then-not-may_serve_on : goal.returns-then-not-may_serve_on
 returns-then-not-may_serve_on g c =
-    let finish = c.serve_connection-finish in
+    let connection = c.serve_connection-connection in
+    let end = connection.result.outcome.end in
     let on = sym c.may_serve_on.ensures ∙ c.if-not-may_serve_on.true in
     let counted = ap (λ (a : Attendance). a.accepted)
     (c.in-Some-tell_moment.ensures.tells ∙ c.in-Some.ensures.counts) in
     let within : c.exchanges.served + 1 ≤ c.args.exchanges = omega (arith, c.exchanges-test.true) in
     record {
       leaves = λ h stands whole clean. served_last g.S.Store h c.exchanges.served c.args.exchanges c.exchanges.desk
-          finish.new.desk finish.result (c.exchanges.invariant.so_far h stands whole (finish.ensures.clean clean))
-          finish.ensures.leaves within clean;
-      clean = λ clean. c.exchanges.invariant.clean (finish.ensures.clean clean);
-      ends = ends_serving finish.result on;
-      cause = explains_end finish.result c.args.exchanges c.tell_moment.new.self on (omega (arith, counted));
-      desk = leaves_by _ _ c.exchanges.desk _ finish.result c.exchanges.invariant.goes_on finish.ensures.desk on;
+          connection.new.desk end (c.exchanges.invariant.so_far h stands whole (connection.ensures.clean clean))
+          connection.ensures.leaves within clean;
+      clean = λ clean. c.exchanges.invariant.clean (connection.ensures.clean clean);
+      ends = ends_serving end on;
+      cause = explains_end end c.args.exchanges c.tell_moment.new.self on (omega (arith, counted));
+      desk = leaves_by _ _ c.exchanges.desk _ end c.exchanges.invariant.goes_on connection.ensures.desk on;
     }
 
 pub returns : goal.returns
