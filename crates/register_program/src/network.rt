@@ -9,10 +9,10 @@ use std::time::Duration;
 
 /// The half of a client's connection on which its bytes come.
 pub trait ReadHalf {
-    // The bytes that are still to come of the client, where they are known.
+    /// The bytes that are still to come of the client, where they are known.
     ghost remaining: { Self → Option (List ℕ) } = { λ _. None };
 
-    // Whether what the client sent besides its request was taken off, where that is known.
+    /// Whether what the client sent besides its request was taken off, where that is known.
     ghost is_drained: { Self → Bool } = { λ _. true };
 
     /// Reads what the client has sent, and waits no longer than this for some of it.
@@ -33,10 +33,10 @@ pub trait ReadHalf {
 
 /// The half of a client's connection on which it is answered.
 pub trait WriteHalf {
-    // The bytes that were sent to the client, where they are known.
+    /// The bytes that were sent to the client, where they are known.
     ghost contents: { Self → Option (List ℕ) } = { λ _. None };
 
-    // Whether the client was told that no more comes, where that is known.
+    /// Whether the client was told that no more comes, where that is known.
     ghost has_ended: { Self → Bool } = { λ _. true };
 
     /// Writes what the system takes of the bytes, and waits no longer than this until it takes some.
