@@ -2,13 +2,13 @@
 //!
 //! A function that names the type of the store costs about a minute in a proof, and any other a few
 //! seconds. So it stands in [`over_files`] alone, over any disk, and is handed what to do as a
-//! [`Task`]; and the disk stands in [`Lab::try_out`].
+//! [`Task`]; and the disk stands in [`files_of`] and [`Lab::try_out`].
 ghost use Rattle.std.specs.Prelude.{◌≡◌, false, IfOk, IsTrue};
 ghost use Rattle.sqlite_disk.specs.Memory.{memory_is_usable};
 
 use crate::contents::{Contents, Stopped};
 use register_desk::{Desk, OpenRefusal};
-use sqlite::{Alter, Connection, FileStore, Files, Options};
+use sqlite::{Alter, Connection, Files, Options};
 use sqlite_disk::{Crash, Disk, Memory};
 use std::alloc::Global;
 use std::test::Fail;
@@ -189,19 +189,35 @@ fn options(spill_pages: usize) -> Options {
     }
 }
 
-/// A file with these bytes, all synced, whose calls fail so.
-fn file_of(
-    alloc: Global,
-    bytes: &[u8],
-    plan: Plan,
-    counter: Counter,
-) -> Result<Planned<Memory>, Fail>
-    ensures { IfOk result (λ file. IsTrue (⟦<Planned<Memory> as Disk>⟧.is_usable file)) }
+/// A file with these bytes, all synced.
+fn file_of(alloc: Global, bytes: &[u8]) -> Result<Memory, Fail>
+    ensures { IfOk result (λ file. IsTrue (memory_is_usable file)) }
 {
     let mut file = Memory::new(alloc);
     file.write_at(0, bytes)?;
     file.sync()?;
-    Ok(Planned::new(file, plan, counter))
+    Ok(file)
+}
+
+/// Files with these contents whose calls fail so.
+fn files_of(
+    alloc: Global,
+    contents: &Contents,
+    fault: Fault,
+) -> Result<Files<Planned<Memory>>, Fail>
+    ensures log { IfOk result (λ files.
+        IsTrue (⟦<Planned<Memory> as Disk>⟧.is_usable files.log)) }
+    ensures db { IfOk result (λ files.
+        IsTrue (⟦<Planned<Memory> as Disk>⟧.is_usable files.db)) }
+{
+    let (of_log, of_database) = fault.plans();
+    let counter = Counter::new(alloc)?;
+    let log = file_of(alloc, &contents.log)?;
+    let db = file_of(alloc, &contents.database)?;
+    Ok(Files {
+        log: Planned::new(log, of_log, counter.share()?),
+        db: Planned::new(db, of_database, counter),
+    })
 }
 
 fn left_of(alloc: Global, files: Files<Planned<Memory>>) -> Result<Left, Fail> {
@@ -264,12 +280,7 @@ impl Lab {
         fault: Fault,
         task: &T,
     ) -> Result<(Option<T::Outcome>, Left), Fail> {
-        let (of_log, of_database) = fault.plans();
-        let counter = Counter::new(self.alloc)?;
-        let files = Files {
-            log: file_of(self.alloc, &files.log, of_log, counter.share()?)?,
-            db: file_of(self.alloc, &files.database, of_database, counter)?,
-        };
+        let files = files_of(self.alloc, files, fault)?;
         let (outcome, files) = over_files(self.alloc, files, options(self.spill_pages), task)?;
         Ok((outcome, left_of(self.alloc, files)?))
     }
@@ -342,8 +353,22 @@ fn select<S: Alter>(
     }
 }
 
-/// Runs statements, and gives all rows of the register after them as text, the kept replies among
-/// them; empty where none of its tables is there.
+/// All rows of the register after these statements as text, the kept replies among them; empty
+/// where none of its tables is there.
+fn rows_after<S: Alter>(
+    alloc: Global,
+    connection: &mut Connection<S>,
+    statements: &str,
+) -> Result<String, Fail> {
+    connection.execute_batch(statements)?;
+    let mut rows = String::new(alloc);
+    for sql in &SELECTED {
+        rows.push_str(select(alloc, connection, sql)?.as_str())?;
+    }
+    Ok(rows)
+}
+
+/// Runs statements, and gives all rows after them.
 #[derive(Drop)]
 struct Running<'a> {
     statements: &'a str,
@@ -357,11 +382,7 @@ impl Task for Running<'_> {
         alloc: Global,
         mut connection: Connection<S>,
     ) -> Result<(S, String), Fail> {
-        connection.execute_batch(self.statements)?;
-        let mut rows = String::new(alloc);
-        for sql in &SELECTED {
-            rows.push_str(select(alloc, &mut connection, sql)?.as_str())?;
-        }
+        let rows = rows_after(alloc, &mut connection, self.statements)?;
         Ok((store_of(connection), rows))
     }
 }
