@@ -10,8 +10,9 @@ behind     A client that sends 600 KB behind its request, all of it before it is
 time       A client keeps the next one waiting for 10 seconds in all, 9.5 at least and 11 at most: one that sends nothing, one
            that sends slowly, one that takes nothing of its reply, and one that sends for half of the time and then takes nothing.
 
-No reply is long enough to fill a system's buffer. So a library stands before libc in the last two: `send` takes some bytes of the first
-reply, and then none within the time that the program gave the system, as where a client does not read. It counts the reads too.
+No reply is long enough to fill a system's buffer. So a library stands before libc in the last two: `send` takes some bytes
+of the first reply, and then none within the time that the program gave the system, as where a client does not read. It
+counts the reads too.
 
 The parts run side by side, some 12 seconds. It wants Linux and gcc. Build the program first: ./keyreg </dev/null
 """
@@ -210,8 +211,8 @@ def send_all(connection: socket.socket, given: bytes) -> None:
 
 def heard(served: Served, given: bytes) -> Any:
     """What a client hears that has sent these bytes, and all that is behind them, before it is served, and what broke its
-    connection, if that was not closed in order. One before it, which sends nothing, is heard until then. One after it is heard once it is
-    closed, or the program has ended."""
+    connection, if that was not closed in order. One before it, which sends nothing, is heard until then. One after it is
+    heard once it is closed, or the program has ended."""
     with served.connected(PATIENCE) as first, served.connected(PATIENCE) as second:
         sends = threading.Thread(target=send_all, args=(second, given + BEHIND), daemon=True)
         sends.start()
