@@ -10,11 +10,13 @@ behind     A client that sends 600 KB behind its request, all of it before it is
 time       A client keeps the next one waiting for 10 seconds in all, 9.5 at least and 11 at most: one that sends nothing, one
            that sends slowly, one that takes nothing of its reply, and one that sends for half of the time and then takes nothing.
 
-No reply is long enough to fill a system's buffer. So a library stands before libc in the last two: `send` takes some bytes of the first
-reply, and then none within the time that the program gave the system, as where a client does not read. It counts the reads too.
+No reply is long enough to fill a system's buffer. So a library stands before libc in the last two: `send` takes some bytes
+of the first reply, and then none within the time that the program gave the system, as where a client does not read. It
+counts the reads too.
 
 The parts run side by side, some 12 seconds. It wants Linux and gcc. Build the program first: ./keyreg </dev/null
 """
+import contextlib
 import os
 import signal
 import socket
@@ -202,18 +204,29 @@ def advanced(register: Register, number: int, begun: int) -> list[bytes]:
     return [post_reply(register.copy(), moment, "zed", number, ("advance",)) for moment in range(begun, int(time.time()) + 2)]
 
 
+def send_all(connection: socket.socket, given: bytes) -> None:
+    with contextlib.suppress(OSError):
+        connection.sendall(given)
+
+
 def heard(served: Served, given: bytes) -> Any:
-    """What a client hears that has sent these bytes, and all that is behind them, before it is served: another one, which
-    sends nothing, is heard until then."""
+    """What a client hears that has sent these bytes, and all that is behind them, before it is served, and what broke its
+    connection, if that was not closed in order. One before it, which sends nothing, is heard until then. One after it is
+    heard once it is closed, or the program has ended."""
     with served.connected(PATIENCE) as first, served.connected(PATIENCE) as second:
-        sends = threading.Thread(target=second.sendall, args=(given + BEHIND,), daemon=True)
+        sends = threading.Thread(target=send_all, args=(second, given + BEHIND), daemon=True)
         sends.start()
         sends.join(1)
         first.shutdown(socket.SHUT_WR)
         expect(to_the_end(first) == b"", "the client before it")
         found = to_the_end(second)
         sends.join()
-        return found
+        with contextlib.suppress(OSError), served.connected(PATIENCE) as third:
+            third.shutdown(socket.SHUT_WR)
+            to_the_end(third)
+        # An end that was read already hides what came after it.
+        broken = second.getsockopt(socket.SOL_SOCKET, socket.SO_ERROR)
+        return (found, os.strerror(broken)) if broken else found
 
 
 def behind_replies() -> Iterator[str]:
@@ -227,7 +240,7 @@ def behind_replies() -> Iterator[str]:
         "413 of a head": (b"GET /" + b"x" * MOST_HEAD, TOO_LARGE),
         "413 of a body": (post(b"", length=MOST_BODY + 1), TOO_LARGE),
     }
-    with Served(exchanges=2 * len(cases) + 2, lines=lines) as served:
+    with Served(exchanges=3 * len(cases) + 3, lines=lines) as served:
         for name, (given, wanted) in cases.items():
             found = heard(served, given)
             expect(found == wanted, f"bytes behind a {name}: {found}")
@@ -252,7 +265,7 @@ def behind_503(tools: Tools) -> Iterator[str]:
     register, lines = with_a_key()
     place = refusing.Refusing(tools.refusing, tools.folder)
     for refused in range(1, 100):
-        with Served(exchanges=2, lines=lines, environment=place.environment(refused, on_signal=True)) as served:
+        with Served(exchanges=3, lines=lines, environment=place.environment(refused, on_signal=True)) as served:
             os.kill(served.process.pid, signal.SIGUSR1)
             found = heard(served, KEY)
         if found == MEMORY:
