@@ -38,26 +38,27 @@ pub leaves_only : (mixes : Bool) (log db c : List ℕ) (is_log given : Bool) (hi
 leaves_only mixes log db c is_log given history key is fresh may =
     elim (subst₂ (LeavesOf mixes log db c) is fresh may) [ inl same ↦ same | inr same ↦ same ]
 
+-- where there was no database none is lost, whatever a first page was made of
+under_way : {D : Type 0} (g : Ghosts D) (found : Image) (files : Files D)
+    → ((image : Image) → outcomes g files.log files.db image → image ≡ found)
+    → IsNothing found → (image : Image) → IsUnderWay g files image → ∥ StandsAs found image ∥₁
+under_way g found files only none image (inl same) = ∣ stands_still found image (only image same) ∣₁
+under_way g found files only none image (inr (inl blank)) = ∣ record {
+  database = λ db holds. absurd (is_something found db holds none);
+  nothing = λ nothing. inl blank;
+} ∣₁
+under_way g found files only none image (inr (inr empty)) = ∥∥₁_map empty (λ one. record {
+  database = λ db holds. absurd (is_something found db holds none);
+  nothing = λ nothing. inr one;
+})
+
+-- an empty database stays one
+still_nothing : (found image : Image) → KeepsDatabase found image → ¬ IsNothing found → HoldsNothing found
+    → HoldsNothing image
+still_nothing found image keeps some (inl none) = absurd (some none)
+still_nothing found image keeps some (inr empty) = inr (empty.0, keeps empty.0 empty.1, empty.2)
+
 module _ {D : Type 0} {g : Ghosts D} (found : Image) where
-  -- where there was no database none is lost, whatever a first page was made of
-  under_way : (files : Files D) → ((image : Image) → outcomes g files.log files.db image → image ≡ found)
-      → IsNothing found → (image : Image) → IsUnderWay g files image → ∥ StandsAs found image ∥₁
-  under_way files only none image (inl same) = ∣ stands_still found image (only image same) ∣₁
-  under_way files only none image (inr (inl blank)) = ∣ record {
-    database = λ db holds. absurd (is_something found db holds none);
-    nothing = λ nothing. inl blank;
-  } ∣₁
-  under_way files only none image (inr (inr empty)) = ∥∥₁_map empty (λ one. record {
-    database = λ db holds. absurd (is_something found db holds none);
-    nothing = λ nothing. inr one;
-  })
-
-  -- an empty database stays one
-  still_nothing : (image : Image) → KeepsDatabase found image → ¬ IsNothing found → HoldsNothing found
-      → HoldsNothing image
-  still_nothing image keeps some (inl none) = absurd (some none)
-  still_nothing image keeps some (inr empty) = inr (empty.0, keeps empty.0 empty.1, empty.2)
-
   -- of files that were given back
   stands_left : (files : Files D) → image_of g files ≡ found
       → ((image : Image) → outcomes g files.log files.db image → image ≡ found)
@@ -66,10 +67,10 @@ module _ {D : Type 0} {g : Ghosts D} (found : Image) where
   stands_left files seen only (left.Files now) leaves image may =
       ∣ stands_still found image (only image (leaves image may)) ∣₁
   stands_left files seen only (left.Unopened now) leaves image may = elim leaves [
-    | inl new ↦ under_way files only (subst IsNothing seen new.0) image (new.1 image may.0)
+    | inl new ↦ under_way g found files only (subst IsNothing seen new.0) image (new.1 image may.0)
     | inr old ↦ ∣ record {
       database = may.1;
-      nothing = still_nothing image may.1 (λ none. old.0 (subst IsNothing (sym seen) none));
+      nothing = still_nothing found image may.1 (λ none. old.0 (subst IsNothing (sym seen) none));
     } ∣₁
   ]
   stands_left files seen only (left.Store now) leaves image one =
