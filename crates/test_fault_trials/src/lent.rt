@@ -168,9 +168,11 @@ impl DeskTask for Lending<'_> {
             good_turns: good_writes,
         };
         let ended = desk.call(alloc, self.given.call, reader, writer);
+        let outcome = ended.outcome;
+        let writer = ended.writer;
         Ok(Done {
-            outcome: ended.outcome,
-            output: ended.writer.inner,
+            outcome,
+            output: writer.inner,
             turns: match self.case.stream {
                 Stream::Reader => reads.count(),
                 Stream::Writer => writes.count(),
