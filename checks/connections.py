@@ -3,16 +3,17 @@
 
     checks/connections.py
 
-replies    The longest reply that a register has, of more than 2 KB, arrives whole, also where the client takes it in small
-           pieces; none is of 8 KB. A long request is read in pieces, and not byte by byte.
-behind     A client that sends 600 KB behind its request, all of it before it is served, has its whole reply and then an end in
-           order: behind each kind of reply, 500 and 503 among them.
-time       A client keeps the next one waiting for 10 seconds in all, 9.5 at least and 11 at most: one that sends nothing, one
-           that sends slowly, one that takes nothing of its reply, and one that sends for half of the time and then takes nothing.
+replies    The longest reply that a register has, of more than 2 KB, arrives whole, also where the client takes it
+           in small pieces; none is of 8 KB. A long request is read in pieces, and not byte by byte.
+behind     A client that sends 600 KB behind its request, all of it before it is served, has its whole reply and
+           then an end in order: behind each kind of reply, 500 and 503 among them.
+time       A client keeps the next one waiting for 10 seconds in all, 9.5 at least and 11 at most: one that sends
+           nothing, one that sends slowly, one that takes nothing of its reply, and one that sends for half of the
+           time and then takes nothing.
 
-No reply is long enough to fill a system's buffer. So a library stands before libc in the last two: `send` takes some bytes
-of the first reply, and then none within the time that the program gave the system, as where a client does not read. It
-counts the reads too.
+No reply is long enough to fill a system's buffer. So a library stands before libc in the last two: `send` takes some
+bytes of the first reply, and then none within the time that the program gave the system, as where a client does not
+read. It counts the reads too.
 
 The parts run side by side, some 12 seconds. It wants Linux and gcc. Build the program first: ./keyreg </dev/null
 """
@@ -29,8 +30,7 @@ import traceback
 from typing import Any, Callable, Iterator, NamedTuple, Optional
 
 from answers import (
-    BAD, LENGTH_REQUIRED, MEMORY, NO_ROUTE, STORE, TOO_LARGE, UNKNOWN, compact, get_reply, not_allowed, post_reply,
-    reply, request_object, shown,
+    BAD, LENGTH_REQUIRED, MEMORY, NO_ROUTE, STORE, TOO_LARGE, UNKNOWN, get_reply, not_allowed, post_reply, reply, shown,
 )
 from office import ADVANCE, MOST_BODY, MOST_HEAD, get, head, post, with_a_key
 import refusing
@@ -133,8 +133,8 @@ def asked(served: Served, given: bytes) -> Any:
 
 
 def with_the_longest_key() -> tuple[Register, list[str]]:
-    """A register with a key of the longest reply: all dates late, and custodians, approvals, names and a purpose as long as they
-    may be."""
+    """A register with a key of the longest reply: all dates late, and custodians, approvals, names and a purpose as
+    long as they may be."""
     names = [f"{place:02}".ljust(64, "c") for place in range(MOST_CUSTODIANS[2])]
     owner, moment = "o" * 64, LAST - 1000
     kind = max(TYPES, key=len)
@@ -201,7 +201,8 @@ def replies(tools: Tools) -> Iterator[str]:
 
 def advanced(register: Register, number: int, begun: int) -> list[bytes]:
     """The replies that *advanced* may have of this register, by the second at which it is served."""
-    return [post_reply(register.copy(), moment, "zed", number, ("advance",)) for moment in range(begun, int(time.time()) + 2)]
+    moments = range(begun, int(time.time()) + 2)
+    return [post_reply(register.copy(), moment, "zed", number, ("advance",)) for moment in moments]
 
 
 def send_all(connection: socket.socket, given: bytes) -> None:
@@ -210,9 +211,9 @@ def send_all(connection: socket.socket, given: bytes) -> None:
 
 
 def heard(served: Served, given: bytes) -> Any:
-    """What a client hears that has sent these bytes, and all that is behind them, before it is served, and what broke its
-    connection, if that was not closed in order. One before it, which sends nothing, is heard until then. One after it is
-    heard once it is closed, or the program has ended."""
+    """What a client hears that has sent these bytes, and all that is behind them, before it is served, and what broke
+    its connection, if that was not closed in order. One before it, which sends nothing, is heard until then. One after
+    it is heard once it is closed, or the program has ended."""
     with served.connected(PATIENCE) as first, served.connected(PATIENCE) as second:
         sends = threading.Thread(target=send_all, args=(second, given + BEHIND), daemon=True)
         sends.start()
@@ -308,7 +309,9 @@ def for_half_the_time(client: socket.socket) -> None:
     client.sendall(KEY[10:])
 
 
-def waited(name: str, sends: Callable[[socket.socket], None], environment: Optional[dict[str, str]] = None) -> Iterator[str]:
+def waited(
+    name: str, sends: Callable[[socket.socket], None], environment: Optional[dict[str, str]] = None,
+) -> Iterator[str]:
     """How long a client that sends so keeps the next one waiting, which is then served."""
     register, lines = with_a_key()
     with Served(exchanges=2, lines=lines, environment=environment) as served, served.connected(PATIENCE) as client:

@@ -62,6 +62,16 @@ def tell(told, *words):
         print(*words, file=file)
 
 
+def wait_alone(told, crate, seconds):
+    """Until no other crate has been in hand for so long, however busy the machine is."""
+    since = time.monotonic()
+    while time.monotonic() < since + seconds:
+        words = [line.split()[:2] for line in (told / "journal").read_text(encoding="utf-8").splitlines()]
+        if {name for kind, name in words if kind == "begun"} - {name for kind, name in words if kind == "ended"} != {crate}:
+            since = time.monotonic()
+        time.sleep(0.05)
+
+
 def hold_folders(crate):
     """Shuts others out of the folders of a crate and of all below it, as the kit's does, but waits for none."""
     held = []
@@ -86,6 +96,8 @@ def rt():
     held = hold_folders(crate)
     with contextlib.suppress(FileNotFoundError):
         time.sleep(float((told / f"wait-{crate}").read_text(encoding="utf-8")))
+    with contextlib.suppress(FileNotFoundError):
+        wait_alone(told, crate, float((told / f"alone-{crate}").read_text(encoding="utf-8")))
     if (told / f"fail-{crate}").exists():
         sys.exit(f"fn {crate}::module::planted: no proof")
     for at in range(FUNCTIONS):
@@ -313,7 +325,7 @@ def silent(copy):
 
 def terminal(copy):
     """On a terminal: one line that is written over, with what is in hand, functions and a clock."""
-    copy.tells("wait-sql_steps=4")
+    copy.tells("alone-sql_steps=2.5")
     copy.renew()
     # Four long names and the clock are more than 80.
     columns = 140

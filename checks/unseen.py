@@ -93,7 +93,8 @@ REFUSED = {
 }
 REFUSAL = re.compile(r"\b(?:(?:End|OpenRefusal)::Store|StoreError::NoRegister"
                      r"|(?:StoreError|CheckError|CreateError|RowsError)::Database|(?<!\w)Error::SqliteFailure)\b"
-                     r"(?!(?:\([^()]*\))?\)*\s*(?:=>|=[^=]|\|)|\.fmt)|\bbreak_desk\(\)|\bis_broken = |\bis_broken: true")
+                     r"(?!(?:\([^()]*\))?\)*\s*(?:=>|=[^=]|\|)|\.fmt)"
+                     r"|\bbreak_desk\(\)|\bis_broken = |\bis_broken: true")
 
 # What asks for room beforehand, whose refusal is want of memory.
 ROOM = re.compile(r"\b(?:with_capacity|(?:try_)?reserve(?:_exact)?|from_elem)\b|\bvec!\[[^\]]*;")
@@ -167,8 +168,9 @@ def told_faults(what: str, told: re.Pattern, table: dict[str, int]) -> list[str]
 
 def bodies_of_crates() -> list[tuple[str, list[str]]]:
     """The files of crates that are no tests, with their lines but for imports and clauses."""
-    return [(str(path.relative_to(CRATES)), [line for line in code(path) if "use " not in line and "ensures" not in line])
-            for path in sorted(CRATES.glob("*/src/**/*.rt")) if not path.relative_to(CRATES).parts[0].startswith("test_")]
+    found = [(str(path.relative_to(CRATES)), code(path)) for path in sorted(CRATES.glob("*/src/**/*.rt"))]
+    return [(name, [line for line in lines if "use " not in line and "ensures" not in line])
+            for name, lines in found if not name.startswith("test_")]
 
 
 def room_faults() -> list[str]:
@@ -194,8 +196,8 @@ def main() -> int:
     faults = mark_faults() + attended_faults() + room_faults() + call_faults()
     faults += told_faults("want of memory", MEMORY, TOLD) + told_faults("a refused call", REFUSAL, REFUSED)
     print(*faults, sep="\n", end="\n" if faults else "")
-    print(f"marks of streams, {sum(TOLD.values())} places that tell want of memory, {sum(REFUSED.values())} a refused call, "
-          f"{len(CALLS)} functions that call a connection: {len(faults)} faults")
+    print(f"marks of streams, {sum(TOLD.values())} places that tell want of memory, "
+          f"{sum(REFUSED.values())} a refused call, {len(CALLS)} functions that call a connection: {len(faults)} faults")
     return 1 if faults else 0
 
 
