@@ -16,7 +16,7 @@ PAGE, PICTURE = os.path.join(DOCS, "COSTS.md"), os.path.join(DOCS, "costs.svg")
 COLOURS = {"keyreg": "#1f5fa8", "bare engine": "#9aa7b4", "Python": "#d9822b",
            "Python, tested": "#a85a12"}
 
-# The bars of requests: which rows of the first table, by the text of the third column.
+# The bars of requests: which rows of the first table, by the text of the second column.
 REQUESTS = ["repeat", "assign, one key, rising", "register, rising", "register, Active, rising",
             "advance, one due, rising"]
 
@@ -47,7 +47,7 @@ def number(text):
 
 def request_panel(keys):
     """What some requests cost over a file of so many keys."""
-    rows = [row for row in table_with("Over") if row["Over"] == "file" and row["Keys"] == str(keys)]
+    rows = [row for row in table_with("Request") if row["Keys"] == str(keys)]
     groups = []
     for kind in REQUESTS:
         row = next(row for row in rows if row["Request"] == kind)
@@ -74,9 +74,8 @@ def exchange_panel():
     rows = [row for row in table_with("Exchange") if row["Over"] == "/dev/shm, 16"]
     groups = []
     for exchange in ("GET of a key", "POST of a registration"):
-        row = next(row for row in rows
-                   if row["Exchange"] == exchange and row["Python with"] == "log")
-        bars = {"keyreg": row["keyreg: time"], "Python": row["Python: time"]}
+        row = next(row for row in rows if row["Exchange"] == exchange)
+        bars = {"keyreg": row["keyreg: time"], "Python": row["Log: time"]}
         groups.append((exchange, bars))
     return "An HTTP exchange: processor time of the server, µs", groups
 

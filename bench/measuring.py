@@ -24,8 +24,15 @@ class Used(NamedTuple):
     memory: float
 
 
-def built(name, source):
-    """The bare program of this source. It is proved and built in a folder for temporary files, where it is not there so."""
+# Where a bare program has the constants that its script gives it.
+CONSTANTS = "// What the measuring script counts with stands here.\n"
+
+
+def built(name, constants=""):
+    """The bare program of the source beside this file, with these constants. It is proved and built in a folder for
+    temporary files, where it is not there so."""
+    with open(os.path.join(os.path.dirname(os.path.abspath(__file__)), f"{name}.rt.txt"), encoding="utf-8") as file:
+        source = file.read().replace(CONSTANTS, constants)
     top = os.path.join(tempfile.gettempdir(), f"keyreg_bench_{name}")
     crate = os.path.join(top, "crates", name)
     program, text = os.path.join(crate, "out", name), os.path.join(crate, "src", "main.rt")

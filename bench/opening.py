@@ -5,7 +5,7 @@ opening of the same register in a file of version 1, which is taken to version 2
     bench/opening.py [KEYS..]
 
 Each register has so many keys, each with the request that made it, written by SQLite's own library from the formats
-of docs/SPECIFICATION.md. The bare opening is the program below, which is built in a folder for temporary files where it
+of docs/SPECIFICATION.md. The bare opening is bare_open.rt.txt, which is built in a folder for temporary files where it
 is not there as it stands. Each number is the least of three rounds. Build the register's own program first: ./keyreg </dev/null
 """
 import os
@@ -21,28 +21,6 @@ from measuring import built  # noqa: E402
 from registers import FIRST_TABLES, INDEXES, PROGRAM, TABLES, UNSET, VERSION, expect  # noqa: E402
 
 ROUNDS = 3
-BARE_SOURCE = """\
-//! Opens a database file as the kit's `sqlite` does, and nothing more: what an opening of the same
-//! file by `keyreg` is measured against.
-#![tactic(auto)]
-
-use sqlite::{Connection, Wary};
-use std::env;
-use std::process::ExitCode;
-
-fn main(rt: HostRuntime) -> ExitCode {
-    let Ok(mut words) = env::args(&rt) else {
-        return ExitCode::from(1);
-    };
-    let (Some(_), Some(file)) = (words.next(), words.next()) else {
-        return ExitCode::from(1);
-    };
-    match Connection::open_from(&rt, file.as_str(), false, Wary) {
-        Ok(_) => ExitCode::from(0),
-        Err(_) => ExitCode::from(2),
-    }
-}
-"""
 
 # A master key's usage period is twelve months, of both parties.
 YEAR = 365 * 86400
@@ -92,7 +70,7 @@ def taken(first, file):
 
 
 def main():
-    bare_open = built("bare_open", BARE_SOURCE)
+    bare_open = built("bare_open")
     sizes = [int(word) for word in sys.argv[1:]] or [1_000, 100_000, 1_000_000]
     print("| keys | file, MB | bare: wall s | processor s | MB | keyreg: wall s | processor s | MB | ratio of processor "
           "| version 1: wall s | processor s | MB | ratio to version 2 |")

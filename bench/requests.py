@@ -21,7 +21,7 @@ of the file, but for the third kind; each caller's numbers rise. What grows with
 of the engine's pages.
 
 `keyreg` reads lines, decides and writes replies, each before the next line is read. *python* does the same over `sqlite3`,
-with the rules that these requests meet. The *bare* program, below, gives the statements of an accepted request to the
+with the rules that these requests meet. The *bare* program, bare_requests.rt.txt, gives the statements of an accepted request to the
 kit's `sqlite`: it knows the values before, and has no line to read, nothing to decide and no reply to write. All three
 hold the file's lock as long as they run, keep a log beside the file, copy it into the file when it has 1000 pages, keep
 2000 pages in memory, and sync at each commit: the kit twice, since it trusts no checksum to refuse a torn write, and
@@ -42,7 +42,7 @@ in thousands: no other load changes that, but it leaves out what the system does
 syncs above all, and some fifty times as long a run comes with it.
 
 The files are written by SQLite's own library from the formats of docs/SPECIFICATION.md. The bare program is proved and
-built in a folder for temporary files, where it is not there as it stands below; that takes some minutes, and so does
+built in a folder for temporary files, where it is not there as it stands; that takes some minutes, and so does
 the rest. Build the register's own program first: ./keyreg </dev/null. It needs Linux, for the clock of another process.
 """
 import argparse
@@ -392,341 +392,6 @@ def constants():
     ))
 
 
-BARE_SOURCE = """\
-//! Gives the statements of accepted requests to the kit's `sqlite`, with values that are known before: no request is
-//! read or judged, and no reply is written.
-#![tactic(auto)]
-
-use sqlite::{Alter, Connection, Error, Transaction, Wary, params};
-use std::alloc::Global;
-use std::env;
-use std::process::ExitCode;
-
-""" + constants() + """
-/// Requests of one kind, with the places from `first` up to `end`.
-#[derive(Clone, Copy)]
-struct Span {
-    is_rising: bool,
-    base: u32,
-    prepared: u32,
-    keys: u32,
-    first: u32,
-    end: u32,
-}
-
-/// What is kept of a request but its texts, and the number of keys after it.
-#[derive(Clone, Copy)]
-struct Kept {
-    number: i64,
-    key: i64,
-    state: i64,
-    moment: i64,
-    keys: i64,
-}
-
-/// What the change of a key's owner sets beside it.
-#[derive(Clone, Copy)]
-struct Row {
-    state: i64,
-    activation: i64,
-    protect_stop: i64,
-    deactivation: i64,
-    destroyed: i64,
-    compromised: i64,
-    occurrence: i64,
-}
-
-fn scattered(place: u32, places: u32) -> Option<u32> {
-    let far = u64::from(place).wrapping_mul(STEP);
-    u32::try_from(far.checked_rem(u64::from(places))?).ok()
-}
-
-fn activation_at(place: u32, keys: u32) -> Option<i64> {
-    if place % 2 == 1 {
-        return Some(0);
-    }
-    Some(DUE + 1 + i64::from(scattered(place / 2, keys - keys / 2)?))
-}
-
-fn is_new<S: Alter>(connection: &mut Connection<S>, caller: &str, number: i64) -> bool {
-    match connection.query_row(FIND_REQUEST, params![caller, number]) {
-        Err(Error::QueryReturnedNoRows) => true,
-        _ => false,
-    }
-}
-
-fn has_no_period<S: Alter>(connection: &mut Connection<S>) -> bool {
-    matches!(connection.query_row(FIND_PERIOD, params![DATA_ENCRYPTION]), Err(Error::QueryReturnedNoRows))
-}
-
-fn find_key<S: Alter>(connection: &mut Connection<S>, key: i64) -> Option<Row> {
-    let row = connection.query_row(FIND_KEY, params![key]).ok()?;
-    Some(Row {
-        state: row.get(3).ok()?,
-        activation: row.get(5).ok()?,
-        protect_stop: row.get(6).ok()?,
-        deactivation: row.get(7).ok()?,
-        destroyed: row.get(8).ok()?,
-        compromised: row.get(9).ok()?,
-        occurrence: row.get(10).ok()?,
-    })
-}
-
-fn count_names<S: Alter>(connection: &mut Connection<S>, sql: &str, key: i64) -> Option<usize> {
-    let names = connection.query_all(sql, params![key]).ok()?;
-    Some(names.len())
-}
-
-fn advance_due<S: Alter>(tx: &mut Transaction<'_, S>, moment: i64) -> Option<()> {
-    tx.execute(ACTIVATE_DUE, params![moment]).ok()?;
-    tx.execute(DEACTIVATE_DUE, params![moment]).ok()?;
-    Some(())
-}
-
-fn set_owner<S: Alter>(tx: &mut Transaction<'_, S>, key: i64, owner: &str, row: Row) -> Option<()> {
-    tx.execute(
-        UPDATE_KEY,
-        params![
-            key,
-            owner,
-            row.state,
-            row.activation,
-            row.protect_stop,
-            row.deactivation,
-            row.destroyed,
-            row.compromised,
-            row.occurrence
-        ],
-    )
-    .ok()?;
-    Some(())
-}
-
-fn keep<S: Alter>(
-    tx: &mut Transaction<'_, S>,
-    caller: &str,
-    command: &str,
-    kept: Kept,
-) -> Option<()> {
-    tx.execute(
-        ADD_REQUEST,
-        params![caller, kept.number, command, kept.key, kept.state, kept.moment],
-    )
-    .ok()?;
-    tx.execute(SET_COUNTS, params![kept.moment, kept.keys]).ok()?;
-    Some(())
-}
-
-fn register<S: Alter>(
-    alloc: Global,
-    connection: &mut Connection<S>,
-    number: i64,
-    activation: i64,
-    moment: i64,
-    is_later: bool,
-) -> Option<()> {
-    let state = if activation == 0 { ACTIVE } else { PRE_ACTIVE };
-    let purpose = format!(in alloc; "backup volume {number}").ok()?;
-    let command = format!(in alloc; "register data-encryption office {activation} {STOP} {END} {purpose}").ok()?;
-    if !is_new(connection, "ann", number) || !has_no_period(connection) || !connection.is_autocommit() {
-        return None;
-    }
-    let mut tx = connection.transaction();
-    if is_later {
-        advance_due(&mut tx, moment)?;
-    }
-    let cells = params![
-        number,
-        DATA_ENCRYPTION,
-        "office",
-        purpose.as_str(),
-        state,
-        moment,
-        activation,
-        STOP,
-        END,
-        UNSET,
-        UNSET,
-        UNSET
-    ];
-    tx.execute(ADD_KEY, cells).ok()?;
-    let kept = Kept {
-        number,
-        key: number,
-        state,
-        moment,
-        keys: number,
-    };
-    keep(&mut tx, "ann", command.as_str(), kept)?;
-    tx.commit().ok()
-}
-
-fn assign_text(alloc: Global, key: i64, to: &str) -> Option<String> {
-    format!(in alloc; "assign {key} {to}").ok()
-}
-
-fn assign<S: Alter>(
-    alloc: Global,
-    connection: &mut Connection<S>,
-    number: i64,
-    key: i64,
-    owner: &str,
-    other: &str,
-    keys: i64,
-    moment: i64,
-    is_later: bool,
-) -> Option<()> {
-    let command = assign_text(alloc, key, other)?;
-    if !is_new(connection, owner, number) {
-        return None;
-    }
-    let row = find_key(connection, key)?;
-    let custodians = count_names(connection, FIND_CUSTODIANS, key)?;
-    let approvals = count_names(connection, FIND_APPROVALS, key)?;
-    if custodians > 0 || approvals > 0 || !connection.is_autocommit() {
-        return None;
-    }
-    let mut tx = connection.transaction();
-    if is_later {
-        advance_due(&mut tx, moment)?;
-    }
-    set_owner(&mut tx, key, other, row)?;
-    let kept = Kept {
-        number,
-        key,
-        state: row.state,
-        moment,
-        keys,
-    };
-    keep(&mut tx, owner, command.as_str(), kept)?;
-    tx.commit().ok()
-}
-
-fn owners(turn: u32) -> (&'static str, &'static str) {
-    if turn % 2 == 1 {
-        ("branch", "office")
-    } else {
-        ("office", "branch")
-    }
-}
-
-fn repeat<S: Alter>(connection: &mut Connection<S>, number: i64) -> Option<()> {
-    let row = connection.query_row(FIND_REQUEST, params!["ann", number]).ok()?;
-    let key: i64 = row.get(1).ok()?;
-    if key == number { Some(()) } else { None }
-}
-
-fn advance<S: Alter>(
-    connection: &mut Connection<S>,
-    caller: &str,
-    number: i64,
-    keys: i64,
-    moment: i64,
-) -> Option<()> {
-    if !is_new(connection, caller, number) || !connection.is_autocommit() {
-        return None;
-    }
-    let mut tx = connection.transaction();
-    advance_due(&mut tx, moment)?;
-    let kept = Kept {
-        number,
-        key: 0,
-        state: 0,
-        moment,
-        keys,
-    };
-    keep(&mut tx, caller, "advance", kept)?;
-    tx.commit().ok()
-}
-
-fn serve<S: Alter>(
-    alloc: Global,
-    connection: &mut Connection<S>,
-    kind: &str,
-    span: Span,
-    place: u32,
-) -> Option<()> {
-    let number = i64::from(place) + 1;
-    let is_later = span.is_rising;
-    let moment = if is_later { i64::from(span.base) + number } else { i64::from(span.base) };
-    match kind {
-        "repeat" => repeat(connection, i64::from(scattered(place, span.prepared)?) + 1),
-        "register" => {
-            let key = i64::from(span.prepared) + number;
-            register(alloc, connection, key, LATER, moment, is_later)
-        }
-        "active" => {
-            let key = i64::from(span.prepared) + number;
-            register(alloc, connection, key, 0, moment, is_later)
-        }
-        "assign" => {
-            let others = span.prepared.checked_sub(1)?;
-            let key = i64::from(scattered(place, others)?) + 1;
-            let (owner, other) = owners(place.checked_div(others)?);
-            let keys = i64::from(span.keys);
-            assign(alloc, connection, number, key, owner, other, keys, moment, is_later)
-        }
-        "one" => {
-            let key = i64::from(span.prepared);
-            let (owner, other) = owners(place);
-            let keys = i64::from(span.keys);
-            assign(alloc, connection, BEHIND + number, key, owner, other, keys, moment, is_later)
-        }
-        _ => advance(connection, kind, number, i64::from(span.keys), moment),
-    }
-}
-
-fn number_in(field: Option<&str>) -> Option<u32> {
-    field?.parse::<u32>().ok()
-}
-
-fn serve_line<S: Alter>(alloc: Global, connection: &mut Connection<S>, line: &str) -> Option<()> {
-    let mut fields = line.split(' ');
-    let kind = fields.next()?;
-    let span = Span {
-        is_rising: fields.next()? == "rising",
-        base: number_in(fields.next())?,
-        prepared: number_in(fields.next())?,
-        keys: number_in(fields.next())?,
-        first: number_in(fields.next())?,
-        end: number_in(fields.next())?,
-    };
-    for place in span.first..span.end {
-        serve(alloc, connection, kind, span, place)?;
-    }
-    Some(())
-}
-
-/// Serves the span of each line of the input, and tells where it is done.
-fn serve_lines<S: Alter>(rt: &HostRuntime, connection: &mut Connection<S>) -> Option<()> {
-    for line in rt.lines(rt.alloc()) {
-        serve_line(rt.alloc(), connection, line.ok()?.as_str())?;
-        println!(rt; "done").ok()?;
-    }
-    Some(())
-}
-
-fn serve_in_file(rt: &HostRuntime, file: &str) -> Option<()> {
-    let mut connection = Connection::open_from(rt, file, false, Wary).ok()?;
-    serve_lines(rt, &mut connection)?;
-    connection.close().ok()
-}
-
-/// The word is a file.
-fn act(rt: &HostRuntime) -> Option<()> {
-    let mut words = env::args(rt).ok()?;
-    words.next()?;
-    serve_in_file(rt, words.next()?.as_str())
-}
-
-fn main(rt: HostRuntime) -> ExitCode {
-    match act(&rt) {
-        Some(()) => ExitCode::from(0),
-        None => ExitCode::from(1),
-    }
-}
-"""
-
 # ---- the runs
 
 
@@ -818,7 +483,7 @@ def words_of(name, place):
     if name == "keyreg":
         return [PROGRAM, "run", "--file", place]
     if name == "bare":
-        return [built("bare_requests", BARE_SOURCE), place]
+        return [built("bare_requests", constants()), place]
     return [sys.executable, os.path.abspath(__file__), "--serve", place]
 
 
@@ -880,7 +545,7 @@ def columns(names, runs):
 
 def tell_files(runs, sizes, count, rounds):
     """The tables of requests over files."""
-    built("bare_requests", BARE_SOURCE)
+    built("bare_requests", constants())
     print(f"SQLite {sqlite3.sqlite_version} in Python. {runs.UNIT} a request; the least of {rounds}.\n")
     found = []
 

@@ -12,7 +12,7 @@ shorter periods of two types at the latest moment, so that the report has long k
 same rows are read by
 
     keyreg           the command, by its own searches, each line flushed before the next row is read
-    bare             the program below: one SELECT given to the kit's `sqlite`, whose cells it adds up and does not write
+    bare             bare_tables.rt.txt: one SELECT given to the kit's `sqlite`, whose cells it adds up and does not write
     python           the same SELECT by its `sqlite3`, and `csv` for an export: it writes what `keyreg` does, in large pieces
     python, flushed  the same, each line flushed before the next row is read
     python, tested   as python, over a register that it opens as `opened.py` does: all rows are put to the tests first
@@ -225,74 +225,9 @@ def write_by_python(table_name, name, file, days):
 # ---- the rows in the kit
 
 
-BARE_SOURCE = """\
-//! Gives the SELECT of an export or of a report to the kit's `sqlite`, and adds up the cells of its rows: no line of
-//! them is made or written.
-#![tactic(auto)]
-
-use sqlite::types::ValueRef;
-use sqlite::{Alter, Connection, Row, Rows, Wary, params};
-use std::env;
-use std::process::ExitCode;
-
-""" + "".join(f'const {name.upper()}: &str = "{text}";\n' for name, text in SELECTS.items()) + """
-/// The sum of the row's numbers and of the lengths of its texts.
-fn row_sum(row: &Row) -> Option<u64> {
-    let mut sum: u64 = 0;
-    for at in 0..row.column_count() {
-        let cell = match row.get_ref(at).ok()? {
-            ValueRef::Int(number) => u64::try_from(number).ok()?,
-            ValueRef::Text(bytes) => bytes.len() as u64,
-            _ => return None,
-        };
-        sum = sum.wrapping_add(cell);
-    }
-    Some(sum)
-}
-
-fn sum_rows<S: Alter>(rows: &mut Rows<'_, S>) -> Option<u64> {
-    let mut sum: u64 = 0;
-    for _ in 0..u64::MAX {
-        match rows.next().ok()? {
-            Some(row) => sum = sum.wrapping_add(row_sum(row)?),
-            None => return Some(sum),
-        }
-    }
-    None
-}
-
-fn sum_all<S: Alter>(connection: &mut Connection<S>) -> Option<u64> {
-    let mut rows = connection.query(EXPORT, &[]).ok()?;
-    sum_rows(&mut rows)
-}
-
-fn sum_due<S: Alter>(connection: &mut Connection<S>, until: i64) -> Option<u64> {
-    let mut rows = connection.query(REPORT, params![until]).ok()?;
-    sum_rows(&mut rows)
-}
-
-/// The words are a file, and for a report its horizon.
-fn act(rt: &HostRuntime) -> Option<()> {
-    let mut words = env::args(rt).ok()?;
-    words.next()?;
-    let file = words.next()?;
-    let mut connection = Connection::open_from(rt, file.as_str(), false, Wary).ok()?;
-    println!(rt; "opened").ok()?;
-    let sum = match words.next() {
-        Some(until) => sum_due(&mut connection, until.as_str().parse::<i64>().ok()?)?,
-        None => sum_all(&mut connection)?,
-    };
-    println!(rt; "{sum}").ok()?;
-    connection.close().ok()
-}
-
-fn main(rt: HostRuntime) -> ExitCode {
-    match act(&rt) {
-        Some(()) => ExitCode::from(0),
-        None => ExitCode::from(1),
-    }
-}
-"""
+def constants():
+    """The SELECTs above as items of the bare program."""
+    return "".join(f'const {name.upper()}: &str = "{text}";\n' for name, text in SELECTS.items())
 
 
 def cell_sum(file, table_name, until):
@@ -318,7 +253,7 @@ def words_of(name, table_name, file, days, last):
         return [registers.PROGRAM, table_name, "--file", file, *horizon_words]
     if name == "bare":
         until = [str(last)] if table_name == "report" else []
-        return [built("bare_tables", BARE_SOURCE), file, *until]
+        return [built("bare_tables", constants()), file, *until]
     return [sys.executable, os.path.abspath(__file__), "--python", table_name, name, file, str(days)]
 
 
@@ -458,7 +393,7 @@ def main():
     registers.PROGRAM = asked.program or registers.PROGRAM
     expect(asked.keys >= 1 and asked.keys % STEP, f"{asked.keys} keys")
     expect(os.path.exists(registers.PROGRAM), f"no program {registers.PROGRAM}")
-    built("bare_tables", BARE_SOURCE)
+    built("bare_tables", constants())
     print(f"SQLite {sqlite3.sqlite_version} in Python. {asked.keys} keys, a report for {asked.days} days. Seconds; the least of "
           f"{asked.rounds}.\n")
     print_tables(asked.keys, asked.days, asked.rounds)

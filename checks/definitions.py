@@ -212,24 +212,6 @@ def spec_file(crate, place):
     return SpecFile(crate, place)
 
 
-def words_above(key):
-    """The words above the definitions that stand before this one in its part of the file, the nearest first; last what
-    begins the part."""
-    file = spec_file(key.crate, key.place)
-    place = file.place_of(key.name)
-    found, at = [], file.heads[place][0]
-    while at >= 0:
-        line = file.lines[at].strip()
-        if line.startswith("-- ----"):
-            return found + [line.removeprefix("-- ----").strip()]
-        if place and at == file.heads[place - 1][0]:
-            place -= 1
-            found.append(paragraph(file.comment_of(at), "--"))
-        at -= 1
-    end = next(at for at, line in enumerate(file.lines) if not line.startswith("--"))
-    return found + [paragraph(file.lines[:end], "--")]
-
-
 def files_in(folder, suffix):
     """The files of this kind in this folder of each crate, however deep, by their crate and their path in it."""
     for crate in sorted(sources.stands_on()):

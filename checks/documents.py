@@ -6,8 +6,6 @@
 A line for each fault, and a last line that counts them; the status is 1 where there is one. The
 parts, all but the last where none is named:
 
-    words      each definition of a crate's specs/ that a clause of a public function cites stands
-               in docs/MODEL.md, in a row that names its file
     promises   each name in docs/PROMISES.md is one of the code; each function that it or a table of
                README.md names with clauses has these; each law stands there with each of its
                clauses; no cell there has more than 25 words
@@ -23,8 +21,9 @@ parts, all but the last where none is named:
     pictures   README's picture of the states has the transitions of docs/SPECIFICATION.md,
                docs/costs.svg the figures of docs/COSTS.md, and the graph of docs/ARCHITECTURE.md
                the arrows of crates.txt; what its pictures name is a function or a crate
-    theorem    docs/THEOREM.md has the theorem and each definition on which it stands, as the sources have
-               them, and each document that says how many there are has that figure (checks/theorem.py)
+    theorem    docs/THEOREM.md and docs/DEFINITIONS.md have the theorem and each definition on which it stands, as
+               the sources have them; each document that says how many there are has that figure; and no
+               definition on which a public contract stands is without words of its own (checks/theorem.py)
     reached    a public contract stands on each definition of a crate's specs/, and on none of those
                of its folder Within/
     look       README's first look, which `rt try` answers without a proof, in a copy of the sources; it takes
@@ -78,23 +77,6 @@ def cells(line):
     if not line.startswith("|"):
         return []
     return [cell.strip() for cell in line.strip().strip("|").split("|")]
-
-
-# ---- words
-
-
-def missing_words():
-    rows = [(set(QUOTED.findall(line)), cells(line)[2]) for _, line in numbered("docs/MODEL.md")
-            if len(cells(line)) > 3]
-    words = sources.cited(sources.product())
-    faults = []
-    for (crate, module, name), by in sorted(words.items()):
-        where = [place for quoted, place in rows if name in quoted]
-        if not where:
-            faults.append(f"docs/MODEL.md: no `{name}` ({crate}, {module}), which `{by}` cites")
-        elif not any(re.search(rf"\b{module}\b", place) for place in where):
-            faults.append(f"docs/MODEL.md: `{name}` without its file ({crate}, {module})")
-    return faults, f"{len(words)} cited words"
 
 
 # ---- promises
@@ -342,7 +324,7 @@ def counts_of_code():
     tables = re.search(r"TABLES: \[TableName; (\d+)\]", read("crates/register_store/src/table.rt"))
     kind = read("crates/register_requests/src/command_fields.rt")
     kinds = re.search(r"ALL: &'static \[CommandKind\] = &\[(.*?)\];", kind, re.S)
-    steps = re.search(r"AppliesTo S\.Store request\.now (\d+)", read("crates/register_desk/src/desk/applying.rt"))
+    steps = re.search(r"KeepsToSteps S\.Store (\d+) self", read("crates/register_desk/src/desk/applying.rt"))
     return int(tables.group(1)), kinds.group(1).count("CommandKind::"), int(steps.group(1))
 
 
@@ -481,7 +463,7 @@ def look_faults():
     return faults, f"answered in {seconds} seconds"
 
 
-PARTS = {"words": missing_words, "promises": promise_faults, "paths": path_faults,
+PARTS = {"promises": promise_faults, "paths": path_faults,
          "calls": call_faults, "commands": output_faults, "stale": stale_faults,
          "pictures": picture_faults, "theorem": theorem.faults, "reached": reached_faults, "look": look_faults}
 # Those that are run where none is named: the others take minutes.

@@ -43,7 +43,7 @@ class Kind(NamedTuple):
 # Whatever is added.
 ALWAYS = {
     "the recipes": "docs/RECIPES.md checks/recipes.py",
-    "the page that checks/theorem.py makes": "docs/THEOREM.md",
+    "the page that checks/theorem.py makes": "docs/DEFINITIONS.md",
     "wrong bodies, of which rt and checks/wrong_bodies.py tell those whose lines changed": "crates/*/*must-fail/*",
 }
 KINDS = (
@@ -54,12 +54,12 @@ KINDS = (
                                             "checks/exchanges_by_curl.py",
     }),
     Kind("Add a command", r"\b(Activate|Assign|AddCustodian|Approve)\b", {
-        "they stand for their shapes": "*/Commands.antt",
+        "they stand for their shapes": "*/Commands.antt */Within/Fields.antt",
         "their refusals": "*/CustodyRefusal.antt crates/register_core/src/decision.rt",
         "any command would do": "docs/COSTS.md checks/desk_keyboard.py",
     }),
     Kind("Add a shape of fields", r"\bTypeAndPeriod\b|type_and_period|\bDateEdits\b", {
-        "the kinds that have it": "*/CommandKind.antt */command_fields.rt",
+        "the kinds that have it": "*/command_fields.rt",
     }),
     Kind("Add a refusal", r"\bNoApproval\b|Refusal::ApprovalsMissing|\(ApprovalsMissing ", {}),
     Kind("Add a route", r"ShowUsage|Route(Pattern)?::Usage|Show, Usage|/usage\b|\busage_(text|reply|data|value|row)", {
@@ -82,7 +82,9 @@ KINDS = (
                                         "*/test_desk_trials/src/desks.rt "
                                         "*/ListedRows.antt bench/tables.py checks/rules_tried.py",
         "who the office is": "checks/behind_nginx.py checks/client_tried.py",
-        "what they look at beside the day": "checks/want_of_memory.py checks/large_office.py checks/mutated.py",
+        "what they look at beside the day": "checks/want_of_memory.py checks/large_office.py checks/mutated.py "
+                                            "checks/exchanges_by_curl.py",
+        "it stands for its shape": "*/Commands.antt */Within/Fields.antt",
         "what comes of one that is left out": "docs/OPERATING.md",
         "what version 1 has not": "checks/rebuilt.py",
         "it came with version 2": "*/migrations.rt checks/migrated_by_sqlite3.py",

@@ -10,13 +10,11 @@ import re
 from dataclasses import dataclass, field
 
 TOP = os.path.join(os.path.dirname(os.path.abspath(__file__)), "..")
-USE = re.compile(r"\s*ghost use Rattle\.(\w+)\.specs\.([\w.]+?)(?:\.\{(.*)\}| as (\w+));")
 FUNCTION = re.compile(r"\s*(pub(?:\(\w+\))? )?(?:const )?fn (\w+)")
 CLAUSE = re.compile(r"\s*(?:requires|ensures)(?: (\w+))? \{")
 OWNER = re.compile(r"(?:impl|(?:pub )?trait|pub\(crate\) trait)\b(?:<[^{]*?>)? (.*?)\{")
 DEFINITION = re.compile(r"\s*(?:[a-z]+ )*pub (?:(?:record|data|filled|inverse) )?([\w◌]+)")
 FIELD = re.compile(r"\s+pub (\w+) :")
-WORD = re.compile(r"[A-Za-z_]\w*(?:\.\w+)?")
 
 
 @dataclass
@@ -62,11 +60,6 @@ def reached(left):
 def below(crate):
     """The crates of ours that one stands on, by way of others too."""
     return reached(stands_on()[crate])
-
-
-def product():
-    """The crates of the program."""
-    return reached(["keyreg"])
 
 
 def parts(text):
@@ -135,22 +128,6 @@ def functions():
             for function in functions_of(path)]
 
 
-def uses_of(path):
-    """What each word of a file's `ghost use` lines stands for: crate, file of specs, name."""
-    words, files = {}, {}
-    for line in read(path).split("\n"):
-        match = USE.match(line)
-        if not match:
-            continue
-        crate, module, names, alias = match.groups()
-        if alias:
-            files[alias] = (crate, module)
-        for name in parts(names or ""):
-            meant, _, other = name.partition(" as ")
-            words[(other or meant).strip()] = (crate, module, meant.strip())
-    return words, files
-
-
 def definitions(crates):
     """Each definition of the specs of these crates: crate, file, name; and all names of fields."""
     defined, fields = set(), set()
@@ -164,18 +141,3 @@ def definitions(crates):
             elif match and match.group(1) != "mod" and crate in crates:
                 defined.add((crate, module, match.group(1)))
     return defined, fields
-
-
-def cited(crates):
-    """The definitions that a clause of a public function cites, each with one that does."""
-    defined, found = definitions(crates)[0], {}
-    for function in functions():
-        if not function.is_public or function.crate not in crates or not function.contract:
-            continue
-        words, files = uses_of(function.path)
-        for text in WORD.findall(function.contract):
-            first, _, second = text.partition(".")
-            meant = (*files[first], second) if first in files else words.get(first)
-            if meant in defined:
-                found.setdefault(meant, f"{function.owner}::{function.name}".lstrip(":"))
-    return found

@@ -1,15 +1,15 @@
 #!/usr/bin/env python3
-"""One theorem with every definition that it stands on, as a page: docs/THEOREM.md.
+"""One theorem, and every definition that it stands on, as two pages: docs/THEOREM.md and docs/DEFINITIONS.md.
 
-    checks/theorem.py                writes the page, and counts what it has
+    checks/theorem.py                writes the pages, and counts what they have
     checks/theorem.py --count        counts: definitions and their lines, by crate; no comments, no imports
-    checks/theorem.py --list         the definitions in the page's order
-    checks/theorem.py --unnamed      those with no words above them and no row in docs/MODEL.md
+    checks/theorem.py --list         the definitions in their page's order
+    checks/theorem.py --wordless     the definitions on which a public contract stands that have no words of their own
     checks/theorem.py --unreached    the definitions of specs/ on which no public contract stands, by crate: no clause
                                      of a public function or of a trait, and no ghost; of some nothing says the name
 
-The theorem is the contract of ROOT. What a definition says in plain words is the comment above it in the source, or
-else the plain name that docs/MODEL.md has for it. checks/documents.py holds the page to the sources.
+The theorem is the contract of ROOT. What a definition says in plain words is the comment above it in the source.
+checks/documents.py holds the pages to the sources.
 """
 import functools
 import re
@@ -24,80 +24,108 @@ from sources import read
 
 # The law whose contract is the theorem: its file, and its name.
 ROOT = ("crates/register_program/src/laws.rt", "register_is_found_again")
-# The contracts that tie it to the code, which the page shows as they stand: those of its step, and that of an opening.
+# The contracts that tie it to the code, which THEOREM shows as they stand: those of its step, and that of an opening.
 STEP = (("crates/register_program/src/acting.rt", "act"),)
 OPENING = (("crates/register_program/src/register_file.rt", "open_file"),
            ("crates/register_program/src/laws.rt", "openings_find_lives"))
-# Of what these name, what the page has too: what leads on, what an opening finds, and what the machine's files are.
+# What the theorem states.
+STATEMENT = definitions.Key("register_program", "Sentence", "AreFoundAgain")
+# Of what these name, what DEFINITIONS has too: what leads on, what an opening finds, and what the machine's files are.
 TIES = (definitions.Key("register_program", "Sentence", "LeadsFrom"),
-        definitions.Key("register_program", "Opening", "OpensRegister"),
+        definitions.Key("register_program", "Opening", "FindsHistory"),
         definitions.Key("disk_files", "src/disk_files.rt", "DiskFilesFiles"))
-PAGE = "docs/THEOREM.md"
-# How a comment begins that goes on from the one above it.
+THEOREM = "docs/THEOREM.md"
+DEFINITIONS = "docs/DEFINITIONS.md"
+# How words begin that go on from others, and so say nothing alone.
 GOES_ON = re.compile(r"(?:and|or|nor|then|such|the same(?! day)|that of|two (?:that|of)|at the (?:least|most)|any of"
                      r"|so (?:is|that)|in (?:a|this program's)|one (?:was|more)|none of the later|by the rowid"
                      r"|these are the first of|to (?:a request|the question)|with another|in the|for this number"
                      r"|of (?:request lines|the rows of|so many exchanges))\b", re.I)
 
 HEAD = """\
-# The theorem, and all that it stands on
+# The theorem
 
 {says}
 
-The theorem below says so, of any runs of the program over one register's files: request lines, imports, exports,
-reports, served exchanges, creations and refusals. It is an induction over the runs. Of each it takes one step as known,
-`Leads`: from files that hold the register of a history the run leads to files that hold that register after one life.
-That the program's runs take this step is a clause of `act` (`leads`), of any job and of any files, whatever they held:
+The theorem covers any runs of the program over the files of one register: over request lines, imports, exports,
+reports, served exchanges, creations and refusals. It is proved by induction over the runs. A *history* is a list of
+accepted requests, a *life* what one run did. Each run has one premise, the step `Leads`: from files that hold the
+register of a history, the run leads to files that hold the register after one life. The function `act` does any job,
+and its clause `leads` proves the step for each job and all files:
 
 ```
 {step}
 ```
 
-`Performs` says all that a job does, so of exports, reports, refusals and what an opening checks too, and `EndsFor` why
-it ended. They stand on half as many definitions again, which this page leaves out: the step needs none of them. A run
-names no `Files`, since each has its own: what its path holds at first (`start`) is what it found. The machine's are
-`DiskFiles`. Words that are none, or that name no file, reach none: `read_words`, `read_task` and `act_in_memory` are not
-given any. To be read is `main`, with `act_on_disk`, which calls these; `checks/given.py` holds every word of it.
+`Performs` says everything that a job does: exports, reports, refusals, and what an opening checks. `EndsFor` says why
+it ended. The step needs neither, and [DEFINITIONS](DEFINITIONS.md) leaves out what they alone use. A run names no
+`Files`: it found what the path held before it (`start`). On a machine the files are `DiskFiles`. A command line that
+names no job or no file touches no file: `read_words`, `read_task` and `act_in_memory` get none. Left to read are `main`
+and `act_on_disk`, which call these; `checks/given.py` checks every word of the two.
 
-What an opening finds in files that hold a register is a part of the contract of `open_file`, which each command calls
-that needs it; so an opening of what runs left finds what they come to:
+Each command that needs a register opens it by `open_file`. Its contract says what an opening finds;
+`openings_find_lives` says that this is what the runs before it left:
 
 ```
 {opening}
 ```
 
-`OpensFile` has it in its part `stands`, by `OpensRegister`; its part `whole` says that the desk is not broken.
+A *desk* is an opened register. The part `stands` of `OpensFile` says that the desk is that of the history; `IsDeskOf`
+has what you need of that. The part `whole` says that the desk is not broken.
 
-| Of the sentence | In the theorem |
+| The sentence | The theorem |
 |---|---|
-| on an honest disk | `LeftBy`: the store is clean as each call ends |
+| on an honest disk | `LeftBy`: as each call ends the store is clean (took no wrong answer of the disk for true) |
 | that nobody else writes | `Follow`: each run finds what the one before left |
 | after any request lines | any job and an input of any bytes (`ProgramRun`), and its items (`AreItemsOf`) |
-| a stop before or within any write | a disk that fails from then on: `LeftBy` has all that may be found |
+| a stop before or within any write | a disk that fails from then on: `LeftBy` has all that may be left |
 | opening the file again finds exactly the register | `holds`: these tables, no others; `openings_find_lives` |
 | of a prefix of the accepted requests | the first items of each run (`applied`), in a history that is `lawful` |
-| every accepted request whose reply line was written | the `replies` of a life: so many lines are whole (`Answered`) |
-| and at most one more | `one_more` of each life: nothing stands past the line of what was applied |
-| every key's state is the one its dates and the latest accepted moment give | so `tables` have it, by `key_of` |
+| every accepted request whose reply line was written | the `replies` of a life: that many lines are whole (`WroteAnswers`) |
+| and at most one more | `applied` of each life: at most one more than `replies` (`WasLife`) |
+| every key's state is the one its dates and the latest accepted moment give | `tables` have that state, by `key_of` |
 
-Its premises beside the sentence's own are two, in the kit's words, of which the kit says nothing: a store that a fault
-shut while its log was copied is numbered still (`LeftIn`, part `numbered`); and the files that an opening left which
-failed while it recovered a log hold the database that they held (`KeepsDatabase` of `disk_files`; of every other failed
-opening that is proved). What README lists as trusted is trusted here too.
+The theorem has two premises that the sentence lacks. Both concern the database engine, whose contracts do not state
+them:
 
-What it does not say: that an opening succeeds, since memory may give out or the disk refuse; of exchanges any reply,
-since no contract knows the bytes of a connection; of an import that its items are those of its rows, which the contract
-of `import` has; and that the empty register of an `init` is found, and no file without one, before a request is
-accepted. Of an input or an output whose bytes nobody knows it says neither what its items nor what its lines are. The
-standard input and output of a process are such: that they are as any others is since `act` is proved for every reader
-and every writer. So it is for every `Start`, which tells what files hold; the program hands over one that tells
-nothing (`Wary`). That a stop within a write is a disk that fails from that write on is how `may_leave` is read.
+- If a fault shut a store while its log was copied, its tables still have the numbers under which they are listed
+  (`LeftIn`, part `numbered`).
+- If an opening failed while it recovered a log, the files still hold the database that they held (`KeepsDatabase` of
+  `disk_files`). For every other failed opening this is proved.
 
-First stands the theorem, and then each definition on which it stands, once. The crates come from the top down; in
-each a definition comes right below the first that names it, before what that one names next. Above each definition
-stands its name, its file in the crate's `specs/`, or its path in `src/`, and what it says in plain words; where these
-say *own*, the rule is this register's own. At the words of the kit, Rattle's standard library and the crates of others,
-the page ends; it lists them [at its end](#words-of-the-kit).
+What README lists as trusted is trusted here too.
+
+The theorem does not say
+
+- that an opening succeeds: memory may give out, or the disk may refuse;
+- which reply an exchange got: no contract knows the bytes of a connection;
+- that the items of an import are those of its rows: the contract of `import` says it;
+- that files hold the empty register of an `init`, rather than nothing, before a request is accepted;
+- what the items or the lines are where no contract knows the bytes of the input or the output, as of a process's
+  standard streams. `act` is proved for every reader and writer, so such a run is like any other;
+- what a file held before the first run. `act` is proved for every `Start`; the program passes one that says nothing
+  (`Wary`).
+
+A stop within a write is modelled as a disk that fails from that write on (`may_leave`).
+
+The theorem is this law; its statement follows. [DEFINITIONS](DEFINITIONS.md) has the {number} definitions on which it
+stands, in {lines} lines, each explained in plain words.
+
+```
+{law}
+
+{statement}
+```
+"""
+
+DEFINITIONS_HEAD = """\
+# The definitions
+
+First stands [the theorem](THEOREM.md), and then each definition on which it stands, once. The crates come from the top
+down; in each a definition comes right below the first that names it, before what that one names next. Above each
+definition stands its name, its file in the crate's `specs/`, or its path in `src/`, and what it says in plain words;
+where these say *own*, the rule is this register's own. At the words of the kit, Rattle's standard library and the
+crates of others, the page ends; it lists them [at its end](#words-of-the-kit).
 
 {counts}
 
@@ -117,7 +145,7 @@ kit says of the store that `F` opens, its `Ghosts`.
 | `Unit {{0}}`, `⊥` | what always holds; what never does |
 | `x ≡ y`, `x ≢ y` | they are equal; they are not |
 | `f x y`, `λ x. y` | f of x and y; the function that gives y for x |
-| `x.part`, `x.0`, `x.1` | a part of x; the first and the second of a pair |
+| `x.part`, `x.0`, `x.1` | a part of x; the first and the second of a pair, and so on of more |
 | `record {{ part = x }}`, `record t {{ part = x }}` | the value with these parts; t with another part |
 | `[]`, `x ∷ more`, `a ++ b` | the empty list; x and then more; one list after another |
 | `fold f x list` | f of x and the first, of that and the second, and so on |
@@ -166,42 +194,10 @@ def theorem():
 # ---- plain words
 
 
-@functools.lru_cache
-def model_rows():
-    """The rows of MODEL: what it says of each name in one, and where they stand. Of a name it says what stands at its
-    place, where as many parts stand there as names, and else all."""
-    rows = []
-    for line in read("docs/MODEL.md").split("\n"):
-        cells = [cell.strip() for cell in line.strip().strip("|").split("|")]
-        if line.startswith("|") and len(cells) > 3:
-            names, parts = re.findall(r"`([^`]+)`", cells[1]), cells[3].split("; ")
-            told = parts if len(parts) == len(names) else [cells[3]] * len(names)
-            rows.append((dict(zip(names, told)), cells[2]))
-    return rows
-
-
-def model_words(key):
-    """What MODEL says of a definition, by its name and its file, if it says anything."""
-    place = key.place.split("/")[-1].removesuffix(".rt")
-    return next((told[key.name] for told, where in model_rows()
-                 if key.name in told and re.search(rf"\b{place}\b", where)), "")
-
-
-def words_of(definition):
-    """A definition's plain words: where its own go on from others, those of MODEL, or with the others before them."""
-    key, words = definition.key, definition.words
-    told = model_words(key)
-    if not words:
-        return told
-    if not GOES_ON.match(words) or key.place.startswith("src/"):
-        return words
-    if told:
-        return told
-    for above in definitions.words_above(key):
-        words = f"{above.rstrip('.')}; {words}" if above else words
-        if above and not GOES_ON.match(above):
-            break
-    return words
+def is_wordless(definition):
+    """A definition with no words above it, or with such as go on from others. A type's words stand in the code."""
+    words = definition.words
+    return not words or bool(GOES_ON.match(words)) and not definition.key.place.startswith("src/")
 
 
 def sentence(text):
@@ -257,7 +253,7 @@ def told_name(definition):
 
 def entry(definition, shared):
     """A definition with its words above it; of the parameters that it shares it names the first that has them."""
-    words, key = sentence(words_of(definition)), definition.key
+    words, key = sentence(definition.words), definition.key
     block = (key.crate, key.place, definition.parameters)
     if definition.parameters:
         first = shared.setdefault(block, key.name)
@@ -305,17 +301,29 @@ def kit_table(found, kit):
     return "\n".join([KIT, *rows]) + "\n"
 
 
-def page():
-    root, found, kit = theorem()
-    shared = {}
+def theorem_page():
+    """What THEOREM has: the sentence, the contracts that tie the theorem to the code, and the theorem."""
+    root = theorem()[0]
     step, opening = ("\n\n".join("\n".join(definitions.law(*place).text) for place in places)
                      for places in (STEP, OPENING))
-    head = HEAD.format(says=readme_sentence(), step=step, opening=opening, counts=count_table())
-    parts = [head, "## The theorem\n", entry(root, shared)]
+    number, lines, _ = totals()
+    return HEAD.format(says=readme_sentence(), step=step, opening=opening, law="\n".join(root.text),
+                       statement="\n".join(definitions.definition(STATEMENT).text), number=f"{number:,}", lines=f"{lines:,}")
+
+
+def definitions_page():
+    """What DEFINITIONS has: the theorem, each definition on which it stands, and the kit's words."""
+    root, found, kit = theorem()
+    shared = {}
+    parts = [DEFINITIONS_HEAD.format(counts=count_table()), "## The theorem\n", entry(root, shared)]
     for crate, group in grouped(found):
         parts += [f"## {crate}\n", filled(does(crate)) + "\n"]
         parts += [entry(definition, shared) for definition in group]
     return "\n".join(parts + [kit_table(found, kit)])
+
+
+# The pages, with what each is to have.
+PAGES = {THEOREM: theorem_page, DEFINITIONS: definitions_page}
 
 
 def grouped(found):
@@ -352,7 +360,7 @@ def entries_of(text):
     return found
 
 
-def page_faults(have, want):
+def page_faults(page, have, want):
     """What a page has otherwise than it is to have."""
     stand, are = entries_of(have), entries_of(want)
     faults = [f"no `{key[2]}` ({key[0]}, {key[1]})" for key in are if key not in stand]
@@ -365,35 +373,37 @@ def page_faults(have, want):
         pairs = zip(have.split("\n"), want.split("\n"))
         at = next(number for number, (line, other) in enumerate(pairs, 1) if line != other)
         faults.append(f"line {at} is another one")
-    return [f"{PAGE}: {fault}: checks/theorem.py makes it" for fault in faults]
+    return [f"{page}: {fault}: checks/theorem.py makes it" for fault in faults]
 
 
 def figure_faults():
-    """The figures behind a mention of the page in a document that are not its own."""
+    """The figures behind a mention of DEFINITIONS in a document that are not its own."""
     number, lines, _ = totals()
     wanted = {"lines": f"{lines:,}", "definitions": f"{number:,}"}
     for document in ["README.md", "CONTRIBUTING.md"] + sources.listed("docs/*.md"):
-        behind = read(document).split("THEOREM.md")[1:] if document != PAGE else []
+        behind = read(document).split("DEFINITIONS.md")[1:] if document not in PAGES else []
         near = (re.split(r"\n\n|\n\|", text)[0][:NEAR] for text in behind)
-        yield from (f"{document}: THEOREM.md has {wanted[what]} {what}, and not {figure}"
+        yield from (f"{document}: DEFINITIONS.md has {wanted[what]} {what}, and not {figure}"
                     for text in near for figure, what in FIGURE.findall(text) if figure != wanted[what])
 
 
-def unnamed():
-    """The definitions of which neither their source nor MODEL says anything in plain words."""
-    return [definition.key for definition in theorem()[1] if not words_of(definition)]
+def wordless():
+    """The definitions on which a public contract stands that have no words of their own."""
+    stand = definitions.reached(definitions.contract_names())
+    return sorted(key for key in stand if is_wordless(definitions.definition(key)))
 
 
 def faults():
     """For documents.py: what the page and what is said of it have that is not so, and what was looked at."""
-    want = page()
-    have = read(PAGE) if sources.listed(PAGE) else ""
-    if not have:
-        return [f"no {PAGE}: checks/theorem.py makes it"], "no page"
-    found = page_faults(have, want) if have != want else []
-    found += [f"{PAGE}: nothing is found for `{word}` of {place} ({crate})"
+    found = []
+    for name, make in PAGES.items():
+        have, want = read(name) if sources.listed(name) else "", make()
+        if not have:
+            return [f"no {name}: checks/theorem.py makes it"], "no page"
+        found += page_faults(name, have, want) if have != want else []
+    found += [f"{DEFINITIONS}: nothing is found for `{word}` of {place} ({crate})"
               for crate, place, word in sorted(definitions.unknown)]
-    found += [f"docs/MODEL.md: no plain name for `{key.name}` ({key.crate}, {key.place})" for key in unnamed()]
+    found += [f"crates/{key.crate}: no words of its own above `{key.name}` ({key.place})" for key in wordless()]
     return found + list(figure_faults()), f"{totals()[0]:,} definitions"
 
 
@@ -412,8 +422,8 @@ def print_list():
         print(f"{definition.key.crate} {definition.key.place} {definition.key.name}: {code_lines(definition)}")
 
 
-def print_unnamed():
-    for key in unnamed():
+def print_wordless():
+    for key in wordless():
         print(f"{key.crate} {key.place} {key.name}")
 
 
@@ -424,19 +434,20 @@ def print_unreached():
             print(f"  {key.place} {key.name}" + ", which nothing names" * (not is_named))
 
 
-def write_page():
-    with open(f"{sources.TOP}/{PAGE}", "w", encoding="utf-8") as file:
-        file.write(page())
+def write_pages():
+    for name, make in PAGES.items():
+        with open(f"{sources.TOP}/{name}", "w", encoding="utf-8") as file:
+            file.write(make())
 
 
-ACTS = {"--count": print_counts, "--list": print_list, "--unnamed": print_unnamed, "--unreached": print_unreached}
+ACTS = {"--count": print_counts, "--list": print_list, "--wordless": print_wordless, "--unreached": print_unreached}
 
 
 def main():
     chosen = sys.argv[1:]
     if len(chosen) > 1 or not set(chosen) <= set(ACTS):
         sys.exit(f"the words are none, or one of {', '.join(ACTS)}")
-    ACTS.get("".join(chosen), write_page)()
+    ACTS.get("".join(chosen), write_pages)()
     number, lines, of_code = totals()
     print(f"theorem: {ROOT[1]} stands on {number:,} definitions of {lines:,} lines, {of_code:,} of them of code")
     return 0

@@ -58,8 +58,7 @@ TOLD = {
     "key_rows/src/export.rt": 3,
     "keyreg/src/main.rt": 1,
     "memory_disk/src/lib.rt": 1,
-    "register_desk/src/desk.rt": 1,
-    "register_desk/src/end.rt": 1,
+    "register_desk/src/end.rt": 2,
     "register_desk/src/memory.rt": 1,
     "register_desk/src/opening.rt": 1,
     "register_http/src/exchanging.rt": 1,
@@ -76,11 +75,11 @@ MEMORY = re.compile(r"\b(?:End|OpenRefusal|AskFault|StoreError|CheckError|RowsEr
 # In how many places a file tells so that a call of the database was refused.
 REFUSED = {
     "disk_files/src/disk_files.rt": 2,
-    "register_desk/src/desk.rt": 3,
+    "register_desk/src/desk.rt": 1,
     "register_desk/src/desk/applying.rt": 3,
     "register_desk/src/desk/listing.rt": 2,
     "register_desk/src/desk/look_ups.rt": 5,
-    "register_desk/src/desk/showing.rt": 1,
+    "register_desk/src/end.rt": 1,
     "register_desk/src/memory.rt": 1,
     "register_desk/src/opening.rt": 2,
     "register_desk/src/rows.rt": 1,
@@ -94,7 +93,7 @@ REFUSED = {
 REFUSAL = re.compile(r"\b(?:(?:End|OpenRefusal)::Store|StoreError::NoRegister"
                      r"|(?:StoreError|CheckError|CreateError|RowsError)::Database|(?<!\w)Error::SqliteFailure)\b"
                      r"(?!(?:\([^()]*\))?\)*\s*(?:=>|=[^=]|\|)|\.fmt)"
-                     r"|\bbreak_desk\(\)|\bis_broken = |\bis_broken: true")
+                     r"|\bis_broken = |\bis_broken: true")
 
 # What asks for room beforehand, whose refusal is want of memory.
 ROOM = re.compile(r"\b(?:with_capacity|(?:try_)?reserve(?:_exact)?|from_elem)\b|\bvec!\[[^\]]*;")

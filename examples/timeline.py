@@ -14,7 +14,8 @@ keyboard, has all texts and dates of its key. Printed, the axis stands on each s
         export itself are those of the latest accepted moment.
 --days  so many days ahead a Protect Stop Date is due; else 60
 
-Years more than ten before or after the moment are cut off: a bar that goes on there has an arrow.
+Years more than ten before or after the moment are cut off: a bar that goes on there has an arrow. register_rules.py has
+to stand beside it.
 """
 import argparse
 import base64
@@ -28,7 +29,8 @@ import unicodedata
 from datetime import datetime, timedelta, timezone
 from html import escape
 
-EPOCH = datetime(1970, 1, 1, tzinfo=timezone.utc)
+from register_rules import EPOCH, STATES as NAMES, moment_of, state_at, text_of
+
 # The columns that are drawn: the dates, and all.
 DATES = ("initial", "activation", "protect_stop", "deactivation", "occurrence", "compromised", "destroyed")
 COLUMNS = ("number", "type", "owner", *DATES, "purpose")
@@ -207,14 +209,6 @@ show();
 """
 
 
-def seconds(text):
-    return round((datetime.strptime(text, "%Y-%m-%dT%H:%M:%SZ").replace(tzinfo=timezone.utc) - EPOCH).total_seconds())
-
-
-def text_of(moment):
-    return (EPOCH + timedelta(seconds=moment)).strftime("%Y-%m-%dT%H:%M:%SZ")
-
-
 def shown(text):
     """A text of a key for the page: what would not be seen, or would move other text, stands by its number."""
     if text.isascii() and text.isprintable():
@@ -223,15 +217,9 @@ def shown(text):
                    for one in text)
 
 
-def state_at(key, moment):
-    """The state that the dates give, by docs/SPECIFICATION.md."""
-    if key["destroyed"] is not None:
-        return "Destroyed" if key["compromised"] is None else "Destroyed-Compromised"
-    if key["compromised"] is not None:
-        return "Compromised"
-    if key["activation"] is None or key["activation"] > moment:
-        return "Pre-Active"
-    return "Deactivated" if key["deactivation"] is not None and key["deactivation"] <= moment else "Active"
+def state_of(key, moment):
+    """The name of the state that the dates give."""
+    return NAMES[state_at(moment, key["activation"], key["deactivation"], key["destroyed"], key["compromised"])]
 
 
 def keys_of(text):
@@ -240,7 +228,7 @@ def keys_of(text):
     if missing:
         sys.exit(f"timeline: the input is no export of keyreg: it has no column {', '.join(missing)}")
     for row in table:
-        yield {**row, **{name: seconds(row[name]) if row[name] else None for name in DATES}}
+        yield {**row, **{name: moment_of(row[name]) if row[name] else None for name in DATES}}
 
 
 class Scale:
@@ -315,7 +303,7 @@ def marks_of(key, due, scale):
 
 def row_of(key, moment, days, scale):
     """What the script draws of a key."""
-    state, stop = state_at(key, moment), key["protect_stop"]
+    state, stop = state_of(key, moment), key["protect_stop"]
     due = ""
     if state == "Active" and stop is not None and stop <= moment + days * DAY:
         due = "overdue" if stop <= moment else "due"

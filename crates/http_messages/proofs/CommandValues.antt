@@ -8,15 +8,13 @@ use Rattle.lifecycle_core.specs.Reason.{reason_code}
 use Rattle.period_core.specs.declared.key_type.KeyType.{KeyType}
 use Rattle.period_core.specs.KeyType.{key_type_text}
 use Rattle.period_core.specs.Period.{Period, of_months}
-use Rattle.register_requests.specs.CommandRule.{kind_of}
+use Rattle.register_requests.specs.CommandKind.{kind_of, command_shape}
 use Rattle.register_requests.specs.declared.command_fields.CommandKind.{CommandKind}
 use Rattle.register_requests.specs.declared.request.Command.{Command}
 use Rattle.register_requests.specs.declared.command_fields.Fields.{Fields}
-use Rattle.register_requests.specs.declared.command_fields.Fields.TheVariants.{Nothing, TypeAndPeriod}
-use Rattle.register_requests.specs.declared.command_fields.Fields.TheVariants.{Registration, DateEdits, Revocation}
-use Rattle.register_requests.specs.CommandKind.{command_shape}
-use Rattle.register_requests.specs.Fields.{fields_of}
-use Rattle.register_requests.specs.Within.Fields.{shape_of}
+use Rattle.register_requests.specs.declared.command_fields.Fields.TheVariants.{Nothing, TypeAndPeriod, Registration}
+use Rattle.register_requests.specs.declared.command_fields.Fields.TheVariants.{DateEdits, Revocation}
+use Rattle.register_requests.specs.Fields.{fields_of, shape_of}
 use Rattle.register_requests.specs.declared.request.Edit.{Edit}
 use Rattle.register_requests.specs.declared.request.Edit.TheVariants.{Keep, Clear, Set}
 use Rattle.register_requests.proofs.Commands.{has_shape, same_command}
@@ -83,12 +81,21 @@ same_members kind (TypeAndPeriod type period) (TypeAndPeriod other months) same 
     let second : period.recipient ≡ months.recipient = cc in
     let periods = one_period period months first second in
     cc (types, periods)
-same_members kind (Registration type owner a p d purpose) (Registration other name a2 p2 d2 aim) same e =
-    let types = one_type type other cc in
-    let activations = one_date a a2 cc in
-    let protect_stops = one_date p p2 cc in
-    let deactivations = one_date d d2 cc in
-    cc (types, activations, protect_stops, deactivations)
+same_members kind (Registration new) (Registration other) same e =
+    let types = one_type new.kind other.kind cc in
+    let owners : new.owner ≡ other.owner = cc in
+    let activations = one_date new.activation other.activation cc in
+    let protect_stops = one_date new.protect_stop other.protect_stop cc in
+    let deactivations = one_date new.deactivation other.deactivation cc in
+    let purposes : new.purpose ≡ other.purpose = cc in
+    λ i. Registration (record {
+      kind = types i;
+      owner = owners i;
+      activation = activations i;
+      protect_stop = protect_stops i;
+      deactivation = deactivations i;
+      purpose = purposes i;
+    })
 same_members kind (DateEdits key a p d) (DateEdits other a2 p2 d2) same e =
     let activations = one_edit a a2 cc in
     let protect_stops = one_edit p p2 cc in

@@ -11,7 +11,7 @@ use Rattle.httparse.specs.Spans.{IsRequestAt, header_bytes, span_bytes}
 use Rattle.http_messages.specs.declared.route.Route.{Route}
 use Rattle.http_messages.specs.Route.{IsRouteOf, method_of}
 use Rattle.http_messages.specs.Asked.{HasHost, lines_of, AsksAfter, no_host, no_path, no_method}
-use Rattle.http_messages.specs.HeaderFields.{Lines}
+use Rattle.http_messages.specs.HeaderFields.{HeaderLines}
 use Rattle.http_messages.specs.Within.Post.{IsFor}
 use Rattle.http_messages.specs.declared.asked.Asked.TheVariants.{Reject}
 use Rattle.http_messages.specs.declared.asked.Rejection.{Rejection}
@@ -29,7 +29,7 @@ agree xs ys e = agree_by (bytes_eq xs ys) (xs ≡ ys) (bytes_eq-Decides xs ys).0
 
 module _ (prefix : List ℕ) (headers : List HeaderSpan) (spans : RequestSpans) (h : RequestHead)
     (at : IsRequestAt prefix headers spans h) where
-  abbrev lines : Lines
+  abbrev lines : HeaderLines
   lines = map (header_bytes prefix) (take spans.headers headers)
 
   host_is : HasHost spans.version lines → HasHost h.minor (lines_of h)

@@ -16,18 +16,6 @@ pub ◌before◌ : {k : List ℕ} {a : Data} {all rest more : Members} → all �
     → all ≡ member k a more
 first before others = cc (first, others)
 
-infixl 10 ◌past_two◌
--- what is left past the first two
-pub ◌past_two◌ : {k l : List ℕ} {a b x y : Data} {all rest more : Members} → all ≡ member k b (member l y more)
-    → all ≡ member k a (member l x rest) → rest ≡ more
-whole past_two first = cc (first, whole)
-
-infixr 10 ◌before_two◌
--- the first two, before what is known to stand after them
-pub ◌before_two◌ : {k l : List ℕ} {a x : Data} {all rest more : Members} → all ≡ member k a (member l x rest)
-    → rest ≡ more → all ≡ member k a (member l x more)
-first before_two others = cc (first, others)
-
 pub object_of : (d : Data) (ms : Members) → Some ms ≡ as_object d → object ms ≡ d
 object_of null ms e = absurd (cc)
 object_of (boolean b) ms e = absurd (cc)

@@ -1,7 +1,6 @@
 -- What was found in the bytes that were read is so of the whole input.
-use Rattle.std.proofs.Common.{◌≡◌, ℕ, ◌+◌, ◌-◌, ◌≤◌, inl, inr, List, ◌++◌, length, take, drop}
-use Rattle.std.proofs.Common.{Option, Some, None, refl, sym, ap, subst, ◌∙◌, arith, append_assoc}
-use Rattle.std.proofs.Common.{length-append, length-take, Result, Ok}
+use Rattle.std.proofs.Common.{◌≡◌, ℕ, ◌+◌, ◌-◌, ◌≤◌, inl, inr, List, ◌++◌, length, take, drop, Option, Some, None, refl}
+use Rattle.std.proofs.Common.{sym, ap, subst, ◌∙◌, arith, append_assoc, length-append, length-take, Result, Ok}
 use Rattle.std.specs.Prelude.{IfOk, IsSomeAnd}
 use Rattle.std.specs.Io.KnownBytes.{Consumes}
 use Rattle.std.proofs.Math.Seq.{take-append-add}
@@ -11,8 +10,8 @@ use Rattle.httparse.specs.declared.spans.RequestSpans.{RequestSpans}
 use Rattle.httparse.specs.Grammar.{RequestHead, ReadsRequest, HasNoRequest, NeverHasRequest, MayBecomeRequest}
 use Rattle.httparse.specs.Spans.{IsRequestAt, IsRequestWithin, header_bytes, name_and_value}
 use Rattle.httparse.proofs.GrammarLemmas.{ReadsRequest-append}
-use Rattle.http_messages.specs.Head.{prefix, max_head_length, max_headers, HasManyLines, HasHead}
-use Rattle.http_messages.specs.Head.{HasBadHead, HasLargeHead, BreaksOff}
+use Rattle.http_messages.specs.Head.{prefix, max_head_length, max_headers, HasManyLines, HasHead, HasBadHead}
+use Rattle.http_messages.specs.Head.{HasLargeHead, BreaksOff}
 use Rattle.http_messages.specs.HeadSearch.{FindsBad, FindsLarge, FindsHead}
 use Rattle.std.proofs.lemmas.Result.{IfOk-weaker}
 use Rattle.http_messages.specs.declared.asked.AskFault.{AskFault}

@@ -4,7 +4,7 @@ use Rattle.std.proofs.Common.{length, take, get_or, refl, ap, ◌∙◌}
 use Rattle.std.proofs.lemmas.List.{take_more, map-append, append-nil}
 use Rattle.httparse.specs.declared.spans.HeaderSpan.{HeaderSpan}
 use Rattle.httparse.specs.Spans.{header_bytes}
-use Rattle.http_messages.specs.HeaderFields.{Lines, is_named, values_of}
+use Rattle.http_messages.specs.HeaderFields.{HeaderLines, is_named, values_of}
 
 abbrev one_value : Bool → List ℕ → List (List ℕ)
 one_value v value = cond v (value ∷ []) []
@@ -18,14 +18,14 @@ prefix_cond : (v : Bool) (x : List ℕ) (xs ys : List (List ℕ))
 prefix_cond true x xs ys = refl
 prefix_cond false x xs ys = refl
 
-values_of-more : (name : List ℕ) (lines : Lines) (line : List ℕ × List ℕ)
+values_of-more : (name : List ℕ) (lines : HeaderLines) (line : List ℕ × List ℕ)
     → values_of name (lines ++ line ∷ []) ≡ values_of name lines ++ one_value (is_named name line.0) line.1
 values_of-more name [] line = refl
 values_of-more name (l ∷ lines) line =
     ap (λ vs. cond (is_named name l.0) (l.1 ∷ vs) vs) (values_of-more name lines line)
     ∙ prefix_cond (is_named name l.0) l.1 (values_of name lines) (one_value (is_named name line.0) line.1)
 
-module _ (name : List ℕ) (lines : Lines) (line : List ℕ × List ℕ) where
+module _ (name : List ℕ) (lines : HeaderLines) (line : List ℕ × List ℕ) where
   pub line_hit : is_named name line.0 ≡ true → values_of name (lines ++ line ∷ []) ≡ values_of name lines ++ line.1 ∷ []
   line_hit hit = values_of-more name lines line ∙ ap (λ v. values_of name lines ++ one_value v line.1) hit
 

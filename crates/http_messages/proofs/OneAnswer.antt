@@ -1,6 +1,6 @@
 -- The definition allows one answer to an input, but in the place that is left open.
-use Rattle.std.proofs.Common.{◌≡◌, ℕ, ◌<◌, ◌≤◌, ◌^◌, ◌⊎◌, inl, inr, List, [], ◌∷◌, ◌++◌, take, Some}
-use Rattle.std.proofs.Common.{refl, sym, ap, subst, ◌∙◌, arith, codes}
+use Rattle.std.proofs.Common.{◌≡◌, ℕ, ◌<◌, ◌≤◌, ◌^◌, ◌⊎◌, inl, inr, List, [], ◌∷◌, ◌++◌, take, Some, refl, sym, ap}
+use Rattle.std.proofs.Common.{subst, ◌∙◌, arith, codes}
 use Rattle.std.specs.Prelude.{decimal}
 use Rattle.std.specs.Str.Parse.{digits_value}
 use Rattle.std.proofs.lemmas.List.{append_cancel_left, append_cancel_right}
@@ -19,12 +19,10 @@ use Rattle.http_messages.specs.HeadLaws.{IsLeftOpen}
 use Rattle.http_messages.specs.Route.{IsRoute, IsRouteOf, route_text, method_of, routes}
 use Rattle.http_messages.specs.Within.Route.{pattern_of}
 use Rattle.http_messages.specs.CommandBody.{IsBodyOf}
-use Rattle.http_messages.specs.HeaderFields.{Lines}
-use Rattle.http_messages.specs.Asked.{Announces, IsFrom, Asks, AsksAfter, AsksPost}
-use Rattle.http_messages.specs.Asked.{AsksBody, bad_head, large_head, whole_head, no_host}
-use Rattle.http_messages.specs.Asked.{no_path, no_method, show, usage, post, encoded, no_length}
-use Rattle.http_messages.specs.Asked.{bad_length, large_body, no_sender, sent, cut_short}
-use Rattle.http_messages.specs.Asked.{no_command, command, lines_of}
+use Rattle.http_messages.specs.HeaderFields.{HeaderLines}
+use Rattle.http_messages.specs.Asked.{Announces, IsFrom, Asks, AsksAfter, AsksPost, AsksBody, bad_head, large_head}
+use Rattle.http_messages.specs.Asked.{whole_head, no_host, no_path, no_method, show, usage, post, encoded, no_length}
+use Rattle.http_messages.specs.Asked.{bad_length, large_body, no_sender, sent, cut_short, no_command, command, lines_of}
 use Rattle.http_messages.proofs.CommandValues.{one_command_data}
 use Rattle.http_messages.proofs.Routing.{finds_route, value_is, row_of, fits_number}
 use Rattle.http_messages.proofs.HeadLaws.{one_head, whole_not_bad, whole_not_large}
@@ -90,17 +88,17 @@ one_is v w e = cc
 not_none : (vs : List (List ℕ)) (v : List ℕ) → vs ≡ [] → vs ≡ v ∷ [] → ⊥
 not_none vs v e f = let both = sym e ∙ f in absurd (cc)
 
-one_length : (lines : Lines) (n m : ℕ) → Announces lines n → Announces lines m → n ≡ m
+one_length : (lines : HeaderLines) (n m : ℕ) → Announces lines n → Announces lines m → n ≡ m
 one_length lines n m (v, e, l) (w, f, k) = sym l.value ∙ ap (digits_value 10) (one_is v w (sym e ∙ f)) ∙ k.value
 
-one_sender : (lines : Lines) (c d : List ℕ) (n m : ℕ) → IsFrom lines c n → IsFrom lines d m → (c ≡ d) × (n ≡ m)
+one_sender : (lines : HeaderLines) (c d : List ℕ) (n m : ℕ) → IsFrom lines c n → IsFrom lines d m → (c ≡ d) × (n ≡ m)
 one_sender lines c d n m p q =
     let small : n < 2 ^ 64 = omega (arith, p.in_range.1) in
     let fits : m < 2 ^ 64 = omega (arith, q.in_range.1) in
     let text = one_is (decimal n) (decimal m) (sym p.number_is ∙ q.number_is) in
     (one_is c d (sym p.caller_is ∙ q.caller_is), decimal_injective n m small fits text)
 
-module _ (lines : Lines) (rest : List ℕ) where
+module _ (lines : HeaderLines) (rest : List ℕ) where
   both_lengths : (n m : ℕ) (P : Type 0) → Announces lines n → Announces lines m → 65536 < n → m ≤ 65536 → P
   both_lengths n m P a b big small = let same = one_length lines n m a b in absurd (omega arith)
 

@@ -1,8 +1,7 @@
 -- The router finds each route by its text.
-use Rattle.std.proofs.Common.{◌≡◌, ℕ, zero, suc, ◌+◌, ◌-◌, ◌<◌, ◌≤◌, ◌^◌, List, [], ◌∷◌, ◌++◌, Bool}
-use Rattle.std.proofs.Common.{true, false, cond, ◌&&◌, length, take, drop, Option, Some, None, refl}
-use Rattle.std.proofs.Common.{sym, ap, ◌∙◌, arith, codes, length-append, take-append-drop, ◌/◌, ◌%◌}
-use Rattle.std.proofs.Common.{lit<}
+use Rattle.std.proofs.Common.{◌≡◌, ℕ, zero, suc, ◌+◌, ◌-◌, ◌<◌, ◌≤◌, ◌^◌, List, [], ◌∷◌, ◌++◌, Bool, true, false, cond}
+use Rattle.std.proofs.Common.{◌&&◌, length, take, drop, Option, Some, None, refl, sym, ap, ◌∙◌, arith, codes}
+use Rattle.std.proofs.Common.{length-append, take-append-drop, ◌/◌, ◌%◌, lit<}
 use Rattle.std.specs.Prelude.{◌==◌, ◌≢◌, decimal, ltb, nat_eq, IfNone, IfSome, IsUtf8}
 use Rattle.std.specs.List.{AllByRecursion}
 use Rattle.std.specs.Str.{bytes_eq}
@@ -13,13 +12,13 @@ use Rattle.std.proofs.lemmas.List.{drop_at, take_at, append-nil}
 use Rattle.std.proofs.lemmas.Fmt.{decimal_by_steps, IsAscii-decimal}
 use Rattle.matchit.specs.Rows.{RowsOf}
 use Rattle.matchit.specs.Router.{RouteOf}
-use Rattle.matchit.specs.Seek.{first, seek, step, own, or_else, param_step, longest_suffix, segment}
-use Rattle.matchit.specs.Seek.{has_slash, cuts, better, with_suffix}
+use Rattle.matchit.specs.Seek.{first, seek, step, own, or_else, param_step, longest_suffix, segment, has_slash, cuts}
+use Rattle.matchit.specs.Seek.{better, with_suffix}
 use Rattle.http_messages.specs.declared.route.Route.{Route}
 use Rattle.http_messages.specs.declared.route.Route.TheVariants.{Requests, Show, Usage}
 use Rattle.http_messages.specs.declared.route.RoutePattern.{RoutePattern}
 use Rattle.register_requests.specs.Request.{IsKeyNumber}
-use Rattle.http_messages.specs.Route.{IsRoute, route_text, routes, key_row, usage_row, requests_row}
+use Rattle.http_messages.specs.Route.{IsRoute, route_text, routes, key_route, usage_row, requests_row}
 use Rattle.http_messages.specs.Within.Route.{pattern_of}
 
 abbrev pub IsDigit : ℕ → Type 0
@@ -295,7 +294,7 @@ cut_back field back rest e miss =
 -- the row of a route
 abbrev pub row_of : Route → RouteOf RoutePattern
 row_of Requests = requests_row
-row_of (Show key) = key_row
+row_of (Show key) = key_route
 row_of (Usage key) = usage_row
 
 pub fits_number : (n : ℕ) → IsKeyNumber n → n < 2 ^ 64
@@ -303,16 +302,16 @@ fits_number n h = omega (arith, h.1)
 
 -- the router finds each route by its text
 pub finds_route : (r : Route) → IsRoute r → first routes (route_text r) ≡ Some (row_of r)
-finds_route Requests p = seek-requests usage_row key_row requests_row
+finds_route Requests p = seek-requests usage_row key_route requests_row
 finds_route (Show key) p =
     let text = decimal-digits key (fits_number key p) in
     ap (λ l. first routes (codes "/keys/" ++ l)) (append-nil (decimal key))
-    ∙ to_keys usage_row key_row requests_row (decimal key)
-    ∙ seek-key usage_row key_row requests_row (decimal key) text.1 text.0
+    ∙ to_keys usage_row key_route requests_row (decimal key)
+    ∙ seek-key usage_row key_route requests_row (decimal key) text.1 text.0
 finds_route (Usage key) p =
     let text = decimal-digits key (fits_number key p) in
-    to_keys usage_row key_row requests_row (decimal key ++ codes "/usage")
-    ∙ seek-usage usage_row key_row requests_row (decimal key) text.1 text.0
+    to_keys usage_row key_route requests_row (decimal key ++ codes "/usage")
+    ∙ seek-usage usage_row key_route requests_row (decimal key) text.1 text.0
 
 pub value_is : (r : Route) → (row_of r).value ≡ pattern_of r
 value_is Requests = refl

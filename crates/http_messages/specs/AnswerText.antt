@@ -9,10 +9,10 @@ use Rattle.register_core.specs.declared.reply.Refusal.{Refusal}
 use Rattle.register_core.specs.declared.reply.Refusal.TheVariants.{BadLine, UnknownKey}
 use Rattle.key_rows.specs.declared.record.Record.{Record}
 use Rattle.http_messages.specs.AnswerValue.{key_data, refusal_data, reply_data, usage_data}
-use Rattle.http_messages.specs.HttpReply.{Reply}
+use Rattle.http_messages.specs.HttpReply.{HttpReply}
 
 -- a reply with this status, whose body is the compact text of a JSON value
-abbrev pub json_reply : ℕ → Data → Reply
+abbrev pub json_reply : ℕ → Data → HttpReply
 json_reply status value = record { status = status; allow = None; body = compact_text value }
 
 -- 400 Bad Request, 404 Not Found, 409 Conflict
@@ -21,15 +21,15 @@ refusal_status BadLine = 400
 refusal_status UnknownKey = 404
 refusal_status refusal = 409
 
--- to a request
-abbrev pub outcome_reply : Result core.Reply Refusal → Reply
+-- The HTTP reply to a request that was answered: 200 OK where it was accepted.
+abbrev pub outcome_reply : Result core.Reply Refusal → HttpReply
 outcome_reply (Ok reply) = json_reply 200 (reply_data reply)
 outcome_reply (Err refusal) = json_reply (refusal_status refusal) (refusal_data refusal)
 
--- to the question what a key may be used for
-abbrev pub usage_reply : Usage → Reply
+-- The HTTP reply to the question what a key may be used for.
+abbrev pub usage_reply : Usage → HttpReply
 usage_reply usage = json_reply 200 (usage_data usage)
 
--- to the question for a key
-abbrev pub key_reply : Record → Reply
+-- The HTTP reply to the question for a key.
+abbrev pub key_reply : Record → HttpReply
 key_reply shown = json_reply 200 (key_data shown)

@@ -1,5 +1,5 @@
 -- The JSON values of what is answered, each member in the order of their names' bytes.
-use Rattle.std.specs.Prelude.{ℕ, List, map, codes, Option, Some, None}
+use Rattle.std.specs.Prelude.{ℕ, List, [], ◌∷◌, map, codes, Option, Some, None}
 use Rattle.lifecycle_core.specs.declared.state.State.{State}
 use Rattle.lifecycle_core.specs.declared.usage_types.Usage.{Usage}
 use Rattle.lifecycle_core.specs.State.{state_text}
@@ -11,9 +11,9 @@ use Rattle.register_core.specs.declared.reply.Refusal.TheVariants.{MomentBehind,
 use Rattle.register_core.specs.declared.reply.Refusal.TheVariants.{PeriodTooLong, ApprovalsMissing}
 use Rattle.register_core.specs.Reply.{refusal_name, refusal_number}
 use Rattle.key_rows.specs.declared.record.Record.{Record}
-use Rattle.serde_json.specs.Data.{Data, null, boolean, string, array, object, Members, member, no_members}
+use Rattle.serde_json.specs.Data.{Data, null, boolean, string, array, object}
 use Rattle.serde_json.specs.View.{items_of}
-use Rattle.http_messages.specs.CommandValue.{number_data, date_data}
+use Rattle.http_messages.specs.CommandValue.{number_data, date_data, members_of}
 
 -- a state, or null where there is none
 abbrev pub state_data : Option State → Data
@@ -23,45 +23,39 @@ state_data (Some state) = string (state_text state)
 -- what an accepted request is answered
 abbrev pub reply_data : Reply → Data
 reply_data reply =
-    object (member (codes "key") (number_data reply.key)
-    (member (codes "moment") (number_data reply.moment)
-    (member (codes "state") (state_data reply.state) no_members)))
+    object (members_of ((codes "key", number_data reply.key) ∷ (codes "moment", number_data reply.moment)
+    ∷ (codes "state", state_data reply.state) ∷ []))
 
--- the name of a refusal
-abbrev pub name_data : Refusal → Data
-name_data refusal = string (refusal_name refusal)
+-- the member with the name of a refusal
+abbrev pub name_member : Refusal → List ℕ × Data
+name_member refusal = (codes "name", string (refusal_name refusal))
 
--- its number, and what stands after that
-abbrev pub refused_members : Refusal → Members → Members
-refused_members refusal rest = member (codes "refused") (number_data (refusal_number refusal)) rest
+-- the member with its number
+abbrev pub refused_member : Refusal → List ℕ × Data
+refused_member refusal = (codes "refused", number_data (refusal_number refusal))
 
 -- why a request is refused
 abbrev pub refusal_data : Refusal → Data
 refusal_data (MomentBehind latest) =
-    object (member (codes "latest") (number_data latest)
-    (member (codes "name") (name_data (MomentBehind latest))
-    (refused_members (MomentBehind latest) no_members)))
+    let refusal = MomentBehind latest in
+    object (members_of ((codes "latest", number_data latest) ∷ name_member refusal ∷ refused_member refusal ∷ []))
 refusal_data (WrongState state) =
-    object (member (codes "name") (name_data (WrongState state))
-    (refused_members (WrongState state)
-    (member (codes "state") (string (state_text state)) no_members)))
+    let refusal = WrongState state in
+    object (members_of (name_member refusal ∷ refused_member refusal ∷ (codes "state", string (state_text state)) ∷ []))
 refusal_data (PeriodTooLong limit) =
-    object (member (codes "limit") (number_data limit)
-    (member (codes "name") (name_data (PeriodTooLong limit))
-    (refused_members (PeriodTooLong limit) no_members)))
+    let refusal = PeriodTooLong limit in
+    object (members_of ((codes "limit", number_data limit) ∷ name_member refusal ∷ refused_member refusal ∷ []))
 refusal_data (ApprovalsMissing have need) =
-    object (member (codes "have") (number_data have)
-    (member (codes "name") (name_data (ApprovalsMissing have need))
-    (member (codes "need") (number_data need)
-    (refused_members (ApprovalsMissing have need) no_members))))
-refusal_data refusal =
-    object (member (codes "name") (name_data refusal) (refused_members refusal no_members))
+    let refusal = ApprovalsMissing have need in
+    object (members_of ((codes "have", number_data have) ∷ name_member refusal
+    ∷ (codes "need", number_data need) ∷ refused_member refusal ∷ []))
+refusal_data refusal = object (members_of (name_member refusal ∷ refused_member refusal ∷ []))
 
 -- what a key may be used for
 abbrev pub usage_data : Usage → Data
 usage_data usage =
-    object (member (codes "process") (string (process_text usage.process))
-    (member (codes "protect") (boolean usage.protect) no_members))
+    object (members_of ((codes "process", string (process_text usage.process))
+    ∷ (codes "protect", boolean usage.protect) ∷ []))
 
 -- a list of names
 abbrev pub names_data : List (List ℕ) → Data
@@ -72,18 +66,18 @@ abbrev pub key_data : Record → Data
 key_data shown =
     let key = shown.key in
     let dates = key.row.dates in
-    object (member (codes "activation") (date_data dates.activation)
-    (member (codes "approvals") (names_data shown.approvals)
-    (member (codes "compromised") (date_data dates.compromise)
-    (member (codes "custodians") (names_data shown.custodians)
-    (member (codes "deactivation") (date_data dates.deactivation)
-    (member (codes "destroyed") (date_data dates.destroy)
-    (member (codes "initial") (number_data dates.initial)
-    (member (codes "need") (number_data shown.need)
-    (member (codes "number") (number_data key.number)
-    (member (codes "occurrence") (date_data dates.compromise_occurrence)
-    (member (codes "owner") (string key.owner)
-    (member (codes "protect_stop") (date_data dates.protect_stop)
-    (member (codes "purpose") (string key.purpose)
-    (member (codes "state") (string (state_text key.row.state))
-    (member (codes "type") (string (key_type_text key.kind)) no_members)))))))))))))))
+    object (members_of ((codes "activation", date_data dates.activation)
+    ∷ (codes "approvals", names_data shown.approvals)
+    ∷ (codes "compromised", date_data dates.compromise)
+    ∷ (codes "custodians", names_data shown.custodians)
+    ∷ (codes "deactivation", date_data dates.deactivation)
+    ∷ (codes "destroyed", date_data dates.destroy)
+    ∷ (codes "initial", number_data dates.initial)
+    ∷ (codes "need", number_data shown.need)
+    ∷ (codes "number", number_data key.number)
+    ∷ (codes "occurrence", date_data dates.compromise_occurrence)
+    ∷ (codes "owner", string key.owner)
+    ∷ (codes "protect_stop", date_data dates.protect_stop)
+    ∷ (codes "purpose", string key.purpose)
+    ∷ (codes "state", string (state_text key.row.state))
+    ∷ (codes "type", string (key_type_text key.kind)) ∷ []))

@@ -1,26 +1,25 @@
 -- What an input asks for, rule by rule; each rule is reached where none before it holds. It speaks of the whole input,
 -- and of no step in which it is read.
-use Rattle.std.specs.Prelude.{◌≡◌, ◌≢◌, ℕ, ◌<◌, ◌≤◌, List, [], ◌∷◌, length, take, map, codes}
-use Rattle.std.specs.Prelude.{decimal, Option, Some, None}
+use Rattle.std.specs.Prelude.{◌≡◌, ◌≢◌, ℕ, ◌<◌, ◌≤◌, List, [], ◌∷◌, length, take, map, codes, decimal, Option, Some}
+use Rattle.std.specs.Prelude.{None}
 use Rattle.httparse.specs.Grammar.{RequestHead}
 use Rattle.httparse.specs.Spans.{name_and_value}
 use Rattle.http_messages.specs.Head.{HasHead, HasBadHead, HasLargeHead}
 use Rattle.http_messages.specs.Route.{IsRouteOf, method_of}
 use Rattle.register_requests.specs.Name.{IsName}
 use Rattle.register_requests.specs.Number.{IsNumber}
-use Rattle.http_messages.specs.HeaderFields.{Lines, values_of, IsLength}
+use Rattle.http_messages.specs.HeaderFields.{HeaderLines, values_of, IsLength}
 use Rattle.http_messages.specs.CommandBody.{IsBodyOf}
 use Rattle.http_messages.specs.declared.asked.Asked.{Asked}
 use Rattle.http_messages.specs.declared.asked.Asked.TheVariants.{Reject, ShowKey, ShowUsage, Apply}
-use Rattle.http_messages.specs.declared.asked.Rejection.TheVariants.{BadRequest, NoRoute}
-use Rattle.http_messages.specs.declared.asked.Rejection.TheVariants.{MethodNotAllowed}
+use Rattle.http_messages.specs.declared.asked.Rejection.TheVariants.{BadRequest, NoRoute, MethodNotAllowed}
 use Rattle.http_messages.specs.declared.asked.Rejection.TheVariants.{LengthRequired, TooLarge}
 use Rattle.http_messages.specs.declared.route.Route.{Route}
 use Rattle.http_messages.specs.declared.route.Route.TheVariants.{Requests, Show, Usage}
 use Rattle.register_requests.specs.declared.request.Command.{Command}
 
 -- the names and the values of a head's header lines
-abbrev pub lines_of : RequestHead → Lines
+abbrev pub lines_of : RequestHead → HeaderLines
 lines_of h = map name_and_value h.fields
 
 -- how many bytes a body has at most
@@ -30,22 +29,23 @@ max_body_length = 65_536
 -- ---- header lines
 
 -- a head of HTTP/1.1 has one Host
-abbrev pub HasHost : ℕ → Lines → Type 0
+abbrev pub HasHost : ℕ → HeaderLines → Type 0
 HasHost minor lines = minor ≡ 1 → length (values_of (codes "host") lines) ≡ 1
 
-abbrev pub IsOneValue : List ℕ → Lines → List ℕ → Type 0
+-- just one header line has this name, and its value is this one
+abbrev pub IsOneValue : List ℕ → HeaderLines → List ℕ → Type 0
 IsOneValue name lines v = values_of name lines ≡ v ∷ []
 
 -- no transfer coding is named
-abbrev pub IsPlain : Lines → Type 0
+abbrev pub IsPlain : HeaderLines → Type 0
 IsPlain lines = values_of (codes "transfer-encoding") lines ≡ []
 
 -- the body is announced to have this many bytes
-abbrev pub Announces : Lines → ℕ → Type 0
+abbrev pub Announces : HeaderLines → ℕ → Type 0
 Announces lines n = (v : List ℕ) × IsOneValue (codes "content-length") lines v × IsLength v n
 
 -- the request is this caller's, under this number
-pub record IsFrom (lines : Lines) (caller : List ℕ) (number : ℕ) : Type 0 where
+pub record IsFrom (lines : HeaderLines) (caller : List ℕ) (number : ℕ) : Type 0 where
   pub caller_is : IsOneValue (codes "caller") lines caller
   pub name : IsName caller
   pub number_is : IsOneValue (codes "request-number") lines (decimal number)
@@ -62,7 +62,7 @@ pub data AsksBody (n : ℕ) (caller : List ℕ) (number : ℕ) (rest : List ℕ)
       → AsksBody n caller number rest (Apply (record { caller = caller; number = number; command = q }))
 
 -- a request with the method POST for the route of requests
-pub data AsksPost (lines : Lines) (rest : List ℕ) : Asked → Type 0 where
+pub data AsksPost (lines : HeaderLines) (rest : List ℕ) : Asked → Type 0 where
   encoded : (IsPlain lines → ⊥) → AsksPost lines rest (Reject LengthRequired)
   no_length : values_of (codes "content-length") lines ≡ [] → AsksPost lines rest (Reject LengthRequired)
   bad_length : IsPlain lines → values_of (codes "content-length") lines ≢ []
@@ -89,6 +89,7 @@ pub data AsksAfter (h : RequestHead) (rest : List ℕ) : Asked → Type 0 where
   post : (a : Asked) → HasHost h.minor (lines_of h) → IsRouteOf h.target (Some Requests)
       → h.method ≡ codes "POST" → AsksPost (lines_of h) rest a → AsksAfter h rest a
 
+-- an input that is not empty, by what its head is: none that is taken, one too large, or a whole one
 pub data Asks (input : List ℕ) : Asked → Type 0 where
   bad_head : HasBadHead input → Asks input (Reject BadRequest)
   large_head : HasLargeHead input → Asks input (Reject TooLarge)

@@ -22,9 +22,9 @@ pub record IsSent (sent : Sent) : Type 0 where
   pub number : IsNumber sent.number
   pub command : IsCommand sent.command
 
--- and so is what is asked, where it is a request
-abbrev pub IsInRange : Asked → Type 0
-IsInRange (Reject rejection) = Unit {0}
-IsInRange (ShowKey key) = Unit {0}
-IsInRange (ShowUsage key) = Unit {0}
-IsInRange (Apply sent) = IsSent sent
+-- What an exchange asks is in the ranges of a request, where it is one.
+abbrev pub IsAskedInRange : Asked → Type 0
+IsAskedInRange (Reject rejection) = Unit {0}
+IsAskedInRange (ShowKey key) = Unit {0}
+IsAskedInRange (ShowUsage key) = Unit {0}
+IsAskedInRange (Apply sent) = IsSent sent

@@ -1,6 +1,5 @@
 -- What comes of reading an input, and of reading a body.
-use Rattle.std.specs.Prelude.{◌≡◌, ℕ, Bool, true, false, List, length, Option}
-use Rattle.std.specs.Prelude.{Result, Err}
+use Rattle.std.specs.Prelude.{◌≡◌, ℕ, Bool, true, false, List, length, Option, Result, Err}
 use Rattle.std.specs.Io.KnownBytes.{Consumes}
 use Rattle.http_messages.specs.declared.asked.AskFault.{AskFault}
 use Rattle.http_messages.specs.declared.asked.AskFault.TheVariants.{ReadFault}

@@ -4,10 +4,11 @@ use Rattle.httparse.specs.Grammar.{RequestHead, print_request, ReadsRequest, Has
 use Rattle.httparse.specs.Grammar.{NeverHasRequest, MayBecomeRequest}
 use Rattle.httparse.specs.Spans.{RequestExceeds, RequestOverflows}
 
--- how many bytes a head has at most, and how many header lines
+-- how many bytes a head has at most
 abbrev pub max_head_length : ℕ
 max_head_length = 8192
 
+-- how many header lines a head has at most
 abbrev pub max_headers : ℕ
 max_headers = 64
 

@@ -5,6 +5,8 @@ use Rattle.http_messages.specs.declared.asked.Asked.{Asked}
 use Rattle.http_messages.specs.Asked.{Asks}
 use Rattle.http_messages.specs.Head.{prefix, HasHead, HasBadHead, HasLargeHead, HasManyLines}
 
+-- An input has one whole head at most, and where it has one its head is neither bad nor too large. A head is both only
+-- where the bytes that are looked at end within the target, or have too many header lines.
 pub record TellsHeads : Type 0 where
   pub one : (input : List ℕ) (h k : RequestHead) (rest q : List ℕ) → HasHead input h rest → HasHead input k q
       → (h ≡ k) × (rest ≡ q)

@@ -21,13 +21,15 @@ FindsBad bytes left =
     NeverHasRequest bytes ⊎ HasManyLines bytes
     ⊎ ((0 < length bytes) × (length bytes < max_head_length) × HasNoRequest bytes × IsAtEnd left)
 
+-- as many bytes were read as a head has at most, and they may begin one but are none
 pub record FindsLarge (bytes : List ℕ) : Type 0 where
   pub full : length bytes ≡ max_head_length
   pub none : HasNoRequest bytes
   pub may : MayBecomeRequest bytes
 
-abbrev pub Finds : List ℕ → List HeaderSpan → Option (List ℕ) → HeadSearch → Type 0
-Finds bytes headers left (Whole spans) = FindsHead bytes headers spans
-Finds bytes headers left Nothing = (bytes ≡ []) × IsAtEnd left
-Finds bytes headers left Bad = FindsBad bytes left
-Finds bytes headers left TooLarge = FindsLarge bytes
+-- what the look finds: a whole head, an input that is empty, a head that is refused as bad, or one that is too large
+abbrev pub EndsSearch : List ℕ → List HeaderSpan → Option (List ℕ) → HeadSearch → Type 0
+EndsSearch bytes headers left (Whole spans) = FindsHead bytes headers spans
+EndsSearch bytes headers left Nothing = (bytes ≡ []) × IsAtEnd left
+EndsSearch bytes headers left Bad = FindsBad bytes left
+EndsSearch bytes headers left TooLarge = FindsLarge bytes

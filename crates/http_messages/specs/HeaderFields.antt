@@ -9,15 +9,15 @@ use Rattle.http_messages.specs.declared.header_fields.Values.{Values}
 use Rattle.http_messages.specs.declared.header_fields.Values.TheVariants as found
 
 -- the names and the values of header lines
-abbrev pub Lines : Type 0
-Lines = List (List ℕ × List ℕ)
+abbrev pub HeaderLines : Type 0
+HeaderLines = List (List ℕ × List ℕ)
 
 -- whether the name is this one, which is given in lower case
 abbrev pub is_named : List ℕ → List ℕ → Bool
 is_named name given = bytes_eq (map to_ascii_lowercase given) name
 
 -- the values of the header lines of this name, in order
-abbrev pub values_of : List ℕ → Lines → List (List ℕ)
+abbrev pub values_of : List ℕ → HeaderLines → List (List ℕ)
 values_of name [] = []
 values_of name (line ∷ lines) = if is_named name line.0 then line.1 ∷ values_of name lines else values_of name lines
 
@@ -28,7 +28,7 @@ AreFound vs (found.One v) = vs ≡ v.now ∷ []
 AreFound vs found.Several = 2 ≤ length vs
 
 -- the values that the lines have of each name that is looked at
-pub record AreGathered (lines : Lines) (fields : HeaderFields) : Type 0 where
+pub record AreGathered (lines : HeaderLines) (fields : HeaderFields) : Type 0 where
   pub host : AreFound (values_of (codes "host") lines) fields.host
   pub transfer_encoding : AreFound (values_of (codes "transfer-encoding") lines) fields.transfer_encoding
   pub content_length : AreFound (values_of (codes "content-length") lines) fields.content_length

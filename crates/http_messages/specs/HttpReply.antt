@@ -2,11 +2,13 @@
 use Rattle.std.specs.Prelude.{ℕ, List, [], ◌∷◌, ◌++◌, length, Option, Some, None, codes, decimal}
 use Rattle.http.specs.StatusCode.{status_text}
 
-pub record Reply : Type 0 where
+-- a reply: its status, the method that it names as allowed, if any, and its body
+pub record HttpReply : Type 0 where
   pub status : ℕ
   pub allow : Option (List ℕ)
   pub body : List ℕ
 
+-- the end of a line in a head (RFC 9112)
 abbrev pub crlf : List ℕ
 crlf = 13 ∷ 10 ∷ []
 
@@ -16,23 +18,28 @@ allow_line None = []
 allow_line (Some method) = codes "Allow: " ++ (method ++ crlf)
 
 -- status_text gives the code and its phrase, as `http` spells it
-abbrev pub reply_bytes : Reply → List ℕ
+abbrev pub reply_bytes : HttpReply → List ℕ
 reply_bytes r =
     codes "HTTP/1.1 " ++ (status_text r.status
     ++ (codes "\r\nContent-Type: application/json\r\nContent-Length: " ++ (decimal (length r.body)
     ++ (crlf ++ (allow_line r.allow ++ (codes "Connection: close\r\n\r\n" ++ r.body))))))
 
-abbrev pub bad_request : Reply
+-- 400 Bad Request: the input is no request of the register
+abbrev pub bad_request : HttpReply
 bad_request = record { status = 400; allow = None; body = codes "{\"name\":\"BadLine\",\"refused\":1}" }
 
-abbrev pub no_route : Reply
+-- 404 Not Found: no route has this target
+abbrev pub no_route : HttpReply
 no_route = record { status = 404; allow = None; body = codes "{\"name\":\"NoRoute\"}" }
 
-abbrev pub not_allowed : List ℕ → Reply
+-- 405 Method Not Allowed: the route takes this method
+abbrev pub not_allowed : List ℕ → HttpReply
 not_allowed method = record { status = 405; allow = Some method; body = codes "{\"name\":\"MethodNotAllowed\"}" }
 
-abbrev pub length_required : Reply
+-- 411 Length Required: no length of the body is announced
+abbrev pub length_required : HttpReply
 length_required = record { status = 411; allow = None; body = codes "{\"name\":\"LengthRequired\"}" }
 
-abbrev pub too_large : Reply
+-- 413 Content Too Large: the head or the body is longer than what is taken
+abbrev pub too_large : HttpReply
 too_large = record { status = 413; allow = None; body = codes "{\"name\":\"TooLarge\"}" }

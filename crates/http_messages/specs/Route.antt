@@ -14,6 +14,7 @@ route_text Requests = codes "/requests"
 route_text (Show key) = codes "/keys/" ++ (decimal key ++ codes "")
 route_text (Usage key) = codes "/keys/" ++ (decimal key ++ codes "/usage")
 
+-- the number of the key that the route names, if it names one, is that of a key
 abbrev pub IsRoute : Route → Type 0
 IsRoute Requests = Unit {0}
 IsRoute (Show key) = IsKeyNumber key
@@ -30,11 +31,12 @@ method_of Requests = codes "POST"
 method_of (Show key) = codes "GET"
 method_of (Usage key) = codes "GET"
 
--- the rows of the router
-abbrev pub key_row : RouteOf RoutePattern
-key_row =
+-- the row of a key: what the router matches, the text that it is made of, where the number stands, and what is kept
+abbrev pub key_route : RouteOf RoutePattern
+key_route =
     record { pattern = codes "/keys/" ++ 256 ∷ []; text = codes "/keys/{n}"; names = (7, 8) ∷ []; value = kept.Key }
 
+-- the row of what a key may be used for
 abbrev pub usage_row : RouteOf RoutePattern
 usage_row =
     record {
@@ -44,8 +46,10 @@ usage_row =
       value = kept.Usage;
     }
 
+-- the row of requests
 abbrev pub requests_row : RouteOf RoutePattern
 requests_row = record { pattern = codes "/requests"; text = codes "/requests"; names = []; value = kept.Requests }
 
+-- the rows of the router, each under its pattern
 abbrev pub routes : RowsOf (RouteOf RoutePattern)
-routes = (usage_row.pattern, usage_row) ∷ (key_row.pattern, key_row) ∷ (requests_row.pattern, requests_row) ∷ []
+routes = (usage_row.pattern, usage_row) ∷ (key_route.pattern, key_route) ∷ (requests_row.pattern, requests_row) ∷ []

@@ -12,10 +12,10 @@ ghost use Rattle.http_messages.specs.Within.Content.{GetsBody, ReadsInput};
 ghost use Rattle.http_messages.specs.declared.head.TheConstants.{MAX_EXCHANGE_READS};
 ghost use Rattle.httparse.specs.Grammar.{RequestHead};
 ghost use Rattle.httparse.specs.Spans.{IsRequestAt, IsRequestWithin, header_bytes};
-ghost use Rattle.http_messages.specs.CommandBody.{IsInRange};
+ghost use Rattle.http_messages.specs.CommandBody.{IsAskedInRange};
 ghost use Rattle.http_messages.specs.Asked.{AsksFor, AsksBody, AsksAfter, AsksPost, HasHost};
 ghost use Rattle.http_messages.specs.Asked.{IsFrom, max_body_length};
-ghost use Rattle.http_messages.specs.HeaderFields.{AreGathered, IsLength, Lines};
+ghost use Rattle.http_messages.specs.HeaderFields.{AreGathered, IsLength, HeaderLines};
 ghost use Rattle.http_messages.specs.Within.Post.{IsFor, Says};
 ghost use Rattle.http_messages.specs.declared.asked.Asked.TheVariants.{Reject};
 ghost use Rattle.http_messages.specs.Route.{routes};
@@ -224,9 +224,9 @@ fn capped_content_length_of(text: &[u8]) -> Option<u32>
 
 /// Whose request it is, and its number.
 fn caller_and_number_of(fields: &HeaderFields<'_>) -> Option<Sender>
-    ensures found { (lines : Lines) → AreGathered lines fields.now
+    ensures found { (lines : HeaderLines) → AreGathered lines fields.now
         → IfSome result (λ sender. IsFrom lines sender.caller sender.number) }
-    ensures none { (lines : Lines) → AreGathered lines fields.now → IfNone result
+    ensures none { (lines : HeaderLines) → AreGathered lines fields.now → IfNone result
         ((caller : List ℕ) (number : ℕ) → IsFrom lines caller number → ⊥) }
 {
     let caller = Name::new(fields.caller.only_value()?)?;
@@ -236,8 +236,8 @@ fn caller_and_number_of(fields: &HeaderFields<'_>) -> Option<Sender>
 
 /// What the header lines say of the body, or why the request is refused.
 fn body_length_and_sender_of(fields: &HeaderFields<'_>) -> Result<Post, Rejection>
-    ensures ok { (lines : Lines) → AreGathered lines fields.now → IfOk result (Says lines) }
-    ensures err { (lines : Lines) → AreGathered lines fields.now
+    ensures ok { (lines : HeaderLines) → AreGathered lines fields.now → IfOk result (Says lines) }
+    ensures err { (lines : HeaderLines) → AreGathered lines fields.now
         → IfErr result (λ r. (rest : List ℕ) → AsksPost lines rest (Reject r)) }
 {
     let Values::None = fields.transfer_encoding else {
@@ -264,7 +264,7 @@ fn body_length_and_sender_of(fields: &HeaderFields<'_>) -> Result<Post, Rejectio
 fn asked_by_body(alloc: Global, post: Post, body: &[u8]) -> Result<Option<Asked>, AskFault>
     ensures asks { (after : List ℕ) (n : ℕ) → n ≤ length after → body.now ≡ take n after →
         IfOk result (λ o. IsSomeAnd o (AsksBody n post.sender.caller post.sender.number after)) }
-    ensures in_range { IfOk result (λ o. IfSome o IsInRange) }
+    ensures in_range { IfOk result (λ o. IfSome o IsAskedInRange) }
     ensures err { IfErr result (λ fault. fault ≡ AskFault.Memory) }
 {
     let Some(value) = json_value_of(alloc, body)? else {
@@ -322,9 +322,9 @@ struct Head<'b> {
 
 /// Refuses a head of this version without the Host that it must have.
 fn check_host(minor: u8, fields: &HeaderFields<'_>) -> Result<(), Rejection>
-    ensures ok { (lines : Lines) → AreGathered lines fields.now
+    ensures ok { (lines : HeaderLines) → AreGathered lines fields.now
         → OnOk result (HasHost minor lines) }
-    ensures err { (lines : Lines) → AreGathered lines fields.now
+    ensures err { (lines : HeaderLines) → AreGathered lines fields.now
         → IfErr result (λ r. (r ≡ Rejection.BadRequest) × (HasHost minor lines → ⊥)) }
 {
     if minor == 1 && !matches!(fields.host, Values::One(_)) {
@@ -432,7 +432,7 @@ pub fn read_asked<R: Read>(alloc: Global, routes: &mut Routes, reader: &mut Watc
         IfOk result.asked (AsksFor input) }
     ensures read { HasRead (R.remaining reader.old.inner) (R.remaining reader.new.inner)
         result.read }
-    ensures in_range { IfOk result.asked (λ asked. IfSome asked IsInRange) }
+    ensures in_range { IfOk result.asked (λ asked. IfSome asked IsAskedInRange) }
     ensures fault { IfErr result.asked (λ fault. fault ≡ AskFault.ReadFault
         → IsFaulted reader.new.failed MAX_EXCHANGE_READS reader.new.turns) }
     ensures tells { TellsFault reader.old.failed reader.new.failed result.asked }

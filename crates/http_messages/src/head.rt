@@ -3,7 +3,7 @@ ghost use Rattle.std.specs.Prelude.{◌≡◌, ◌<◌, ◌≤◌, ◌+◌, ◌+
 ghost use Rattle.std.specs.Prelude.{OnOk, OnErr};
 ghost use Rattle.std.specs.Io.KnownBytes.{Consumes, IsAtEnd, Keeps};
 ghost use Rattle.streams.specs.Watched.{IsFaulted};
-ghost use Rattle.http_messages.specs.HeadSearch.{Finds};
+ghost use Rattle.http_messages.specs.HeadSearch.{EndsSearch};
 
 use httparse::spans::{EMPTY_HEADER_SPAN, HeaderSpan, RequestSpans, parse_request};
 use httparse::{Error, Status};
@@ -101,7 +101,8 @@ impl Prefix {
         reader: &mut Watched<R>,
     ) -> Result<HeadSearch, ReadFault>
         requires { self.old ≡ [] }
-        ensures found { IfOk result (Finds self.new headers.new (R.remaining reader.new.inner)) }
+        ensures found { IfOk result
+            (EndsSearch self.new headers.new (R.remaining reader.new.inner)) }
         ensures bytes { Consumes (R.remaining reader.old.inner) (R.remaining reader.new.inner)
             self.new }
         ensures short { length self.new ≤ MAX_HEAD_LENGTH }

@@ -3,7 +3,7 @@ ghost use Rattle.std.specs.Prelude.{◌≡◌, ◌≢◌, ◌++◌, ◌∷◌, [
 ghost use Rattle.std.specs.Prelude.{IfNone, IfSome};
 ghost use Rattle.std.specs.Char.{to_ascii_lowercase};
 ghost use Rattle.httparse.specs.Spans.{IsHeaderWithin, header_bytes};
-ghost use Rattle.http_messages.specs.HeaderFields.{AreFound, AreGathered, Lines, is_named};
+ghost use Rattle.http_messages.specs.HeaderFields.{AreFound, AreGathered, HeaderLines, is_named};
 ghost use Rattle.http_messages.specs.HeaderFields.{values_of};
 
 use httparse::spans::HeaderSpan;
@@ -55,7 +55,7 @@ impl<'b> Values<'b> {
     fn with_value_if_named(self, prefix: &'b [u8], line: &HeaderSpan, name: &[u8]) -> Self
         requires within { IsHeaderWithin (length prefix.now) line.now }
         requires lower { map to_ascii_lowercase name.now ≡ name.now }
-        ensures { (lines : Lines) → AreFound (values_of name.now lines) self.entry
+        ensures { (lines : HeaderLines) → AreFound (values_of name.now lines) self.entry
             → AreFound (values_of name.now (lines ++ header_bytes prefix.now line.now ∷ []))
             result }
     {
@@ -80,7 +80,7 @@ impl<'b> HeaderFields<'b> {
     /// With the value of one line more, under its name.
     fn with_line(self, prefix: &'b [u8], line: &HeaderSpan) -> Self
         requires { IsHeaderWithin (length prefix.now) line.now }
-        ensures { (lines : Lines) → AreGathered lines self.entry
+        ensures { (lines : HeaderLines) → AreGathered lines self.entry
             → AreGathered (lines ++ header_bytes prefix.now line.now ∷ []) result }
     {
         HeaderFields {

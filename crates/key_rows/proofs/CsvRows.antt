@@ -7,7 +7,7 @@ use Rattle.std.proofs.lemmas.Bool.Decides.{nat_tests}
 use Rattle.std.proofs.lemmas.List.{append-nil}
 use Rattle.csv.specs.Writing as kit
 use Rattle.csv.specs.Writing.{default_writer, escaped, fields_text, needs_byte}
-use Rattle.key_rows.specs.Export.{comma, quote, line_feed, doubled, field_text, csv_row}
+use Rattle.key_rows.specs.Export.{comma, quote, row_end, doubled, field_text, csv_row}
 use Rattle.key_rows.specs.Within.Export.{IsPrintable}
 
 -- ---- a field
@@ -67,7 +67,7 @@ same_fields field (next ∷ fields) printable =
     ∙ ap (λ l. field_text field ++ (comma ∷ l)) (same_fields next fields printable.1)
 
 pub same_row : (fields : List (List ℕ)) → 1 < length fields → AllByRecursion IsPrintable fields
-    → kit.row_body default_writer fields ++ line_feed ∷ [] ≡ csv_row fields
+    → kit.row_body default_writer fields ++ row_end ∷ [] ≡ csv_row fields
 same_row [] some printable = absurd (omega arith)
 same_row (field ∷ fields) some printable =
-    ap (λ l. l ++ line_feed ∷ []) (same_fields field fields printable)
+    ap (λ l. l ++ row_end ∷ []) (same_fields field fields printable)

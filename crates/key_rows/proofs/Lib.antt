@@ -1,4 +1,3 @@
-pub mod Members
 pub mod DueOrder
 pub mod DueRows
 pub mod Printable

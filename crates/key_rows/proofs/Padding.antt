@@ -10,7 +10,7 @@ use Rattle.period_core.specs.KeyType.{key_type_text}
 use Rattle.period_core.proofs.Types.{of_each_type}
 use Rattle.lifecycle_core.specs.State.{is_reached_at}
 use Rattle.key_rows.specs.declared.key_row.KeyRow.{KeyRow}
-use Rattle.key_rows.specs.Export.{date_text}
+use Rattle.key_rows.specs.Export.{date_cell_text}
 use Rattle.key_rows.specs.Report.{left, right, spaces, report_mark, report_line}
 
 -- a hole that is filled up to a width, from the left or from the right
@@ -53,7 +53,7 @@ kind_left =
 -- a line, as one `format!` writes it
 abbrev pub formatted : ℕ → ℕ → KeyRow → List ℕ
 formatted latest until r =
-    to_right 7 r.number ++ (codes "  " ++ (date_text r.row.dates.protect_stop ++ (codes "  "
+    to_right 7 r.number ++ (codes "  " ++ (date_cell_text r.row.dates.protect_stop ++ (codes "  "
     ++ (to_left 7 (report_mark latest until r)
     ++ (codes "  " ++ (to_left 22 (key_type_text r.kind) ++ (codes "  "
     ++ (r.owner ++ (codes "  " ++ (r.purpose ++ codes "\n"))))))))))

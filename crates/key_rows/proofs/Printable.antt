@@ -11,7 +11,7 @@ use Rattle.std.proofs.lemmas.Fmt.{decimal_by_steps}
 use Rattle.moment_core.specs.MomentText.{moment_text}
 use Rattle.register_requests.specs.Name.{IsName, is_name_byte}
 use Rattle.register_requests.specs.Purpose.{IsPurpose, is_purpose_byte}
-use Rattle.key_rows.specs.Export.{date_text}
+use Rattle.key_rows.specs.Export.{date_cell_text}
 use Rattle.key_rows.specs.Within.Export.{IsPrintable}
 
 -- ---- all bytes of a text
@@ -93,7 +93,7 @@ moment_ascii m = plain_ascii (moment_text m) (moment_plain m)
 pub number_printable : (n : ℕ) → n < 2 ^ 64 → IsPrintable (decimal n)
 number_printable n small = plain_printable (decimal n) (decimal_plain n small)
 
-pub date_printable : (date : Option ℕ) → IsPrintable (date_text date)
+pub date_printable : (date : Option ℕ) → IsPrintable (date_cell_text date)
 date_printable None = refl
 date_printable (Some date) = plain_printable (moment_text date) (moment_plain date)
 

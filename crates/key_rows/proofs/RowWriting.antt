@@ -15,7 +15,7 @@ use Rattle.csv.specs.declared.writer.WriterBuilder.{WriterBuilder}
 use Rattle.csv.proofs.WriteFacts.{row-more}
 use Rattle.key_rows.specs.declared.cell.Cell.{Cell}
 use Rattle.key_rows.specs.Within.Cell.{cell_text}
-use Rattle.key_rows.specs.Export.{line_feed, csv_row}
+use Rattle.key_rows.specs.Export.{row_end, csv_row}
 use Rattle.key_rows.specs.Within.Export.{IsPrintable}
 use Rattle.key_rows.specs.Within.RowWriter.{HasFields, written}
 use Rattle.key_rows.proofs.CsvRows.{same_row}
@@ -98,12 +98,12 @@ cell_put (Ok x) old new cell value is text same printable put = λ fields small 
 cell_put (Err e) old new cell value is text same printable put = tt
 
 -- what ends a row of several fields
-ends : (wrote : Bool) (n : ℕ) → 1 < n → tail_text default_writer wrote n ≡ line_feed ∷ []
+ends : (wrote : Bool) (n : ℕ) → 1 < n → tail_text default_writer wrote n ≡ row_end ∷ []
 ends wrote n several = rw (ne_eqb n 0 (λ e. omega arith), ne_eqb n 1 (λ e. omega arith)) (by wrote)
   where
     by : (b : Bool)
-        → (if not b && (false || false) then 34 ∷ 34 ∷ [] else []) ++ line_feed ∷ []
-        ≡ line_feed ∷ []
+        → (if not b && (false || false) then 34 ∷ 34 ∷ [] else []) ++ row_end ∷ []
+        ≡ row_end ∷ []
     by true = refl
     by false = refl
 

@@ -1,6 +1,7 @@
 -- The rows of the keys that are due for rotation, and their order.
-use Rattle.std.specs.Prelude.{◌≡◌, ◌⊎◌, ◌==◌, ◌&&◌, ◌||◌, ◌<◌, ℕ, Bool, true, List, [], ◌∷◌, Contains, unwrap_or}
-use Rattle.std.specs.List.{AllByRecursion}
+use Rattle.std.specs.Prelude.{◌≡◌, ◌≢◌, ◌⊎◌, ◌==◌, ◌&&◌, ◌||◌, ◌<◌, ℕ, Bool, true, List, All, Contains, filter}
+use Rattle.std.specs.Prelude.{IsPermutation, unwrap_or}
+use Rattle.std.specs.List.{AllPairs}
 use Rattle.lifecycle_core.specs.declared.state.State.TheVariants.{Active}
 use Rattle.lifecycle_core.specs.State.{is_reached_at, state_code}
 use Rattle.period_core.specs.declared.key_type.KeyType.{KeyType}
@@ -24,18 +25,16 @@ IsBefore a b = (stop_of a < stop_of b) ⊎ ((stop_of a ≡ stop_of b) × (a.numb
 
 -- each comes before all after it
 abbrev pub AreInOrder : List KeyRow → Type 0
-AreInOrder [] = Unit {0}
-AreInOrder (r ∷ rows) = AllByRecursion (IsBefore r) rows × AreInOrder rows
+AreInOrder rows = AllPairs IsBefore rows
 
 -- a row comes after all of these
 abbrev pub IsAfter : List KeyRow → KeyRow → Type 0
-IsAfter rows r = AllByRecursion (λ x. IsBefore x r) rows
+IsAfter rows r = All (λ x. IsBefore x r) rows
 
--- these are the rows of all of them for which this holds, in order
+-- these are the rows of all of them for which this holds, put in order
 pub record AreThose (holds : KeyRow → Bool) (all rows : List KeyRow) : Type 0 where
   pub in_order : AreInOrder rows
-  pub each : (r : KeyRow) → Contains rows r → Contains all r × (holds r ≡ true)
-  pub every : (r : KeyRow) → Contains all r → holds r ≡ true → Contains rows r
+  pub are : IsPermutation (filter holds all) rows
 
 -- these are the rows of all of them that are due, in order
 abbrev pub AreDue : List KeyRow → ℕ → List KeyRow → Type 0
@@ -51,7 +50,7 @@ is_listed until periods r =
 abbrev pub AreListed : List KeyRow → ℕ → (KeyType → Period) → List KeyRow → Type 0
 AreListed all until periods rows = AreThose (is_listed until periods) all rows
 
--- these are the first of them: all others come after
+-- Some of all rows that are due, in order: every other one that is due comes after them.
 pub record AreFirstDue (all : List KeyRow) (until : ℕ) (rows : List KeyRow) : Type 0 where
   pub in_order : AreInOrder rows
   pub each : (r : KeyRow) → Contains rows r → Contains all r × (is_due until r ≡ true)
@@ -60,5 +59,4 @@ pub record AreFirstDue (all : List KeyRow) (until : ℕ) (rows : List KeyRow) : 
 
 -- no two of the rows have one number
 abbrev pub HaveOwnNumbers : List KeyRow → Type 0
-HaveOwnNumbers rows = (r s : KeyRow) → Contains rows r → Contains rows s → r.number ≡ s.number
-    → r ≡ s
+HaveOwnNumbers rows = AllPairs (λ r s. r.number ≢ s.number) rows

@@ -11,14 +11,17 @@ use Rattle.key_rows.specs.declared.key_row.KeyRow.{KeyRow}
 
 -- ---- rows of fields
 
+-- what stands between two fields
 abbrev pub comma : ℕ
 comma = 44
 
+-- what stands round a field that is quoted
 abbrev pub quote : ℕ
 quote = 34
 
-abbrev pub line_feed : ℕ
-line_feed = 10
+-- what ends a row
+abbrev pub row_end : ℕ
+row_end = 10
 
 -- a byte of a field between quotes: a quote twice
 abbrev pub doubled : ℕ → List ℕ
@@ -32,26 +35,27 @@ field_text field =
 
 -- a row: its fields with commas between them, and a line feed
 abbrev pub csv_row : List (List ℕ) → List ℕ
-csv_row fields = join_with_byte comma (map field_text fields) ++ line_feed ∷ []
+csv_row fields = join_with_byte comma (map field_text fields) ++ row_end ∷ []
 
 -- ---- keys
 
 -- the text of a date: nothing where it is not set
-abbrev pub date_text : Option ℕ → List ℕ
-date_text None = []
-date_text (Some date) = moment_text date
+abbrev pub date_cell_text : Option ℕ → List ℕ
+date_cell_text None = []
+date_cell_text (Some date) = moment_text date
 
 -- a column: its name in the header, and what stands there of a key
 pub record Column : Type 0 where
   pub name : List ℕ
   pub cell : KeyRow → List ℕ
 
+-- the column of this name, with this of each key
 abbrev pub column : List ℕ → (KeyRow → List ℕ) → Column
 column name cell = record { name = name; cell = cell }
 
 -- the column of a date
 abbrev pub dated : List ℕ → (Dates → Option ℕ) → Column
-dated name date = column name (λ r. date_text (date r.row.dates))
+dated name date = column name (λ r. date_cell_text (date r.row.dates))
 
 -- The columns, in their order. No other definition names all of them: the header and the rows are read off this list.
 abbrev pub export_columns : List Column
@@ -78,6 +82,7 @@ export_header = csv_row (map (λ (c : Column). c.name) export_columns)
 abbrev pub export_fields : KeyRow → List (List ℕ)
 export_fields r = map (λ (c : Column). c.cell r) export_columns
 
+-- the row of a key
 unfoldable pub export_row : KeyRow → List ℕ
 export_row r = csv_row (export_fields r)
 

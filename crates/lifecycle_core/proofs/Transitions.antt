@@ -8,7 +8,7 @@ use Rattle.lifecycle_core.specs.declared.state.State.TheVariants.{PreActive, Act
 use Rattle.lifecycle_core.specs.declared.state.State.TheVariants.{Destroyed, DestroyedCompromised}
 use Rattle.lifecycle_core.specs.declared.dates.Dates.{Dates}
 use Rattle.lifecycle_core.specs.State.{state_at, is_reached_at}
-use Rattle.lifecycle_core.specs.Transition.{IsTransition, Leads}
+use Rattle.lifecycle_core.specs.Transition.{IsTransition, HasPath}
 
 -- whether a pair is a transition
 abbrev pub is_transition : Option State → State → Bool
@@ -53,16 +53,16 @@ stays_reached : (date : Option ℕ) (t u : ℕ) → t ≤ u → is_reached_at da
 stays_reached None t u le reached = reached
 stays_reached (Some date) t u le reached = grind (arith, nat_tests)
 
-stays : (state : Option State) → Leads state state
+stays : (state : Option State) → HasPath state state
 stays state = ([], refl)
 
-one_step : (from to : State) → is_transition (Some from) to ≡ true → Leads (Some from) (Some to)
+one_step : (from to : State) → is_transition (Some from) to ≡ true → HasPath (Some from) (Some to)
 one_step from to passes = ((Some from, to) ∷ [], (refl, listed (Some from) to passes, refl))
 
 -- the states before and after, by the dates reached before and after
 moves : (destroyed compromised activated deactivated activated' deactivated' : Bool) →
     (activated ≡ true → activated' ≡ true) → (deactivated ≡ true → deactivated' ≡ true) →
-    Leads (Some (state_by destroyed compromised activated deactivated))
+    HasPath (Some (state_by destroyed compromised activated deactivated))
     (Some (state_by destroyed compromised activated' deactivated'))
 moves true true _ _ _ _ stay stay' = stays _
 moves true false _ _ _ _ stay stay' = stays _
@@ -79,7 +79,7 @@ moves false false true false true true stay stay' = one_step Active Deactivated 
 moves false false true true true false stay stay' = let e : false ≡ true = stay' refl in cc
 moves false false true true true true stay stay' = stays _
 
-pub time_leads : (d : Dates) (t u : ℕ) → t ≤ u → Leads (Some (state_at d t)) (Some (state_at d u))
+pub time_leads : (d : Dates) (t u : ℕ) → t ≤ u → HasPath (Some (state_at d t)) (Some (state_at d u))
 time_leads d t u le =
     moves (is_some d.destroy) (is_some d.compromise)
     (is_reached_at d.activation t) (is_reached_at d.deactivation t)

@@ -16,9 +16,11 @@ state_row Compromised = (4, codes "Compromised")
 state_row Destroyed = (5, codes "Destroyed")
 state_row DestroyedCompromised = (6, codes "Destroyed-Compromised")
 
+-- the value of a state in KMIP 1.2, its State Enumeration
 abbrev pub state_code : State → ℕ
 state_code state = (state_row state).0
 
+-- the name of a state in KMIP 1.2
 abbrev pub state_text : State → List ℕ
 state_text state = (state_row state).1
 

@@ -20,6 +20,7 @@ transitions =
     (Some Destroyed, DestroyedCompromised) ∷
     []
 
+-- a key may go from the one state to the other by one of KMIP 1.2's ten transitions (section 3.22)
 abbrev pub IsTransition : Option State → State → Type 0
 IsTransition from to = Contains transitions (from, to)
 
@@ -30,5 +31,5 @@ IsPath from (step ∷ path) to =
     (step.0 ≡ from) × IsTransition step.0 step.1 × IsPath (Some step.1) path to
 
 -- a path leads from the one to the other
-abbrev pub Leads : Option State → Option State → Type 0
-Leads from to = (path : List (Option State × State)) × IsPath from path to
+abbrev pub HasPath : Option State → Option State → Type 0
+HasPath from to = (path : List (Option State × State)) × IsPath from path to

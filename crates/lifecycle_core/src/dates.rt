@@ -1,7 +1,7 @@
 //! The date attributes of a key.
 use moment_core::Moment;
 
-/// The date attributes of a key (KMIP 1.2, sections 3.23 to 3.29), `None` where one is not set.
+/// The date attributes of a key (KMIP 1.2, sections 3.23 to 3.30), `None` where one is not set.
 /// Protect Stop is kept for every key type, as the end of originator use (this register's own).
 #[derive(Clone, Copy, PartialEq, Eq)]
 pub struct Dates {

@@ -2,20 +2,26 @@
 use Rattle.std.proofs.Common.{◌≡◌, ℕ, zero, suc, ◌+◌, ◌-◌, ◌<◌, ◌≤◌, cond, nat_lt, Bool, true, false, refl, sym, ap}
 use Rattle.std.proofs.Common.{◌∙◌, arith}
 use Rattle.std.proofs.lemmas.Bool.{ltb-false, ltb-true}
-use Rattle.moment_core.specs.Calendar.{Civil, IsCivil, is_leap, month_days, year_days, next_day, civil, days_of_years}
+use Rattle.std.specs.Prelude.{pos}
+use Rattle.jiff_core.specs.Calendar.{days_in_year, is_leap_year}
+use Rattle.moment_core.specs.Calendar.{Civil, IsCivil, month_days, next_day, civil, days_of_years}
 use Rattle.moment_core.specs.Calendar.{days_of_months, day_number}
+
+-- the days of a year
+abbrev pub year_days : ℕ → ℕ
+year_days year = days_in_year (pos year)
 
 pub month_days_bounds : (y m : ℕ) → (28 ≤ month_days y m) × (month_days y m ≤ 31)
 month_days_bounds y m = grind arith
 
 -- the months of a year make the year
-months_of : (y : ℕ) → (b : Bool) → is_leap y ≡ b → days_of_months y 12 ≡ cond b 366 365
+months_of : (y : ℕ) → (b : Bool) → is_leap_year (pos y) ≡ b → days_of_months y 12 ≡ cond b 366 365
 unfolding days_of_months
 months_of y true e = rw e refl
 months_of y false e = rw e refl
 
 pub days_of_months_all : (y : ℕ) → days_of_months y 12 ≡ year_days y
-days_of_months_all y = months_of y (is_leap y) refl
+days_of_months_all y = months_of y (is_leap_year (pos y)) refl
 
 pub days_of_months_more : (y m : ℕ) → 1 ≤ m → days_of_months y m ≡ days_of_months y (m - 1) + month_days y m
 unfolding days_of_months

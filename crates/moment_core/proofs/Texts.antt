@@ -5,7 +5,7 @@ use Rattle.std.specs.Prelude.{Option, None, Some, IsSome, IfSome, ◌↔◌}
 use Rattle.moment_core.specs.Moment.{IsMoment}
 use Rattle.moment_core.specs.Calendar.{Civil, IsCivil, civil, day_number}
 use Rattle.moment_core.specs.MomentText.{two_digits, moment_text}
-use Rattle.moment_core.specs.Within.Parts.{date_text, time_text}
+use Rattle.moment_core.specs.Within.Parts.{date_part_text, time_text}
 use Rattle.moment_core.proofs.Civils.{civil_is, month_days_bounds}
 use Rattle.moment_core.proofs.Dates.{year_bound}
 
@@ -14,12 +14,12 @@ date_at m = civil (m / 86_400)
 
 -- a moment's text, from the parts of its date
 pub text_is : (m s year month day : ℕ) → s ≡ m → year ≡ (date_at s).year → month ≡ (date_at s).month
-    → day ≡ (date_at s).day → date_text year month day ++ time_text (s % 86_400) ≡ moment_text m
+    → day ≡ (date_at s).day → date_part_text year month day ++ time_text (s % 86_400) ≡ moment_text m
 unfolding moment_text
 text_is m s year month day e y mo d =
-    ap (λ (k : ℕ). date_text k month day ++ time_text (s % 86_400)) y
-    ∙ ap (λ (k : ℕ). date_text (date_at s).year k day ++ time_text (s % 86_400)) mo
-    ∙ ap (λ (k : ℕ). date_text (date_at s).year (date_at s).month k ++ time_text (s % 86_400)) d
+    ap (λ (k : ℕ). date_part_text k month day ++ time_text (s % 86_400)) y
+    ∙ ap (λ (k : ℕ). date_part_text (date_at s).year k day ++ time_text (s % 86_400)) mo
+    ∙ ap (λ (k : ℕ). date_part_text (date_at s).year (date_at s).month k ++ time_text (s % 86_400)) d
     ∙ ap moment_text e
 
 -- the parts of a moment's date

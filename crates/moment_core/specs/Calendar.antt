@@ -1,7 +1,8 @@
 -- The civil calendar of UTC, by its own rules (ISO 8601, the Gregorian calendar), and months added
 -- to moments.
 use Rattle.std.specs.Prelude.{ℕ, ◌≤◌, zero, suc, ◌+◌, ◌-◌, ◌*◌, ◌/◌, ◌%◌, ◌==◌, nat_lt, nat_le, min, Bool, not, ◌&&◌}
-use Rattle.std.specs.Prelude.{◌||◌, Option, None, Some, if◌then◌else◌}
+use Rattle.std.specs.Prelude.{◌||◌, Option, None, Some, if◌then◌else◌, pos}
+use Rattle.jiff_core.specs.Calendar.{days_in_month, days_in_year}
 use Rattle.moment_core.specs.Moment.{last_second}
 
 -- a civil date: the year, the month from 1 to 12, and the day of the month from 1
@@ -10,24 +11,15 @@ pub record Civil : Type 0 where
   pub month : ℕ
   pub day : ℕ
 
--- each fourth year is a leap year, but of the hundreds only each fourth
-abbrev pub is_leap : ℕ → Bool
-is_leap year = (year % 4 == 0) && (not (year % 100 == 0) || (year % 400 == 0))
-
--- how many days a month has
+-- how many days a month has, as jiff's calendar tells
 abbrev pub month_days : ℕ → ℕ → ℕ
-month_days year month =
-    if month == 2 then (if is_leap year then 29 else 28) else
-    (if (month == 4) || (month == 6) || (month == 9) || (month == 11) then 30 else 31)
+month_days year month = days_in_month (pos year) month
 
 -- a date of the calendar from 1970 on
 pub record IsCivil (c : Civil) : Type 0 where
   pub year : 1970 ≤ c.year
   pub month : (1 ≤ c.month) × (c.month ≤ 12)
   pub day : (1 ≤ c.day) × (c.day ≤ month_days c.year c.month)
-
-abbrev pub year_days : ℕ → ℕ
-year_days year = if is_leap year then 366 else 365
 
 -- the date of the next day
 abbrev pub next_day : Civil → Civil
@@ -44,7 +36,7 @@ civil (suc n) = next_day (civil n)
 -- the days of so many years from 1970 on
 unfoldable pub days_of_years : ℕ → ℕ
 days_of_years zero = 0
-days_of_years (suc n) = days_of_years n + year_days (1970 + n)
+days_of_years (suc n) = days_of_years n + days_in_year (pos (1970 + n))
 
 -- the days of so many months of a year, from January on
 unfoldable pub days_of_months : ℕ → ℕ → ℕ

@@ -2,7 +2,7 @@
 ghost use Rattle.std.specs.Prelude.{◌≡◌, ◌≢◌, ℕ, ◌+◌, ◌/◌, ◌%◌, ◌<◌, ◌++◌, Some, IfSome, IfNone};
 ghost use Rattle.moment_core.specs.Moment.{IsMoment};
 ghost use Rattle.moment_core.specs.MomentText.{two_digits, moment_text};
-ghost use Rattle.moment_core.specs.Within.Parts.{date_text, time_text};
+ghost use Rattle.moment_core.specs.Within.Parts.{date_part_text, time_text};
 
 use crate::calendar::{self, DAY_SECONDS};
 use crate::moment::Moment;
@@ -23,7 +23,7 @@ fn ascii_ones_digit(n: u32) -> u8
 
 /// The text of a date's year, month and day and a second of the day.
 fn format_date_and_time(year: u32, month: u32, day: u32, second: u32) -> [u8; 20]
-    ensures { result ≡ date_text year month day ++ time_text second }
+    ensures { result ≡ date_part_text year month day ++ time_text second }
 {
     let (century, hour, minute) = (year / 100, second / 3600, second / 60 % 60);
     let (year, second) = (year % 100, second % 60);

@@ -2,6 +2,7 @@
 -- own.
 use Rattle.std.specs.Prelude.{◌≡◌, ◌≤◌, ℕ, nat_lt, nat_le, min, Bool, true, not, ◌&&◌, ◌||◌, List, [], ◌∷◌, Option}
 use Rattle.std.specs.Prelude.{None, Some, is_some, is_none, Result, Ok, Err, IsTrue, if◌then◌else◌}
+use Rattle.std.specs.Option.{option_and_then}
 use Rattle.lifecycle_core.specs.declared.dates.Dates.{Dates}
 use Rattle.moment_core.specs.Calendar.{months_after}
 use Rattle.period_core.specs.Period.{Period}
@@ -16,13 +17,13 @@ is_not_after None second = true
 
 -- so many months after a date, where the date is set and the sum is a moment
 abbrev pub months_on_date : Option ℕ → ℕ → Option ℕ
-months_on_date None months = None
-months_on_date (Some date) months = months_after date months
+months_on_date date months = option_and_then (λ moment. months_after moment months) date
 
--- the last moment of originator use, and of recipient use, by the period's months
+-- the last moment of originator use, so many months after Activation
 abbrev pub originator_limit : Period → Dates → Option ℕ
 originator_limit p d = months_on_date d.activation p.originator
 
+-- the last moment of recipient use, so many months after Protect Stop
 abbrev pub recipient_limit : Period → Dates → Option ℕ
 recipient_limit p d = months_on_date d.protect_stop p.recipient
 
@@ -70,6 +71,7 @@ cut_to_limit None limit = None
 cut_to_limit (Some date) None = Some date
 cut_to_limit (Some date) (Some limit) = Some (min date limit)
 
+-- the dates with the defaults of Protect Stop, and then of Deactivation, where these are not set
 abbrev pub dates_with_defaults : Period → Dates → Dates
 dates_with_defaults p d = with_default_deactivation p (with_default_protect_stop p d)
 
@@ -84,12 +86,14 @@ defaulted_dates_cut_to_limits p d =
 
 -- ---- refusals
 
--- a date past its limit, with the limit
+-- A date after its limit is refused, and the refusal names the limit. A date or a limit that is not set gives no
+-- refusal. Own.
 abbrev pub too_long_refusal : Option ℕ → Option ℕ → Option DateRefusal
 too_long_refusal (Some date) (Some limit) = if nat_lt limit date then Some (PeriodTooLong limit) else None
 too_long_refusal (Some date) None = None
 too_long_refusal None limit = None
 
+-- dates that are not in order are refused for it
 abbrev pub order_refusal : Dates → Option DateRefusal
 order_refusal d = if are_dates_in_order d then None else Some DateOrder
 
@@ -105,27 +109,33 @@ first_that_holds [] = None
 first_that_holds (None ∷ others) = first_that_holds others
 first_that_holds (Some refusal ∷ others) = Some refusal
 
+-- why Fill refuses dates, in order: by what they are with their defaults
+abbrev pub fill_refusals : Period → Dates → List (Option DateRefusal)
+fill_refusals p d =
+    let full = dates_with_defaults p d in
+    order_refusal full
+    ∷ too_long_refusal full.protect_stop (originator_limit p full)
+    ∷ too_long_refusal full.deactivation (recipient_limit p full)
+    ∷ range_refusal full
+    ∷ []
+
+-- why Trim does: no period is too long after it, so for the order and the range alone
+abbrev pub trim_refusals : Period → Dates → List (Option DateRefusal)
+trim_refusals p d =
+    let full = defaulted_dates_cut_to_limits p d in order_refusal full ∷ range_refusal full ∷ []
+
 -- the dates, unless a refusal holds of them
 abbrev pub unless_refused : Option DateRefusal → Dates → Result Dates DateRefusal
 unless_refused None d = Ok d
 unless_refused (Some refusal) d = Err refusal
 
--- Fill: the first that holds of the dates with their defaults refuses them
+-- what Fill makes of dates: those with their defaults, or the first refusal that holds
 abbrev pub fill_of : Period → Dates → Result Dates DateRefusal
-fill_of p d =
-    let full = dates_with_defaults p d in
-    unless_refused (first_that_holds (
-    order_refusal full
-    ∷ too_long_refusal full.protect_stop (originator_limit p full)
-    ∷ too_long_refusal full.deactivation (recipient_limit p full)
-    ∷ range_refusal full
-    ∷ [])) full
+fill_of p d = unless_refused (first_that_holds (fill_refusals p d)) (dates_with_defaults p d)
 
--- Trim: no period is too long after it, so it refuses for the order and the range alone
+-- what Trim does: those cut to their limits, or the first refusal that holds
 abbrev pub trim_of : Period → Dates → Result Dates DateRefusal
-trim_of p d =
-    let full = defaulted_dates_cut_to_limits p d in
-    unless_refused (first_that_holds (order_refusal full ∷ range_refusal full ∷ [])) full
+trim_of p d = unless_refused (first_that_holds (trim_refusals p d)) (defaulted_dates_cut_to_limits p d)
 
 -- ---- what they owe
 

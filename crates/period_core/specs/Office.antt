@@ -34,7 +34,7 @@ of_each f = record {
   master = f Master;
 }
 
--- the same but for this type
+-- the periods of the types, with this one for this type
 abbrev pub with_set : OfficePeriods → KeyType → Option Period → OfficePeriods
 with_set set kind period =
     of_each (λ other. if key_type_code other == key_type_code kind then period else set_in set other)

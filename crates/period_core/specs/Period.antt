@@ -2,9 +2,7 @@
 -- 800-57 Part 1 Revision 5, sections 5.3.4 and 5.3.5.
 use Rattle.std.specs.Prelude.{ℕ, ◌≤◌, Option, unwrap_or}
 use Rattle.period_core.specs.declared.key_type.KeyType.{KeyType}
-use Rattle.period_core.specs.declared.key_type.KeyType.TheVariants.{DataEncryption, Authentication, KeyWrapping}
-use Rattle.period_core.specs.declared.key_type.KeyType.TheVariants.{PrivateSignature, PrivateAuthentication}
-use Rattle.period_core.specs.declared.key_type.KeyType.TheVariants.{PrivateTransport, Master}
+use Rattle.period_core.specs.KeyType.{key_type_row}
 
 -- from Activation to Protect Stop at the longest, in which protection is applied, and from there to Deactivation, in
 -- which protected data is still processed
@@ -12,6 +10,7 @@ pub record Period : Type 0 where
   pub originator : ℕ
   pub recipient : ℕ
 
+-- the period of so many months of originator use and of recipient use
 abbrev pub of_months : ℕ → ℕ → Period
 of_months originator recipient = record { originator = originator; recipient = recipient }
 
@@ -25,15 +24,10 @@ pub record IsPeriod (p : Period) : Type 0 where
   pub originator : p.originator ≤ max_months
   pub recipient : p.recipient ≤ max_months
 
--- the period of a type, where none is set for it
+-- The default usage periods of a key type, in months, which hold where the office has set none (after the cryptoperiods
+-- of SP 800-57 Part 1, section 5.3.6).
 abbrev pub periods : KeyType → Period
-periods DataEncryption = record { originator = 24; recipient = 36 }
-periods Authentication = record { originator = 24; recipient = 36 }
-periods KeyWrapping = record { originator = 24; recipient = 36 }
-periods PrivateSignature = record { originator = 36; recipient = 0 }
-periods PrivateAuthentication = record { originator = 24; recipient = 0 }
-periods PrivateTransport = record { originator = 24; recipient = 0 }
-periods Master = record { originator = 12; recipient = 0 }
+periods kind = of_months (key_type_row kind).2 (key_type_row kind).3
 
 -- the period of a type, where this is set for it, if anything is
 abbrev pub period_or_default : Option Period → KeyType → Period

@@ -1,6 +1,6 @@
 -- What an accepted request makes of the custody of its key is what the history with it at its end says.
-use Rattle.std.proofs.Common.{◌≡◌, ℕ, Bool, false, not, ◌&&◌, ◌||◌, cond, List, [], ◌∷◌, ◌++◌, filter}
-use Rattle.std.proofs.Common.{None, Some, refl, sym, ap, subst}
+use Rattle.std.proofs.Common.{◌≡◌, ℕ, Bool, false, not, ◌&&◌, ◌||◌, cond, List, [], ◌∷◌, ◌++◌, filter, None, Some, refl}
+use Rattle.std.proofs.Common.{sym, ap, subst, arith}
 use Rattle.std.specs.Prelude.{is_none}
 use Rattle.std.specs.List.{list_any}
 use Rattle.std.specs.Str.{bytes_eq}
@@ -25,7 +25,6 @@ use Rattle.register_core.specs.Settings.{KeyNeed, needs_after, all_needs}
 use Rattle.register_core.specs.Effect.{custody_change}
 use Rattle.register_core.proofs.Settled.{needs_next}
 use Rattle.register_core.proofs.CustodyGrow.{filter_every, all_custodians_grow, all_approvals_grow}
-use Rattle.std.proofs.Common.{arith}
 
 -- ---- a name that is not among those of the key
 

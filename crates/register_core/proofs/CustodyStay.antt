@@ -1,6 +1,6 @@
 -- Who stays as they were: the custody of other keys, and the approvals of a key that is destroyed.
-use Rattle.std.proofs.Common.{◌≡◌, ℕ, Bool, true, false, List, [], ◌∷◌, ◌++◌, filter, Option}
-use Rattle.std.proofs.Common.{None, Some, refl, sym, ap, ◌∙◌}
+use Rattle.std.proofs.Common.{◌≡◌, ℕ, Bool, true, false, List, [], ◌∷◌, ◌++◌, filter, Option, None, Some, refl, sym, ap}
+use Rattle.std.proofs.Common.{◌∙◌, arith}
 use Rattle.std.specs.Prelude.{nat_eq}
 use Rattle.std.proofs.lemmas.List.{append-nil}
 use Rattle.register_requests.specs.declared.request.Request.{Request}
@@ -15,7 +15,6 @@ use Rattle.register_core.proofs.Histories.{key_named}
 use Rattle.register_core.proofs.CustodyLeads.{nobody_changes, custody_lead}
 use Rattle.register_core.proofs.Walks.{names_joined}
 use Rattle.register_core.proofs.OnKey.{IsOn, IsMade, IsOther, on_key}
-use Rattle.std.proofs.Common.{arith}
 
 -- ---- the custody of other keys
 

@@ -1,32 +1,27 @@
 -- Every date of a key is a moment.
-use Rattle.std.proofs.Common.{ℕ, Bool, true, false, cond, List, [], ◌∷◌, ◌++◌, Option}
-use Rattle.std.proofs.Common.{sym, subst, arith}
+use Rattle.std.proofs.Common.{ℕ, Bool, true, false, cond, List, [], ◌∷◌, ◌++◌, Option, sym, subst, arith}
 use Rattle.std.specs.Prelude.{fold}
 use Rattle.std.specs.List.{AllByRecursion}
 use Rattle.std.proofs.lemmas.List.Sums.{fold-append}
 use Rattle.lifecycle_core.specs.declared.dates.Dates.{Dates}
 use Rattle.moment_core.specs.Calendar.{months_after}
 use Rattle.moment_core.specs.Moment.{IsMoment}
-use Rattle.period_core.specs.Fitting.{dates_with_defaults, months_on_date}
-use Rattle.period_core.specs.Fitting.{defaulted_dates_cut_to_limits, with_default_deactivation}
-use Rattle.period_core.specs.Fitting.{with_default_protect_stop}
+use Rattle.period_core.specs.Fitting.{dates_with_defaults, months_on_date, defaulted_dates_cut_to_limits}
+use Rattle.period_core.specs.Fitting.{with_default_deactivation, with_default_protect_stop}
 use Rattle.period_core.specs.Period.{Period}
 use Rattle.register_requests.specs.declared.request.Command.{Command}
 use Rattle.register_requests.specs.declared.request.Command.TheVariants.{Register as Registers, Activate, SetDates}
 use Rattle.register_requests.specs.declared.request.Command.TheVariants.{Revoke, Destroy}
 use Rattle.register_requests.specs.declared.request.Edit.{Edit}
 use Rattle.register_requests.specs.declared.request.Request.{Request}
-use Rattle.register_core.specs.Effect.{dates_after, date_after_edit}
+use Rattle.register_core.specs.Dates.{AreDates}
+use Rattle.register_core.specs.Effect.{dates_after, date_after_edit, unset_dates}
 use Rattle.register_core.specs.Fold.{IsLawful}
 use Rattle.register_core.specs.History.{Placed, count, dates, own_from, period, type}
 use Rattle.register_requests.specs.Request.{IsCommand, IsDate, IsEdit, IsRequest}
-use Rattle.register_requests.specs.Subject.{is_key, key_of}
+use Rattle.register_requests.specs.Subject.{is_key}
+use Rattle.register_requests.specs.Within.Subject.{key_concerned}
 use Rattle.register_core.proofs.Histories.{concerning, placed}
-
-record AreDates (d : Dates) : Type 0 where
-  activation : IsDate d.activation
-  protect_stop : IsDate d.protect_stop
-  deactivation : IsDate d.deactivation
 
 -- ---- what dates are made of
 
@@ -56,7 +51,7 @@ trimmed_in p d are = grind (arith, limit_in)
 
 after : (p : Period) (d : Dates) (t : ℕ) (c : Command) → IsMoment t → IsCommand c → AreDates d
     → AreDates (dates_after p d t c)
-after p d t (Registers kind owner activation protect_stop deactivation purpose) m is are = search (filled_in)
+after p d t (Registers new) m is are = search (filled_in)
 after p d t (Activate key) m is are = search (trimmed_in)
 after p d t (SetDates key activation protect_stop deactivation) m is are = search (filled_in, edited_in)
 after p d t (Revoke key reason occurrence) m is are = grind arith
@@ -71,7 +66,7 @@ module _ (periods : Placed → Period) where
 
   once : (before : List Request) (q : Request) (k : ℕ) (d : Dates) → IsRequest q → AreDates d
       → AreDates (fold step d (concerning before q k))
-  once before q k d is are = by (is_key k (key_of (count before) q.command))
+  once before q k d is are = by (is_key k (key_concerned (count before) q.command))
     where
       by : (b : Bool) → AreDates (fold step d (cond b (placed before q ∷ []) []))
       by true = after (periods (placed before q)) d q.moment q.command is.moment is.command are
@@ -84,8 +79,21 @@ module _ (periods : Placed → Period) where
       subst AreDates (sym (fold-append step d (concerning before q k) (own_from (before ++ q ∷ []) later k)))
       (those_from later (before ++ q ∷ []) k _ all.1 (once before q k d all.0 are))
 
--- the Protect Stop Date of a key is none, or a moment
+none_set : AreDates unset_dates
+none_set = record {
+  initial = omega arith;
+  activation = tt;
+  protect_stop = tt;
+  deactivation = tt;
+  destroy = tt;
+  compromise = tt;
+  compromise_occurrence = tt;
+}
+
+-- each date of a key is none, or a moment
+pub dates_in_range : (h : List Request) → AllByRecursion IsRequest h → (k : ℕ) → AreDates (dates h k)
+dates_in_range h all k = those_from (λ p. period p.before (type h k)) h [] k unset_dates all none_set
+
+-- its Protect Stop Date is
 pub stop_in_range : (h : List Request) → IsLawful h → (k : ℕ) → IsDate (dates h k).protect_stop
-stop_in_range h lawful k =
-    let none : AreDates _ = record { activation = tt; protect_stop = tt; deactivation = tt } in
-    (those_from (λ p. period p.before (type h k)) h [] k _ lawful.in_range none).protect_stop
+stop_in_range h lawful k = (dates_in_range h lawful.in_range k).protect_stop

@@ -1,6 +1,6 @@
 -- What an accepted command makes of the dates of its key: they stay sound, and move only where they may.
-use Rattle.std.proofs.Common.{◌≡◌, ℕ, ◌≤◌, Bool, true, false, not, ◌&&◌, ◌||◌, cond, [], ◌∷◌, Option, None, Some}
-use Rattle.std.proofs.Common.{arith, ◌⊎◌, IsTrue}
+use Rattle.std.proofs.Common.{◌≡◌, ℕ, ◌≤◌, Bool, true, false, not, ◌&&◌, ◌||◌, cond, [], ◌∷◌, Option, None, Some, arith}
+use Rattle.std.proofs.Common.{◌⊎◌, IsTrue}
 use Rattle.std.specs.Prelude.{is_some}
 use Rattle.std.proofs.lemmas.Bool.{le-leb, leb-true, leb-false, and_parts, and_from, cases_lt}
 use Rattle.lifecycle_core.specs.declared.state.State.TheVariants.{PreActive, Active}
@@ -10,23 +10,21 @@ use Rattle.moment_core.specs.Calendar.{months_after}
 use Rattle.moment_core.proofs.Forward.{months_forward}
 use Rattle.period_core.specs.declared.key_type.KeyType.{KeyType}
 use Rattle.period_core.specs.Period.{Period}
-use Rattle.period_core.specs.Fitting.{Fits, cut_to_limit, dates_with_defaults}
-use Rattle.period_core.specs.Fitting.{defaulted_dates_cut_to_limits}
+use Rattle.period_core.specs.Fitting.{Fits, cut_to_limit, dates_with_defaults, defaulted_dates_cut_to_limits}
 use Rattle.register_requests.specs.declared.request.Command.{Command}
 use Rattle.register_requests.specs.declared.request.Command.TheVariants.{Register as Registers, Activate, SetDates}
 use Rattle.register_requests.specs.declared.request.Command.TheVariants.{Revoke, Destroy}
 use Rattle.register_requests.specs.declared.request.Edit.{Edit}
 use Rattle.register_core.specs.declared.view.Held.{Held}
-use Rattle.register_core.specs.Effect.{edited_dates, compromised, deactivated}
-use Rattle.register_core.specs.Effect.{dates_after}
-use Rattle.register_core.specs.Effect.{sets_dates}
+use Rattle.register_core.specs.Within.Effect.{edited_dates, compromised, deactivated}
+use Rattle.register_core.specs.Effect.{dates_after, sets_dates}
 use Rattle.register_requests.specs.CommandRule.{before_compromise, is_one_of, rule}
 use Rattle.register_core.specs.Verdict.{keeps_date, freeze_refusal, dates_refusal}
 use Rattle.register_requests.specs.Subject.{named}
 use Rattle.register_core.specs.Laws.{MovesOnly}
 use Rattle.register_core.proofs.CustodyLeads.{not_refused}
-use Rattle.register_core.proofs.Dating.{KeepsOthers, IsWhole, filled_keeps, trimmed_keeps, trimmed_stop}
-use Rattle.register_core.proofs.Dating.{filled_fits, trimmed_fits}
+use Rattle.register_core.proofs.Dating.{KeepsOthers, IsWhole, filled_keeps, trimmed_keeps, trimmed_stop, filled_fits}
+use Rattle.register_core.proofs.Dating.{trimmed_fits}
 use Rattle.register_core.proofs.Showing.{Shows, is_pre_active, is_early}
 use Rattle.std.proofs.lemmas.Bool.Decides.{nat_tests}
 
@@ -110,7 +108,7 @@ pub step : (ps : KeyType → Period) (before : Period) (key : Held) (t k : ℕ) 
     → is_one_of (rule c).states (state_at key.row.dates t) ≡ true → freeze_refusal (Some key) t c ≡ None
     → dates_refusal ps (Some key) t c ≡ None
     → Steps (cond (sets_dates c) (ps key.kind) before) key.row.dates t (dates_after (ps key.kind) key.row.dates t c)
-step ps before key t k (Registers kind owner activation protect_stop deactivation purpose) names sound fits_state free
+step ps before key t k (Registers new) names sound fits_state free
     fit = cc
 step ps before key t k (Activate n) names sound fits_state free fit =
     let given : Dates = record key.row.dates { activation = Some t } in

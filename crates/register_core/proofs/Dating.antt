@@ -1,16 +1,16 @@
 -- What Fill and Trim make of dates: which they keep, and that dates which they do not refuse fit.
-use Rattle.std.proofs.Common.{◌≡◌, ℕ, Bool, true, ◌&&◌, cond, [], ◌∷◌, Option, None, Some, refl}
-use Rattle.std.proofs.Common.{◌∙◌, arith}
+use Rattle.std.proofs.Common.{◌≡◌, ℕ, Bool, true, ◌&&◌, cond, [], ◌∷◌, Option, None, Some, refl, ◌∙◌, arith}
 use Rattle.std.specs.Prelude.{is_some, is_none}
+use Rattle.std.specs.Option.{option_map}
 use Rattle.lifecycle_core.specs.declared.dates.Dates.{Dates}
 use Rattle.period_core.specs.Period.{Period}
 use Rattle.period_core.specs.declared.date_fitting.DateRefusal.{DateRefusal}
 use Rattle.period_core.specs.declared.date_fitting.DateRefusal.TheVariants.{DateOrder}
-use Rattle.period_core.specs.Fitting.{is_not_after, originator_limit, recipient_limit, Fits}
-use Rattle.period_core.specs.Fitting.{with_default_protect_stop, with_default_deactivation, cut_to_limit}
-use Rattle.period_core.specs.Fitting.{dates_with_defaults, defaulted_dates_cut_to_limits}
-use Rattle.period_core.specs.Fitting.{too_long_refusal, order_refusal, range_refusal, unless_refused, fill_of, trim_of}
-use Rattle.register_core.specs.Verdict.{refused_dates}
+use Rattle.period_core.specs.Fitting.{is_not_after, originator_limit, recipient_limit, Fits, with_default_protect_stop}
+use Rattle.period_core.specs.Fitting.{with_default_deactivation, cut_to_limit, dates_with_defaults}
+use Rattle.period_core.specs.Fitting.{defaulted_dates_cut_to_limits, fill_refusals, first_that_holds, order_refusal}
+use Rattle.period_core.specs.Fitting.{range_refusal, too_long_refusal, trim_refusals}
+use Rattle.register_core.specs.Verdict.{refusal_of_dates}
 use Rattle.register_core.proofs.Filling.{past}
 
 -- ---- what they keep
@@ -81,8 +81,8 @@ pub record IsWhole (d : Dates) : Type 0 where
   pub protect_stop : is_some d.activation ≡ true → is_some d.protect_stop ≡ true
   pub deactivation : is_some d.activation ≡ true → is_some d.deactivation ≡ true
 
-passes : (refusal : Option DateRefusal) (d : Dates) → refused_dates (unless_refused refusal d) ≡ None → refusal ≡ None
-passes refusal d e = grind arith
+passes : (refusal : Option DateRefusal) → option_map refusal_of_dates refusal ≡ None → refusal ≡ None
+passes refusal e = grind arith
 
 ordered : (b : Bool) → ◌≡◌ {A = Option DateRefusal} (cond b None (Some DateOrder)) None → b ≡ true
 ordered b e = grind arith
@@ -93,26 +93,28 @@ limited date limit e = grind arith
 whole : (d : Dates) → range_refusal d ≡ None → IsWhole d
 whole d e = grind arith
 
-pub filled_fits : (period : Period) (d : Dates) → refused_dates (fill_of period d) ≡ None
+pub filled_fits : (period : Period) (d : Dates)
+    → option_map refusal_of_dates (first_that_holds (fill_refusals period d)) ≡ None
     → Fits period (dates_with_defaults period d) × IsWhole (dates_with_defaults period d)
 filled_fits period d e =
     let full = dates_with_defaults period d in
     let originator = too_long_refusal full.protect_stop (originator_limit period full) in
     let recipient = too_long_refusal full.deactivation (recipient_limit period full) in
-    let order = past (order_refusal full) (originator ∷ recipient ∷ range_refusal full ∷ []) (passes _ full e) in
+    let order = past (order_refusal full) (originator ∷ recipient ∷ range_refusal full ∷ []) (passes _ e) in
     let first = past originator (recipient ∷ range_refusal full ∷ []) order.later in
     grind (arith, past, ordered, limited, whole)
 
 cut_within : (date limit : Option ℕ) → is_not_after (cut_to_limit date limit) limit ≡ true
 cut_within date limit = grind arith
 
-pub trimmed_fits : (period : Period) (d : Dates) → refused_dates (trim_of period d) ≡ None
+pub trimmed_fits : (period : Period) (d : Dates)
+    → option_map refusal_of_dates (first_that_holds (trim_refusals period d)) ≡ None
     → Fits period (defaulted_dates_cut_to_limits period d) × IsWhole (defaulted_dates_cut_to_limits period d)
 trimmed_fits period d e =
     let full = defaulted_dates_cut_to_limits period d in
     let first = with_default_protect_stop period d in
     let second = with_default_deactivation period (stopped period d) in
-    let ordering = past (order_refusal full) (range_refusal full ∷ []) (passes _ full e) in
+    let ordering = past (order_refusal full) (range_refusal full ∷ []) (passes _ e) in
     let range = past (range_refusal full) [] ordering.later in
     let limit : originator_limit period full ≡ originator_limit period first =
     grind arith in grind (arith, ordered, trimmed_stop_is, cut_within, whole)

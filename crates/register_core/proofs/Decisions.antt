@@ -1,6 +1,6 @@
 -- What an accepted request changes is what the history with it at its end says of its key and of its custody.
-use Rattle.std.proofs.Common.{◌≡◌, ℕ, ◌+◌, ◌≤◌, nat_le, Bool, true, ◌&&◌, cond, List, [], ◌∷◌, ◌++◌, Option}
-use Rattle.std.proofs.Common.{None, Some, refl, ap, ◌∙◌, arith}
+use Rattle.std.proofs.Common.{◌≡◌, ℕ, ◌+◌, ◌≤◌, nat_le, Bool, true, ◌&&◌, cond, List, [], ◌∷◌, ◌++◌, Option, None, Some}
+use Rattle.std.proofs.Common.{refl, ap, ◌∙◌, arith}
 use Rattle.std.specs.Prelude.{is_some}
 use Rattle.std.specs.Option.{option_and_then}
 use Rattle.lifecycle_core.specs.declared.dates.Dates.{Dates}
@@ -15,9 +15,9 @@ use Rattle.register_core.specs.declared.view.Held.{Held}
 use Rattle.register_core.specs.declared.change.Change.{Change}
 use Rattle.register_core.specs.declared.change.Change.TheVariants as change
 use Rattle.register_core.specs.History.{latest, count, period, type, dates, owner}
-use Rattle.register_requests.specs.Subject.{Registration, Subject, Makes, Names, NoKey, subject, named_by, key_by}
-use Rattle.register_requests.specs.Subject.{key_of, named}
-use Rattle.register_requests.specs.Within.Subject.{count_by}
+use Rattle.register_requests.specs.declared.request.Registration.{Registration}
+use Rattle.register_requests.specs.Subject.{Subject, Makes, Names, NoKey, subject, named_by, key_by, named}
+use Rattle.register_requests.specs.Within.Subject.{key_concerned, count_by}
 use Rattle.register_core.specs.Effect.{given_dates, dates_after, owner_after, row_with_dates_at}
 use Rattle.register_core.specs.Custody.{custodians, approvals, need, held}
 use Rattle.register_core.specs.KeptReply.{reply}
@@ -25,8 +25,7 @@ use Rattle.register_requests.specs.Version.{current}
 use Rattle.register_core.specs.Verdict.{key_refusal, named_key, judgement}
 use Rattle.register_core.specs.CustodyRefusal.{custody_refusal_in}
 use Rattle.register_core.specs.Decision.{change_of_held_key, registered_key, change_of, change_by_request}
-use Rattle.register_core.specs.Decision.{change_without_key}
-use Rattle.register_core.specs.Decision.{reply_to, Stands, LeadsTo}
+use Rattle.register_core.specs.Decision.{change_without_key, reply_to, Stands, LeadsTo}
 use Rattle.register_core.proofs.Histories.{latest_grows, count_grows, key_named, kind_named, owner_named, dates_named}
 use Rattle.register_core.proofs.Histories.{kind_made, owner_made, dates_made}
 use Rattle.register_core.proofs.Filling.{past}
@@ -81,7 +80,7 @@ held_made h q r makes =
 
 -- ---- replies
 
-reply_of_key : (h : List Request) (q : Request) (k : ℕ) (d : Dates) → key_of (count h) q.command ≡ Some k
+reply_of_key : (h : List Request) (q : Request) (k : ℕ) (d : Dates) → key_concerned (count h) q.command ≡ Some k
     → dates (h ++ q ∷ []) k ≡ d →
     record { key = k; state = Some (row_with_dates_at d q.moment).state; moment = q.moment } ≡ reply h q
 reply_of_key h q k d is same = cc
@@ -105,7 +104,7 @@ Agrees h q change = (reply_to (count h) q.moment change ≡ reply h q) × LeadsT
 agrees_made : (h : List Request) (q : Request) (r : Registration) → subject q.command ≡ Makes r
     → Agrees h q (change.Made (registered_key (period h) q.moment r))
 agrees_made h q r makes =
-    let given : Dates = given_dates q.moment r.activation r.protect_stop r.deactivation in
+    let given : Dates = given_dates q.moment r in
     let replies =
     reply_of_key h q (count h + 1) (dates_with_defaults (period h r.kind) given) (ap (key_by (count h)) makes)
     (dates_made h q r makes) in

@@ -1,15 +1,14 @@
 -- The refusals of who asks, of which key and when, in the order in which the code looks for them.
-use Rattle.std.proofs.Common.{◌≡◌, ℕ, Option, None, Some, Result}
+use Rattle.std.proofs.Common.{◌≡◌, ℕ, Option, None, Some, Result, arith}
 use Rattle.std.specs.Prelude.{IsErrAnd}
+use Rattle.period_core.specs.Fitting.{first_that_holds}
 use Rattle.period_core.specs.Within.Fitting.{Checks}
 use Rattle.register_core.specs.declared.reply.Refusal.{Refusal}
 use Rattle.register_requests.specs.declared.request.Request.{Request}
 use Rattle.register_core.specs.declared.view.Held.{Held}
-use Rattle.register_core.specs.Verdict.{giver_refusal, moment_refusal, key_refusal}
-use Rattle.register_core.specs.Verdict.{state_refusal, entry_refusal}
+use Rattle.register_core.specs.Verdict.{giver_refusal, moment_refusal, key_refusal, state_refusal, entry_refusals}
 use Rattle.register_requests.specs.declared.command_rule.Giver.{Giver}
 use Rattle.register_requests.specs.CommandRule.{rule}
-use Rattle.std.proofs.Common.{arith}
 
 -- neither the moment nor the key is refused
 pub record IsIn (last : ℕ) (key : Option Held) (q : Request) : Type 0 where
@@ -19,12 +18,13 @@ pub record IsIn (last : ℕ) (key : Option Held) (q : Request) : Type 0 where
 -- then the refusal of the rule's giver is the first, if there is one,
 pub giver_first : {last : ℕ} {key : Option Held} {q : Request} {giver : Giver} {refusal : Refusal} → IsIn last key q
     → giver ≡ (rule q.command).giver → giver_refusal giver key q.caller ≡ Some refusal
-    → (told : Result (Unit {0}) Refusal) → IsErrAnd told (λ x. x ≡ refusal) → Checks (entry_refusal last key q) told
+    → (told : Result (Unit {0}) Refusal) → IsErrAnd told (λ x. x ≡ refusal)
+    → Checks (first_that_holds (entry_refusals last key q)) told
 giver_first own is refused told tells = grind arith
 
 -- and else that of its states
 pub state_last : {last : ℕ} {key : Option Held} {q : Request} {giver : Giver} → IsIn last key q
     → giver ≡ (rule q.command).giver → giver_refusal giver key q.caller ≡ None
     → (told : Result (Unit {0}) Refusal) → Checks (state_refusal (rule q.command).states key q.moment) told
-    → Checks (entry_refusal last key q) told
+    → Checks (first_that_holds (entry_refusals last key q)) told
 state_last own is none told checked = grind arith

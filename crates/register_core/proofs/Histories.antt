@@ -1,6 +1,6 @@
 -- What a history with one more request at its end says.
-use Rattle.std.proofs.Common.{◌≡◌, ℕ, ◌+◌, ◌≤◌, ◌<◌, false, cond, List, [], ◌∷◌, ◌++◌, length, get_or}
-use Rattle.std.proofs.Common.{take, None, Some, sym, ap, ◌∙◌, arith, append_assoc}
+use Rattle.std.proofs.Common.{◌≡◌, ℕ, ◌+◌, ◌≤◌, ◌<◌, false, cond, List, [], ◌∷◌, ◌++◌, length, get_or, take, None, Some}
+use Rattle.std.proofs.Common.{sym, ap, ◌∙◌, arith, append_assoc}
 use Rattle.std.specs.Prelude.{fold}
 use Rattle.std.proofs.lemmas.List.{length-append, append-nil, take_more}
 use Rattle.std.proofs.lemmas.List.Elements.{filter_map-append}
@@ -11,14 +11,14 @@ use Rattle.period_core.specs.declared.key_type.KeyType.TheVariants.{DataEncrypti
 use Rattle.period_core.specs.Fitting.{dates_with_defaults}
 use Rattle.register_requests.specs.declared.request.Request.{Request}
 use Rattle.register_requests.specs.declared.request.Command.{Command}
-use Rattle.register_core.specs.History.{latest, registrations, count, Placed, own_from, own, period, type, dates}
-use Rattle.register_core.specs.History.{owner, dated_by}
-use Rattle.register_requests.specs.Subject.{Registration, Makes, subject}
-use Rattle.register_requests.specs.Subject.{key_by, registration_of, named, key_of, is_key}
-use Rattle.register_requests.specs.Within.Subject.{made_by}
+use Rattle.register_core.specs.History.{latest, registrations, count, Placed, own_from, own, period, type, dates, owner}
+use Rattle.register_core.specs.History.{dated_by}
+use Rattle.register_requests.specs.declared.request.Registration.{Registration}
+use Rattle.register_requests.specs.Subject.{Makes, subject, key_by, named, is_key}
+use Rattle.register_requests.specs.Within.Subject.{registration_of, key_concerned, made_by}
 use Rattle.register_requests.proofs.Subjects.{is_registration, is_named}
-use Rattle.register_core.specs.Effect.{kind_after, unset_dates, given_dates, dates_after, owner_after}
-use Rattle.register_core.specs.Effect.{sets_dates}
+use Rattle.register_core.specs.Effect.{unset_dates, given_dates, dates_after, owner_after, sets_dates}
+use Rattle.register_core.specs.Within.Effect.{kind_after}
 use Rattle.std.proofs.lemmas.Grind.{common_steps}
 
 -- ---- lists with one more
@@ -39,7 +39,7 @@ placed h q = record { before = h; request = q }
 
 -- the same, where it makes or names key k
 abbrev pub concerning : List Request → Request → ℕ → List Placed
-concerning h q k = cond (is_key k (key_of (count h) q.command)) (placed h q ∷ []) []
+concerning h q k = cond (is_key k (key_concerned (count h) q.command)) (placed h q ∷ []) []
 
 pub own_grows_from : (before h : List Request) (q : Request) (k : ℕ)
     → own_from before (h ++ q ∷ []) k ≡ own_from before h k ++ concerning (before ++ h) q k
@@ -50,19 +50,19 @@ pub own_grows : (h : List Request) (q : Request) (k : ℕ) → own (h ++ q ∷ [
 own_grows h q k = own_grows_from [] h q k
 
 -- a command that names no key concerns none that was there before
-pub not_concerned : (c : Command) (keys k : ℕ) → k ≤ keys → named c ≡ None → is_key k (key_of keys c) ≡ false
+pub not_concerned : (c : Command) (keys k : ℕ) → k ≤ keys → named c ≡ None → is_key k (key_concerned keys c) ≡ false
 not_concerned c keys k le none = grind arith
 
 -- a command that names a key makes none
-pub key_named : (c : Command) (keys k : ℕ) → named c ≡ Some k → key_of keys c ≡ Some k
+pub key_named : (c : Command) (keys k : ℕ) → named c ≡ Some k → key_concerned keys c ≡ Some k
 key_named c keys k names = ap (key_by keys) (is_named (subject c) k names)
 
-pub own_same : (h : List Request) (q : Request) (k : ℕ) → is_key k (key_of (count h) q.command) ≡ false
+pub own_same : (h : List Request) (q : Request) (k : ℕ) → is_key k (key_concerned (count h) q.command) ≡ false
     → own (h ++ q ∷ []) k ≡ own h k
 own_same h q k other = grind (arith, own_grows, append-nil)
 
 -- the requests of the key that a command makes or names end with it
-pub own_ends : (h : List Request) (q : Request) (k : ℕ) → key_of (count h) q.command ≡ Some k
+pub own_ends : (h : List Request) (q : Request) (k : ℕ) → key_concerned (count h) q.command ≡ Some k
     → own (h ++ q ∷ []) k ≡ own h k ++ placed h q ∷ []
 own_ends h q k is = grind (arith, own_grows)
 
@@ -78,30 +78,30 @@ abbrev pub dates_step : KeyType → Dates → Placed → Dates
 dates_step kind d p = dates_after (period p.before kind) d p.request.moment p.request.command
 
 fold_same : {X : Type 0} (step : X → Placed → X) (first : X) (h : List Request) (q : Request) (k : ℕ)
-    → is_key k (key_of (count h) q.command) ≡ false
+    → is_key k (key_concerned (count h) q.command) ≡ false
     → fold step first (own (h ++ q ∷ []) k) ≡ fold step first (own h k)
 fold_same step first h q k other = ap (fold step first) (own_same h q k other)
 
 fold_ends : {X : Type 0} (step : X → Placed → X) (first : X) (h : List Request) (q : Request) (k : ℕ)
-    → key_of (count h) q.command ≡ Some k
+    → key_concerned (count h) q.command ≡ Some k
     → fold step first (own (h ++ q ∷ []) k) ≡ step (fold step first (own h k)) (placed h q)
 fold_ends step first h q k is = simp (own_ends, fold-append)
 
 -- ---- a request of another key
 
-pub kind_other : (h : List Request) (q : Request) (k : ℕ) → is_key k (key_of (count h) q.command) ≡ false
+pub kind_other : (h : List Request) (q : Request) (k : ℕ) → is_key k (key_concerned (count h) q.command) ≡ false
     → type (h ++ q ∷ []) k ≡ type h k
 kind_other h q k other = fold_same kind_step DataEncryption h q k other
 
-pub owner_other : (h : List Request) (q : Request) (k : ℕ) → is_key k (key_of (count h) q.command) ≡ false
+pub owner_other : (h : List Request) (q : Request) (k : ℕ) → is_key k (key_concerned (count h) q.command) ≡ false
     → owner (h ++ q ∷ []) k ≡ owner h k
 owner_other h q k other = fold_same owner_step [] h q k other
 
-pub dates_other : (h : List Request) (q : Request) (k : ℕ) → is_key k (key_of (count h) q.command) ≡ false
+pub dates_other : (h : List Request) (q : Request) (k : ℕ) → is_key k (key_concerned (count h) q.command) ≡ false
     → dates (h ++ q ∷ []) k ≡ dates h k
 dates_other h q k other = grind (arith, own_same)
 
-pub dated_other : (h : List Request) (q : Request) (k : ℕ) → is_key k (key_of (count h) q.command) ≡ false
+pub dated_other : (h : List Request) (q : Request) (k : ℕ) → is_key k (key_concerned (count h) q.command) ≡ false
     → dated_by (h ++ q ∷ []) k ≡ dated_by h k
 dated_other h q k other = grind (arith, own_same)
 
@@ -134,7 +134,7 @@ owner_made h q r makes = grind (arith, fold_ends)
 
 pub dates_made : (h : List Request) (q : Request) (r : Registration) → subject q.command ≡ Makes r →
     dates (h ++ q ∷ []) (count h + 1)
-    ≡ dates_with_defaults (period h r.kind) (given_dates q.moment r.activation r.protect_stop r.deactivation)
+    ≡ dates_with_defaults (period h r.kind) (given_dates q.moment r)
 dates_made h q r makes =
     let before : Dates = fold (dates_step r.kind) unset_dates (own h (count h + 1)) in
     rw (
@@ -163,14 +163,14 @@ pub fold_next : {X : Type 0} (step : X → Placed → X) (first : X) (h : List R
     let prefix = take i h in
     let before = fold step first (own prefix k) in
     fold step first (own (take (i + 1) h) k)
-    ≡ cond (is_key k (key_of (count prefix) q.command)) (step before (placed prefix q)) before
+    ≡ cond (is_key k (key_concerned (count prefix) q.command)) (step before (placed prefix q)) before
 fold_next step first h i q k lt is = grind (arith, common_steps, own_grows)
 
 -- The same of a loop over the history, which knows what the prefix gave, and how many keys it made.
 pub fold_with : {X : Type 0} (step : X → Placed → X) (first : X) (h : List Request) (k : ℕ)
     {i : ℕ} {q : Request} {made : ℕ} {before after : X} → i < length h → q ≡ get_or h i q
     → made ≡ count (take i h) → before ≡ fold step first (own (take i h) k)
-    → after ≡ cond (is_key k (key_of made q.command)) (step before (placed (take i h) q)) before
+    → after ≡ cond (is_key k (key_concerned made q.command)) (step before (placed (take i h) q)) before
     → after ≡ fold step first (own (take (i + 1) h) k)
 fold_with {X} step first h k {i} {q} {made} {before} lt is counted given now = grind (arith, fold_next)
 

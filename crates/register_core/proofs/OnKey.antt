@@ -13,8 +13,9 @@ use Rattle.std.specs.Option.{option_and_then}
 use Rattle.register_core.specs.Custody.{held}
 use Rattle.register_core.specs.Effect.{given_dates}
 use Rattle.register_core.specs.History.{latest, count, period, dates}
-use Rattle.register_requests.specs.Subject.{Registration, Subject, Makes, Names, NoKey, subject, key_by}
-use Rattle.register_requests.specs.Subject.{key_of, is_key, named}
+use Rattle.register_requests.specs.declared.request.Registration.{Registration}
+use Rattle.register_requests.specs.Subject.{Subject, Makes, Names, NoKey, subject, key_by, is_key, named}
+use Rattle.register_requests.specs.Within.Subject.{key_concerned}
 use Rattle.register_requests.specs.CommandRule.{is_one_of, rule}
 use Rattle.register_core.specs.Verdict.{giver_refusal, freeze_refusal, dates_refusal, occurrence_refusal, judge}
 use Rattle.register_core.specs.Verdict.{judgement}
@@ -85,7 +86,7 @@ pub record IsMade (h : List Request) (q : Request) (k : ℕ) : Type 0 where
 
 -- the dates that the registration was given
 abbrev pub given_to : Request → Registration → Dates
-given_to q r = given_dates q.moment r.activation r.protect_stop r.deactivation
+given_to q r = given_dates q.moment r
 
 pub dates_when_made : (h : List Request) (q : Request) (k : ℕ) (made : IsMade h q k)
     → dates (h ++ q ∷ []) k ≡ dates_with_defaults (period h made.registration.kind) (given_to q made.registration)
@@ -94,7 +95,7 @@ dates_when_made h q k made = ap (dates (h ++ q ∷ [])) made.next ∙ dates_made
 -- it neither makes nor names it
 pub record IsOther (h : List Request) (q : Request) (k : ℕ) : Type 0 where
   pub high : k ≤ count h
-  pub other : is_key k (key_of (count h) q.command) ≡ false
+  pub other : is_key k (key_concerned (count h) q.command) ≡ false
 
 abbrev pub Concerns : List Request → Request → ℕ → Type 0
 Concerns h q k = IsMade h q k ⊎ IsOn h q k ⊎ IsOther h q k

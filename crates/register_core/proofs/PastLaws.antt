@@ -1,6 +1,5 @@
 -- What was done to a key of a lawful history is not later than the latest moment.
-use Rattle.std.proofs.Common.{◌≡◌, ℕ, ◌≤◌, List, [], ◌∷◌, ◌++◌, None, Some, IsTrue}
-use Rattle.std.proofs.Common.{arith, inl, inr}
+use Rattle.std.proofs.Common.{◌≡◌, ℕ, ◌≤◌, List, [], ◌∷◌, ◌++◌, None, Some, IsTrue, arith, inl, inr}
 use Rattle.lifecycle_core.specs.declared.dates.Dates.{Dates}
 use Rattle.period_core.specs.Period.{Period}
 use Rattle.period_core.specs.Fitting.{is_not_after}
@@ -31,7 +30,7 @@ later t u d le past = grind arith
 -- what the command that names the key at t makes of its dates
 past_after : (p : Period) (d : Dates) (t k : ℕ) (c : Command) → named c ≡ Some k → occurrence_refusal t c ≡ None
     → IsPast t d → IsPast t (dates_after p d t c)
-past_after p d t k (Registers of_kind owner activation protect_stop deactivation purpose) names early past = cc
+past_after p d t k (Registers new) names early past = cc
 past_after p d t k (Activate key) names early past = grind arith
 past_after p d t k (SetDates key activation protect_stop deactivation) names early past = grind arith
 past_after p d t k (Revoke key reason occurrence) names early past = grind arith

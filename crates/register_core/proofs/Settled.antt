@@ -13,7 +13,8 @@ use Rattle.period_core.specs.KeyType.{key_type_code}
 use Rattle.period_core.specs.Period.{Period}
 use Rattle.register_core.specs.Effect.{need_after, period_after}
 use Rattle.register_core.specs.History.{Placed, own_from, set_period}
-use Rattle.register_core.specs.Custody.{set_need, need}
+use Rattle.register_core.specs.Custody.{need}
+use Rattle.register_core.specs.Within.Custody.{set_need}
 use Rattle.register_requests.specs.Quorum.{min_approvals, IsQuorum}
 use Rattle.register_requests.specs.Request.{IsRequest}
 use Rattle.register_core.specs.Settings.{KeyNeed, TypePeriod, needs_after, all_needs, need_at}

@@ -1,6 +1,6 @@
 -- Where the office set no period of a type, its keys' dates were all set by the type's own.
-use Rattle.std.proofs.Common.{◌≡◌, ℕ, false, cond, List, [], ◌∷◌, ◌++◌, Option, None}
-use Rattle.std.proofs.Common.{Some, refl, sym, subst, ◌∙◌, append_assoc}
+use Rattle.std.proofs.Common.{◌≡◌, ℕ, false, cond, List, [], ◌∷◌, ◌++◌, Option, None, Some, refl, sym, subst, ◌∙◌}
+use Rattle.std.proofs.Common.{append_assoc, arith}
 use Rattle.std.specs.Prelude.{fold}
 use Rattle.std.proofs.lemmas.List.Sums.{fold-append}
 use Rattle.period_core.specs.declared.key_type.KeyType.{KeyType}
@@ -14,7 +14,6 @@ use Rattle.register_core.specs.History.{Placed, dates, own_from, period, set_per
 use Rattle.register_core.specs.Laws.{HasKey}
 use Rattle.register_core.proofs.Histories.{concerning}
 use Rattle.register_core.proofs.DateLaws.{all_sound}
-use Rattle.std.proofs.Common.{arith}
 
 abbrev step : KeyType → Option Period → Request → Option Period
 step kind before q = period_after kind before q.command

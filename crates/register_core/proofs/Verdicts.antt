@@ -1,15 +1,16 @@
 -- A verdict beside the judgement that it rests on, and beside what is kept.
-use Rattle.std.proofs.Common.{◌≡◌, true, false, List, [], ◌∷◌, Option, None}
+use Rattle.std.proofs.Common.{◌≡◌, true, false, List, [], ◌∷◌, Option, None, refl, arith}
 use Rattle.register_core.specs.declared.kept_reply.KeptReply.{KeptReply}
 use Rattle.register_requests.specs.declared.request.Request.{Request}
 use Rattle.register_requests.specs.declared.version.Version.{Version}
 use Rattle.register_requests.specs.declared.request.Command.{Command}
 use Rattle.register_core.specs.declared.reply.Refusal.{Refusal}
+use Rattle.register_core.specs.declared.reply.Reply.{Reply}
+use Rattle.register_core.specs.Answer.{outcome}
 use Rattle.register_core.specs.KeptReply.{kept, kept_under}
 use Rattle.register_requests.specs.Version.{knows}
-use Rattle.register_core.specs.Verdict.{Verdict, Accepts, verdict, verdict_by, judgement}
-use Rattle.register_core.specs.Verdict.{judgement_in, verdict_in, is_accepted, repeated, unless_kept}
-use Rattle.std.proofs.Common.{arith}
+use Rattle.register_core.specs.Verdict.{Verdict, Accepts, Repeats, Refuses, answer_by, told, verdict, verdict_by}
+use Rattle.register_core.specs.Verdict.{judgement, judgement_in, verdict_in, is_accepted, repeated, unless_kept}
 
 none_by : (j : Option Refusal) → verdict_by j ≡ Accepts → j ≡ None
 none_by j e = grind arith
@@ -48,3 +49,9 @@ no_longer_accepted before c = grind arith
 pub verdict_again : (h : List Request) (q : Request) (before : KeptReply) (more : List KeptReply)
     → kept_under q.caller q.number (kept h) ≡ before ∷ more → verdict h q ≡ repeated before q.command
 verdict_again h q before more found = cc
+
+-- what a verdict tells is what the answer by it comes to
+pub told_is : (v : Verdict) (new : Reply) → told v new ≡ outcome (answer_by v new)
+told_is Accepts new = refl
+told_is (Repeats first) new = refl
+told_is (Refuses refusal) new = refl

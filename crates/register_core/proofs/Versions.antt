@@ -1,6 +1,6 @@
 -- What is lawful in a version is lawful in this program's, and answered alike; and what the first version sets.
-use Rattle.std.proofs.Common.{◌≡◌, ℕ, true, List, [], ◌∷◌, ◌++◌, fold, Option, None, Some}
-use Rattle.std.proofs.Common.{Result, refl, sym, ap, ◌∙◌, arith}
+use Rattle.std.proofs.Common.{◌≡◌, ℕ, true, List, [], ◌∷◌, ◌++◌, fold, Option, None, Some, Result, refl, sym, ap, ◌∙◌}
+use Rattle.std.proofs.Common.{arith}
 use Rattle.std.specs.Prelude.{IfSome}
 use Rattle.std.specs.List.{AllByRecursion}
 use Rattle.std.proofs.lemmas.List.{map-append}
@@ -13,17 +13,14 @@ use Rattle.register_core.specs.declared.reply.Reply.{Reply}
 use Rattle.register_requests.specs.declared.version.Version.{Version}
 use Rattle.register_requests.specs.declared.version.Version.TheVariants.{First}
 use Rattle.register_core.specs.declared.view.Held.{Held}
-use Rattle.register_core.specs.Answer.{outcome}
 use Rattle.register_core.specs.Effect.{period_after}
-use Rattle.register_core.specs.Fold.{answers_in, history_after_in, history_in}
-use Rattle.register_core.specs.Fold.{items, IsLawful, IsLawfulIn}
+use Rattle.register_core.specs.Fold.{answers_in, history_after_in, history_in, items, IsLawful, IsLawfulIn}
 use Rattle.register_core.specs.History.{set_period}
 use Rattle.register_core.specs.KeptReply.{reply}
 use Rattle.register_requests.specs.Request.{IsRequest}
 use Rattle.register_core.specs.Settings.{KeyNeed, TypePeriod, all_needs, all_periods, needs_after, periods_after}
-use Rattle.register_core.specs.Verdict.{Accepts, answer_by, judge_in, judgement}
-use Rattle.register_core.specs.Verdict.{verdict, verdict_in}
-use Rattle.register_requests.specs.Version.{current, is_of_first, knows}
+use Rattle.register_core.specs.Verdict.{Accepts, told, judge_in, judgement, verdict, verdict_in}
+use Rattle.register_requests.specs.Version.{current, knows}
 use Rattle.register_core.proofs.Folds.{answers_push}
 use Rattle.register_core.proofs.Lawful.{all_but_last, all_more, holds_in, lawful_after_in, lawful_with}
 use Rattle.register_core.proofs.Verdicts.{judged_in}
@@ -47,7 +44,7 @@ answered version h = answers_in version [] (items h)
 
 answered_more : (version : Version) (h : List Request) (q : Request) → IsLawfulIn version h
     → verdict_in version h q ≡ Accepts
-    → answered version (h ++ q ∷ []) ≡ answered version h ++ outcome (answer_by Accepts (reply h q)) ∷ []
+    → answered version (h ++ q ∷ []) ≡ answered version h ++ told Accepts (reply h q) ∷ []
 answered_more version h q lawful accepted = grind (arith, map-append, answers_push)
 
 abbrev IsKnown : Version → Request → Type 0
@@ -72,7 +69,7 @@ module _ (version : Version) where
         lawful = lawful_with h q parts.1 so.lawful next.1;
         known = all_more (IsKnown version) h q so.known (judged_in version h q accepted).known;
         answers = answered_more current h q so.lawful next.1
-            ∙ ap (λ l. l ++ outcome (answer_by Accepts (reply h q)) ∷ []) so.answers
+            ∙ ap (λ l. l ++ told Accepts (reply h q) ∷ []) so.answers
             ∙ sym (answered_more version h q lawful accepted);
       }
 
@@ -119,13 +116,13 @@ module _ {X : Type 0} (step : X → Request → X) (start : X) (stays_so : (q : 
   unmoved [] all = refl
   unmoved (q ∷ later) all = ap (λ x. fold step x later) (stays_so q all.0) ∙ unmoved later all.1
 
-no_period_by : (kind : KeyType) (c : Command) → is_of_first c ≡ true → period_after kind None c ≡ None
+no_period_by : (kind : KeyType) (c : Command) → knows First c ≡ true → period_after kind None c ≡ None
 no_period_by kind c e = grind arith
 
-no_periods_by : (c : Command) → is_of_first c ≡ true → periods_after [] c ≡ []
+no_periods_by : (c : Command) → knows First c ≡ true → periods_after [] c ≡ []
 no_periods_by c e = grind arith
 
-no_needs_by : (c : Command) → is_of_first c ≡ true → needs_after [] c ≡ []
+no_needs_by : (c : Command) → knows First c ≡ true → needs_after [] c ≡ []
 no_needs_by c e = grind arith
 
 module _ (h : List Request) (lawful : IsLawfulIn First h) where

@@ -20,7 +20,7 @@ use Rattle.register_requests.specs.Quorum.{min_approvals}
 
 -- the custodian that a command adds
 abbrev pub added_by : Command → List (KeyName)
-added_by (AddCustodian key name) = key_name key name ∷ []
+added_by (AddCustodian key name) = record { key = key; name = name } ∷ []
 added_by _ = []
 
 -- the command adds this custodian, or removes it
@@ -29,18 +29,14 @@ is_about entry (AddCustodian key name) = is_key_name key name entry
 is_about entry (RemoveCustodian key name) = is_key_name key name entry
 is_about entry _ = false
 
--- none of the later requests does
+-- no later request adds this custodian again or removes it
 abbrev pub stays_custodian : List Request → KeyName → Bool
 stays_custodian later entry = not (list_any (λ q. is_about entry q.command) later)
-
--- the custodian that a request adds, where the later ones let it stay
-abbrev pub custodian_of : Request → List Request → List (KeyName)
-custodian_of q later = filter (stays_custodian later) (added_by q.command)
 
 -- the custodians of all keys: each that was added, and later neither added again nor removed
 abbrev pub all_custodians : List Request → List (KeyName)
 all_custodians [] = []
-all_custodians (q ∷ later) = custodian_of q later ++ all_custodians later
+all_custodians (q ∷ later) = filter (stays_custodian later) (added_by q.command) ++ all_custodians later
 
 -- the custodians of key k, in order of their bytes
 abbrev pub custodians : List Request → ℕ → List (List ℕ)
@@ -50,7 +46,7 @@ custodians h k = sorted_names (names_at k (all_custodians h))
 
 -- the approval that a caller's command gives
 abbrev pub approved_by : List ℕ → Command → List (KeyName)
-approved_by caller (Approve key) = key_name key caller ∷ []
+approved_by caller (Approve key) = record { key = key; name = caller } ∷ []
 approved_by caller _ = []
 
 -- The caller's command, after these requests, ends the approval: it is withdrawn or given anew, its custodian is
@@ -68,15 +64,12 @@ abbrev pub is_ended : List Request → KeyName → List Request → Bool
 is_ended before entry [] = false
 is_ended before entry (q ∷ later) = ends_by before entry q.caller q.command || is_ended (before ++ q ∷ []) entry later
 
--- the approval that a request between these gives, where no later one ends it
-abbrev pub approval_of : List Request → Request → List Request → List (KeyName)
-approval_of before q later =
-    filter (λ entry. not (is_ended (before ++ q ∷ []) entry later)) (approved_by q.caller q.command)
-
 -- the approvals that the later requests, which follow these, gave and did not end
 abbrev pub approvals_from : List Request → List Request → List (KeyName)
 approvals_from before [] = []
-approvals_from before (q ∷ later) = approval_of before q later ++ approvals_from (before ++ q ∷ []) later
+approvals_from before (q ∷ later) =
+    filter (λ entry. not (is_ended (before ++ q ∷ []) entry later)) (approved_by q.caller q.command)
+    ++ approvals_from (before ++ q ∷ []) later
 
 -- the approvals of the destruction of all keys: each that was given, and that nothing later ended
 abbrev pub all_approvals : List Request → List (KeyName)
@@ -86,13 +79,9 @@ all_approvals h = approvals_from [] h
 abbrev pub approvals : List Request → ℕ → List (List ℕ)
 approvals h k = sorted_names (names_at k (all_approvals h))
 
--- how many the owner of key k asked for last, if it asked for a number
-abbrev pub set_need : List Request → ℕ → Option ℕ
-set_need h k = fold (λ before p. need_after before p.request.command) None (own h k)
-
 -- how many approvals the destruction of key k needs (own)
 abbrev pub need : List Request → ℕ → ℕ
-need h k = unwrap_or (set_need h k) min_approvals
+need h k = unwrap_or (fold (λ before p. need_after before p.request.command) None (own h k)) min_approvals
 
 -- ---- a key as it stands
 

@@ -14,6 +14,7 @@ use Rattle.register_requests.specs.Name.{is_among}
 use Rattle.register_requests.specs.declared.version.Version.{Version}
 use Rattle.register_requests.specs.Version.{custodians_of}
 
+-- this refusal, where its condition holds
 abbrev pub refused_if : Bool → Refusal → Option Refusal
 refused_if holds refusal = if holds then Some refusal else None
 
@@ -26,19 +27,18 @@ addition_refusals version held name =
     ∷ refused_if (bytes_eq name held.owner) OwnerCustodian
     ∷ []
 
--- the refusal of a caller's command on the custody of a key that stands so
-abbrev pub custody_refusal_of : Version → Held → List ℕ → Command → Option Refusal
-custody_refusal_of version held caller (AddCustodian key name) =
-    first_that_holds (addition_refusals version held name)
-custody_refusal_of version held caller (RemoveCustodian key name) =
-    refused_if (not (is_among name held.custodians)) NoSuchCustodian
-custody_refusal_of version held caller (Assign key owner) = refused_if (is_among owner held.custodians) OwnerCustodian
-custody_refusal_of version held caller (Approve key) = refused_if (is_among caller held.approvals) AlreadyApproved
-custody_refusal_of version held caller (Withdraw key) = refused_if (not (is_among caller held.approvals)) NoApproval
-custody_refusal_of version held caller (Destroy key) =
-    let have = length held.approvals in refused_if (nat_lt have held.need) (ApprovalsMissing have held.need)
-custody_refusal_of version held caller _ = None
-
+-- the refusal of a caller's command on the custody of a key that stands so; of a key that is not there, none
 abbrev pub custody_refusal_in : Version → Option Held → List ℕ → Command → Option Refusal
-custody_refusal_in version None caller c = None
-custody_refusal_in version (Some held) caller c = custody_refusal_of version held caller c
+custody_refusal_in version (Some held) caller (AddCustodian key name) =
+    first_that_holds (addition_refusals version held name)
+custody_refusal_in version (Some held) caller (RemoveCustodian key name) =
+    refused_if (not (is_among name held.custodians)) NoSuchCustodian
+custody_refusal_in version (Some held) caller (Assign key owner) =
+    refused_if (is_among owner held.custodians) OwnerCustodian
+custody_refusal_in version (Some held) caller (Approve key) =
+    refused_if (is_among caller held.approvals) AlreadyApproved
+custody_refusal_in version (Some held) caller (Withdraw key) =
+    refused_if (not (is_among caller held.approvals)) NoApproval
+custody_refusal_in version (Some held) caller (Destroy key) =
+    let have = length held.approvals in refused_if (nat_lt have held.need) (ApprovalsMissing have held.need)
+custody_refusal_in version _ caller _ = None

@@ -13,8 +13,7 @@ use Rattle.register_core.specs.declared.view.Held.{Held}
 use Rattle.register_core.specs.declared.view.View.{View}
 use Rattle.register_core.specs.declared.change.CustodyChange.{CustodyChange}
 use Rattle.register_core.specs.declared.change.CustodyChange.TheVariants.{Kept, CustodianAdded, CustodianRemoved}
-use Rattle.register_core.specs.declared.change.CustodyChange.TheVariants.{Approved, Withdrawn, ApprovalsEnded}
-use Rattle.register_core.specs.declared.change.CustodyChange.TheVariants.{NeedSet}
+use Rattle.register_core.specs.declared.change.CustodyChange.TheVariants.{Approved, Withdrawn, ApprovalsEnded, NeedSet}
 use Rattle.register_core.specs.declared.change.Change.{Change}
 use Rattle.register_core.specs.declared.change.Change.TheVariants as change
 use Rattle.register_core.specs.History.{set_period, latest, count, period, type}
@@ -22,9 +21,10 @@ use Rattle.register_core.specs.Settings.{KeyNeed, TypePeriod, with_need, with_pe
 use Rattle.register_core.specs.Custody.{all_custodians, custodians, all_approvals, approvals, need, held}
 use Rattle.register_core.specs.declared.key.Key.{Key}
 use Rattle.register_core.specs.Verdict.{named_key}
-use Rattle.register_requests.specs.Subject.{Registration, Subject, Makes, Names, NoKey, subject}
-use Rattle.register_core.specs.Effect.{given_dates, dates_after, owner_after, row_with_dates_at}
-use Rattle.register_core.specs.Effect.{custody_change, needed_period_type}
+use Rattle.register_requests.specs.declared.request.Registration.{Registration}
+use Rattle.register_requests.specs.Subject.{Subject, Makes, Names, NoKey, subject}
+use Rattle.register_core.specs.Effect.{given_dates, dates_after, owner_after, row_with_dates_at, custody_change}
+use Rattle.register_core.specs.Effect.{needed_period_type}
 use Rattle.register_core.specs.KeyName.{is_key_name, is_at, KeyName, key_name}
 
 -- what an accepted request makes of the key that it names by this number, by these periods of the types
@@ -41,7 +41,7 @@ registered_key periods t new = record {
   owner = new.owner;
   purpose = new.purpose;
   row = row_with_dates_at
-      (dates_with_defaults (periods new.kind) (given_dates t new.activation new.protect_stop new.deactivation)) t;
+      (dates_with_defaults (periods new.kind) (given_dates t new)) t;
 }
 
 -- what an accepted command that is about no key changes of what the register keeps besides keys
@@ -56,6 +56,7 @@ change_of periods (Names key) None q = change.Nothing
 change_of periods (Names key) (Some held) q = change_of_held_key periods key held q
 change_of periods NoKey key q = change_without_key q.command
 
+-- what an accepted request changes, where the key that it names stands so
 abbrev pub change_by_request : (KeyType → Period) → Option Held → Request → Change
 change_by_request periods key q = change_of periods (subject q.command) key q
 
@@ -90,7 +91,7 @@ custodians_by key (CustodianAdded name) entries = entries ++ key_name key name �
 custodians_by key (CustodianRemoved name) entries = filter (λ entry. not (is_key_name key name entry)) entries
 custodians_by key _ entries = entries
 
--- and of all approvals
+-- what the change of a key's custody makes of the approvals of all keys
 abbrev pub approvals_by : ℕ → CustodyChange → List (KeyName) → List (KeyName)
 approvals_by key (CustodianRemoved name) entries = filter (λ entry. not (is_key_name key name entry)) entries
 approvals_by key (Approved name) entries = entries ++ key_name key name ∷ []
@@ -98,7 +99,7 @@ approvals_by key (Withdrawn name) entries = filter (λ entry. not (is_key_name k
 approvals_by key ApprovalsEnded entries = filter (λ entry. not (is_at key entry)) entries
 approvals_by key _ entries = entries
 
--- and of the needs that are set
+-- what the change of a key's custody makes of the needs that are set
 abbrev pub needs_by : ℕ → CustodyChange → List KeyNeed → List KeyNeed
 needs_by key (NeedSet need) sets = with_need key need sets
 needs_by key _ sets = sets

@@ -1,6 +1,6 @@
 -- What a command does to a key: to its type, its owner, its dates and its custody.
-use Rattle.std.specs.Prelude.{ℕ, min, ◌==◌, Bool, true, false, unwrap_or, ◌&&◌, List, Option, None, Some, is_none}
-use Rattle.std.specs.Prelude.{if◌then◌else◌, Result, Ok}
+use Rattle.std.specs.Prelude.{ℕ, ◌==◌, Bool, true, false, unwrap_or, ◌&&◌, List, [], Option, None, Some, is_none}
+use Rattle.std.specs.Prelude.{if◌then◌else◌}
 use Rattle.lifecycle_core.specs.declared.dates.Dates.{Dates}
 use Rattle.lifecycle_core.specs.declared.row.Row.{Row}
 use Rattle.lifecycle_core.specs.State.{state_at}
@@ -9,11 +9,13 @@ use Rattle.period_core.specs.declared.key_type.KeyType.{KeyType}
 use Rattle.period_core.specs.KeyType.{key_type_code}
 use Rattle.period_core.specs.Period.{Period}
 use Rattle.period_core.specs.declared.date_fitting.DateRefusal.{DateRefusal}
-use Rattle.period_core.specs.Fitting.{dates_with_defaults, defaulted_dates_cut_to_limits, fill_of, trim_of}
+use Rattle.period_core.specs.Fitting.{cut_to_limit, dates_with_defaults, defaulted_dates_cut_to_limits}
+use Rattle.period_core.specs.Fitting.{fill_refusals, trim_refusals}
 use Rattle.register_requests.specs.declared.request.Command.{Command}
 use Rattle.register_requests.specs.declared.request.Command.TheVariants.{Register, Activate, SetDates, Revoke, Assign}
 use Rattle.register_requests.specs.declared.request.Command.TheVariants.{AddCustodian, RemoveCustodian, Approve}
 use Rattle.register_requests.specs.declared.request.Command.TheVariants.{Withdraw, Destroy, SetQuorum, SetPeriod}
+use Rattle.register_requests.specs.declared.request.Registration.{Registration}
 use Rattle.register_requests.specs.declared.request.Edit.{Edit}
 use Rattle.register_requests.specs.declared.request.Edit.TheVariants.{Keep, Clear, Set}
 use Rattle.register_core.specs.declared.fitting.Fitting.{Fitting}
@@ -24,18 +26,15 @@ use Rattle.register_core.specs.declared.change.CustodyChange.TheVariants.{Kept, 
 use Rattle.register_core.specs.declared.change.CustodyChange.TheVariants.{Approved, Withdrawn, ApprovalsEnded, NeedSet}
 use Rattle.register_requests.specs.Subject.{Subject, Makes, Names, NoKey, subject}
 
+-- the type of a key after a command about it: a registration gives it, and no other command changes it
 abbrev pub kind_by : KeyType → Subject → KeyType
 kind_by before (Makes registration) = registration.kind
 kind_by before (Names key) = before
 kind_by before NoKey = before
 
--- the type after a command: a registration gives it, and nothing changes it
-abbrev pub kind_after : KeyType → Command → KeyType
-kind_after before c = kind_by before (subject c)
-
 -- the owner after a command
 abbrev pub owner_after : List ℕ → Command → List ℕ
-owner_after before (Register kind owner activation protect_stop deactivation purpose) = owner
+owner_after before (Register new) = new.owner
 owner_after before (Assign key owner) = owner
 owner_after before _ = before
 
@@ -50,60 +49,43 @@ abbrev pub dates_before : Option Held → Dates
 dates_before None = unset_dates
 dates_before (Some held) = held.row.dates
 
--- the dates that a registration at the moment t gives, before Fill
-abbrev pub given_dates : ℕ → Option ℕ → Option ℕ → Option ℕ → Dates
-given_dates t activation protect_stop deactivation =
-    record unset_dates {
-      initial = t;
-      activation = activation;
-      protect_stop = protect_stop;
-      deactivation = deactivation;
-    }
-
+-- what an edit makes of a date: the same, none, or another
 abbrev pub date_after_edit : Edit → Option ℕ → Option ℕ
 date_after_edit Keep before = before
 date_after_edit Clear before = None
 date_after_edit (Set date) before = Some date
 
--- the dates with these edits, before Fill
-abbrev pub edited_dates : Edit → Edit → Edit → Dates → Dates
-edited_dates activation protect_stop deactivation d =
-    record d {
-      activation = date_after_edit activation d.activation;
-      protect_stop = date_after_edit protect_stop d.protect_stop;
-      deactivation =
-          date_after_edit deactivation d.deactivation;
-    }
-
--- a date that is later than t becomes t
-abbrev pub cut_date_at : ℕ → Option ℕ → Option ℕ
-cut_date_at t None = None
-cut_date_at t (Some date) = Some (min date t)
-
--- a key that is compromised at t, with the occurrence that is given, or the Initial Date
-abbrev pub compromised : ℕ → Option ℕ → Dates → Dates
-compromised t occurrence d =
-    record d { compromise = Some t; compromise_occurrence = Some (unwrap_or occurrence d.initial) }
-
--- a key that is deactivated at t: its originator use ends no later
-abbrev pub deactivated : ℕ → Dates → Dates
-deactivated t d = record d { deactivation = Some t; protect_stop = cut_date_at t d.protect_stop }
-
--- the dates that a command at the moment t asks for of a key with the dates d, before a period is looked at
+-- The dates that a command at the moment t gives a key that has the dates d, before they are fitted to the usage
+-- periods of its type. Activate, Revoke and Destroy set them as KMIP 1.2, sections 4.19 to 4.21, says.
 abbrev pub asked_dates : Dates → ℕ → Command → Dates
-asked_dates d t (Register kind owner activation protect_stop deactivation purpose) =
-    given_dates t activation protect_stop deactivation
+asked_dates d t (Register new) = record unset_dates {
+  initial = t;
+  activation = new.activation;
+  protect_stop = new.protect_stop;
+  deactivation = new.deactivation;
+}
 asked_dates d t (Activate key) = record d { activation = Some t }
-asked_dates d t (SetDates key activation protect_stop deactivation) =
-    edited_dates activation protect_stop deactivation d
+asked_dates d t (SetDates key activation protect_stop deactivation) = record d {
+  activation = date_after_edit activation d.activation;
+  protect_stop = date_after_edit protect_stop d.protect_stop;
+  deactivation = date_after_edit deactivation d.deactivation;
+}
+-- A compromise sets the Compromise Occurrence Date to the one given, or else to the Initial Date. Any other reason sets
+-- the Deactivation Date to t and cuts a Protect Stop Date after it to t (own).
 asked_dates d t (Revoke key reason occurrence) =
-    if is_compromise reason then compromised t occurrence d else deactivated t d
+    if is_compromise reason
+    then record d { compromise = Some t; compromise_occurrence = Some (unwrap_or occurrence d.initial) }
+    else record d { deactivation = Some t; protect_stop = cut_to_limit d.protect_stop (Some t) }
 asked_dates d t (Destroy key) = record d { destroy = Some t }
 asked_dates d t _ = d
 
--- how they are fitted to the period of the key's type
+-- the dates that a registration at t asks for
+abbrev pub given_dates : ℕ → Registration → Dates
+given_dates t new = asked_dates unset_dates t (Register new)
+
+-- how the dates that a command asks for are fitted to the period of the key's type
 abbrev pub fitting : Command → Fitting
-fitting (Register kind owner activation protect_stop deactivation purpose) = Filled
+fitting (Register new) = Filled
 fitting (SetDates key activation protect_stop deactivation) = Filled
 fitting (Activate key) = Trimmed
 fitting _ = Unfitted
@@ -114,11 +96,11 @@ fitted p Filled d = dates_with_defaults p d
 fitted p Trimmed d = defaulted_dates_cut_to_limits p d
 fitted p Unfitted d = d
 
--- or why they do not fit it
-abbrev pub fitted_or_refusal : Period → Fitting → Dates → Result Dates DateRefusal
-fitted_or_refusal p Filled d = fill_of p d
-fitted_or_refusal p Trimmed d = trim_of p d
-fitted_or_refusal p Unfitted d = Ok d
+-- why dates that are fitted so do not fit the period, in order
+abbrev pub fitting_refusals : Period → Fitting → Dates → List (Option DateRefusal)
+fitting_refusals p Filled d = fill_refusals p d
+fitting_refusals p Trimmed d = trim_refusals p d
+fitting_refusals p Unfitted d = []
 
 -- the dates of a key after a command at the moment t, where this is the period of its type
 abbrev pub dates_after : Period → Dates → ℕ → Command → Dates
@@ -136,6 +118,7 @@ period_after kind before (SetPeriod other period) =
     if key_type_code other == key_type_code kind then Some period else before
 period_after kind before _ = before
 
+-- the dates are fitted to the period of the key's type
 abbrev pub is_fitted : Fitting → Bool
 is_fitted Filled = true
 is_fitted Trimmed = true

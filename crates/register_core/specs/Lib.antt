@@ -6,6 +6,7 @@ pub mod Answer
 pub mod Effect
 pub mod History
 pub mod Custody
+pub mod Dates
 pub mod KeptReply
 pub mod CustodyRefusal
 pub mod Verdict

@@ -26,6 +26,7 @@ with_period kind period sets =
     filter (λ (set : TypePeriod). not (key_type_code set.kind == key_type_code kind)) sets
     ++ record { kind = kind; period = period } ∷ []
 
+-- the periods that are set after a command, where these were before it
 abbrev pub periods_after : List TypePeriod → Command → List TypePeriod
 periods_after before (SetPeriod kind period) = with_period kind period before
 periods_after before _ = before
@@ -47,6 +48,7 @@ abbrev pub with_need : ℕ → ℕ → List KeyNeed → List KeyNeed
 with_need key need sets =
     filter (λ (set : KeyNeed). not (set.key == key)) sets ++ record { key = key; need = need } ∷ []
 
+-- the needs that are set after a command, where these were before it
 abbrev pub needs_after : List KeyNeed → Command → List KeyNeed
 needs_after before (SetQuorum key need) = with_need key need before
 needs_after before _ = before

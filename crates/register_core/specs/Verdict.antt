@@ -1,7 +1,7 @@
 -- What a request comes to after a history: it is accepted, it repeats one that was, or it is refused.
 use Rattle.std.specs.Prelude.{ℕ, nat_lt, nat_le, Bool, true, false, not, ◌&&◌, ◌||◌, List, [], ◌∷◌, codes, Option}
-use Rattle.std.specs.Prelude.{None, Some, is_some, Result, Ok, Err, if◌then◌else◌}
-use Rattle.std.specs.Option.{option_and_then}
+use Rattle.std.specs.Prelude.{filter, None, Some, is_some, Result, Ok, Err, if◌then◌else◌}
+use Rattle.std.specs.Option.{option_and_then, option_map}
 use Rattle.std.specs.Str.{bytes_eq}
 use Rattle.lifecycle_core.specs.declared.state.State.{State}
 use Rattle.lifecycle_core.specs.declared.state.State.TheVariants.{PreActive}
@@ -30,9 +30,9 @@ use Rattle.period_core.specs.declared.key_type.KeyType.{KeyType}
 use Rattle.period_core.specs.Period.{Period, period_or_default}
 use Rattle.register_requests.specs.Name.{is_among}
 use Rattle.register_core.specs.History.{latest, count, period}
-use Rattle.register_core.specs.KeptReply.{reply, kept, kept_under}
+use Rattle.register_core.specs.KeptReply.{reply, is_under, kept}
 use Rattle.register_requests.specs.Request.{command_text}
-use Rattle.register_core.specs.Effect.{asked_dates, dates_before, fitted_or_refusal, fitting, type_of}
+use Rattle.register_core.specs.Effect.{asked_dates, dates_before, fitting, fitting_refusals, type_of}
 use Rattle.register_core.specs.Custody.{held}
 use Rattle.register_requests.specs.CommandRule.{is_one_of, rule}
 use Rattle.register_requests.specs.declared.command_rule.Giver.{Giver}
@@ -40,7 +40,7 @@ use Rattle.register_requests.specs.declared.command_rule.Giver.TheVariants.{Owne
 use Rattle.register_core.specs.CustodyRefusal.{custody_refusal_in}
 use Rattle.register_requests.specs.declared.version.Version.{Version}
 use Rattle.register_requests.specs.Version.{current, knows}
-use Rattle.register_requests.specs.Subject.{named, subject}
+use Rattle.register_requests.specs.Subject.{named_by, subject}
 
 -- ---- the refusals, each where its condition holds
 
@@ -48,34 +48,28 @@ use Rattle.register_requests.specs.Subject.{named, subject}
 abbrev pub moment_refusal : ℕ → ℕ → Option Refusal
 moment_refusal last t = if nat_lt t last then Some (MomentBehind last) else None
 
+-- the refusal of a request whose dates are refused for this
 abbrev pub refusal_of_dates : DateRefusal → Refusal
 refusal_of_dates dates.DateOrder = DateOrder
 refusal_of_dates (dates.PeriodTooLong limit) = PeriodTooLong limit
 refusal_of_dates dates.DateRange = DateRange
 
-abbrev pub refused_dates : Result Dates DateRefusal → Option Refusal
-refused_dates (Ok d) = None
-refused_dates (Err refusal) = Some (refusal_of_dates refusal)
-
 -- the dates that the command asks for at t do not fit the period of the key's type
 abbrev pub dates_refusal : (KeyType → Period) → Option Held → ℕ → Command → Option Refusal
 dates_refusal periods key t c =
-    let asked = asked_dates (dates_before key) t c in
-    option_and_then (λ kind. refused_dates (fitted_or_refusal (periods kind) (fitting c) asked))
+    option_and_then (λ kind.
+    option_map refusal_of_dates
+    (first_that_holds (fitting_refusals (periods kind) (fitting c) (asked_dates (dates_before key) t c))))
     (type_of key (subject c))
 
 -- the command names a key that is not there
 abbrev pub key_refusal : Option Held → Command → Option Refusal
-key_refusal None c = if is_some (named c) then Some UnknownKey else None
+key_refusal None c = if is_some (named_by (subject c)) then Some UnknownKey else None
 key_refusal (Some held) c = None
-
--- who sets the periods of types (own)
-abbrev pub office : List ℕ
-office = codes "office"
 
 -- the caller is another than the one who may give the command (of a key that is not there key_refusal speaks)
 abbrev pub giver_refusal : Giver → Option Held → List ℕ → Option Refusal
-giver_refusal Office key caller = if bytes_eq caller office then None else Some NotOffice
+giver_refusal Office key caller = if bytes_eq caller (codes "office") then None else Some NotOffice
 giver_refusal Owner (Some held) caller = if bytes_eq caller held.owner then None else Some NotOwner
 giver_refusal Custodian (Some held) caller = if is_among caller held.custodians then None else Some NotCustodian
 giver_refusal _ key caller = None
@@ -105,18 +99,17 @@ abbrev pub occurrence_refusal : ℕ → Command → Option Refusal
 occurrence_refusal t (Revoke key reason (Some occurrence)) = if nat_lt t occurrence then Some OccurrenceLater else None
 occurrence_refusal t _ = None
 
--- how many keys the register takes
+-- The most keys that a register takes, destroyed keys counted too. Own.
 abbrev pub max_keys : ℕ
 max_keys = 1_000_000
 
 -- the command makes a key, and there are as many as the register takes
 abbrev pub limit_refusal : ℕ → Command → Option Refusal
-limit_refusal keys (Register kind owner activation protect_stop deactivation purpose) =
-    if nat_le max_keys keys then Some Full else None
+limit_refusal keys (Register new) = if nat_le max_keys keys then Some Full else None
 limit_refusal keys _ = None
 
--- Each refusal of a request, in order, where its condition holds; the key is the one that it names, as it stands. First
--- those of who asks, of which key and when;
+-- Why a request is refused for its moment, its key, its caller or the key's state, in order; the key is the one that it
+-- names, as it stands.
 abbrev pub entry_refusals : ℕ → Option Held → Request → List (Option Refusal)
 entry_refusals last key q =
     moment_refusal last q.moment
@@ -125,13 +118,11 @@ entry_refusals last key q =
     ∷ state_refusal (rule q.command).states key q.moment
     ∷ []
 
-abbrev pub entry_refusal : ℕ → Option Held → Request → Option Refusal
-entry_refusal last key q = first_that_holds (entry_refusals last key q)
-
--- then those of what it asks, in this version and by these periods of the types.
+-- All refusals of a request in order, each where its condition holds: by the latest moment, the number of keys, the
+-- periods of the types, and the key that it names, as it stands.
 abbrev pub refusals : Version → ℕ → ℕ → (KeyType → Period) → Option Held → Request → List (Option Refusal)
 refusals version last keys periods key q =
-    entry_refusal last key q
+    first_that_holds (entry_refusals last key q)
     ∷ freeze_refusal key q.moment q.command
     ∷ dates_refusal periods key q.moment q.command
     ∷ custody_refusal_in version key q.caller q.command
@@ -144,18 +135,20 @@ refusals version last keys periods key q =
 abbrev pub judge_in : Version → ℕ → ℕ → (KeyType → Period) → Option Held → Request → Option Refusal
 judge_in version last keys periods key q = first_that_holds (refusals version last keys periods key q)
 
--- in this program's version
+-- the refusal of a request in this program's version by what the decision rests on, or none
 abbrev pub judge : ℕ → ℕ → (KeyType → Period) → Option Held → Request → Option Refusal
 judge = judge_in current
 
 -- the key that the command names, as it stands
 abbrev pub named_key : List Request → Command → Option Held
-named_key h c = option_and_then (held h) (named c)
+named_key h c = option_and_then (held h) (named_by (subject c))
 
 -- the judgement of a request after a history: the first refusal that holds, or none
 abbrev pub judgement_in : Version → List Request → Request → Option Refusal
-judgement_in version h q = judge_in version (latest h) (count h) (period h) (named_key h q.command) q
+judgement_in version h q =
+    first_that_holds (refusals version (latest h) (count h) (period h) (named_key h q.command) q)
 
+-- the refusal of a request after a history in this program's version, or none: it is accepted
 abbrev pub judgement : List Request → Request → Option Refusal
 judgement = judgement_in current
 
@@ -180,29 +173,40 @@ verdict_by (Some refusal) = Refuses refusal
 abbrev pub is_same_command : Command → Command → Bool
 is_same_command c d = bytes_eq (command_text c) (command_text d)
 
--- what a command comes to whose caller and number are those of a request that was accepted
-abbrev pub repeated : KeptReply → Command → Verdict
-repeated before c = if is_same_command before.command c then Repeats before.reply else Refuses RequestReused
-
 -- the repeat check, which comes before the judgement: what is kept under the request's caller and number decides
 abbrev pub unless_kept : List KeptReply → Command → Verdict → Verdict
 unless_kept [] c judged = judged
-unless_kept (before ∷ more) c judged = repeated before c
+unless_kept (before ∷ more) c judged =
+    if bytes_eq (command_text before.command) (command_text c) then Repeats before.reply else Refuses RequestReused
 
--- in a version, to which a command that it does not know is no request
+-- what a command comes to whose caller and number are those of a request that was accepted
+abbrev pub repeated : KeptReply → Command → Verdict
+repeated before c = unless_kept (before ∷ []) c Accepts
+
+-- What a request comes to after a history in a version. A command that the version does not know is a bad line. A
+-- number that the caller has used repeats its first reply, or is refused for another command. Any other request is
+-- judged.
 abbrev pub verdict_in : Version → List Request → Request → Verdict
 verdict_in version h q =
     if knows version q.command
-    then unless_kept (kept_under q.caller q.number (kept h)) q.command (verdict_by (judgement_in version h q))
+    then unless_kept (filter (is_under q.caller q.number) (kept h)) q.command (verdict_by (judgement_in version h q))
     else Refuses BadLine
 
+-- what a request comes to after a history in this program's version
 abbrev pub verdict : List Request → Request → Verdict
 verdict = verdict_in current
 
+-- the verdict accepts the request
 abbrev pub is_accepted : Verdict → Bool
 is_accepted Accepts = true
 is_accepted (Repeats first) = false
 is_accepted (Refuses refusal) = false
+
+-- the reply or the refusal, where this is the reply if it is accepted
+abbrev pub told : Verdict → Reply → Result Reply Refusal
+told Accepts new = Ok new
+told (Repeats first) new = Ok first
+told (Refuses refusal) new = Err refusal
 
 -- what a request is answered, where this is the reply if it is accepted
 abbrev pub answer_by : Verdict → Reply → Answer
@@ -210,8 +214,10 @@ answer_by Accepts new = Accepted new
 answer_by (Repeats first) new = Repeated first
 answer_by (Refuses refusal) new = Refused refusal
 
+-- what a request is answered after a history in a version
 abbrev pub answer_in : Version → List Request → Request → Answer
 answer_in version h q = answer_by (verdict_in version h q) (reply h q)
 
+-- what a request is answered after a history in this program's version
 abbrev pub answer : List Request → Request → Answer
 answer = answer_in current

@@ -1,3 +1,5 @@
 -- What functions within the crate say of one another: no public contract stands on it.
 pub mod Custody
 pub mod Decision
+pub mod Effect
+pub mod KeptReply

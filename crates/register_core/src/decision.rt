@@ -5,14 +5,15 @@ ghost use Rattle.register_requests.specs.declared.request.Command.{Command};
 ghost use Rattle.period_core.specs.Within.Fitting.{Checks};
 ghost use Rattle.register_requests.specs.CommandRule.{rule};
 ghost use Rattle.period_core.specs.Fitting.{first_that_holds};
-ghost use Rattle.register_core.specs.CustodyRefusal.{addition_refusals, custody_refusal_in, refused_if};
+ghost use Rattle.register_core.specs.CustodyRefusal.{addition_refusals, custody_refusal_in};
+ghost use Rattle.register_core.specs.CustodyRefusal.{refused_if};
 ghost use Rattle.register_core.specs.declared.reply.Refusal.TheVariants.{ApprovalsMissing};
 ghost use Rattle.register_core.specs.Decision.{IsRightKey, IsViewOf, LeadsTo};
 ghost use Rattle.register_core.specs.Within.Decision.{AreDatesAfter};
 ghost use Rattle.register_core.specs.Decision.{change_by_request, reply_to, reply_of_view};
 ghost use Rattle.register_core.specs.Verdict.{moment_refusal, key_refusal, giver_refusal};
 ghost use Rattle.register_core.specs.Verdict.{state_refusal, keeps_date, freeze_refusal};
-ghost use Rattle.register_core.specs.Verdict.{entry_refusal, occurrence_refusal, limit_refusal};
+ghost use Rattle.register_core.specs.Verdict.{entry_refusals, occurrence_refusal, limit_refusal};
 ghost use Rattle.register_core.specs.Verdict.{judge_view, max_keys, judgement};
 ghost use Rattle.period_core.specs.Period.{period_or_default};
 ghost use Rattle.register_requests.specs.Version.{current};
@@ -187,14 +188,15 @@ fn check_key_limit(keys: u32, command: &Command) -> Result<(), Refusal>
     ensures { Checks (limit_refusal keys command.now) result }
 {
     match command {
-        Command::Register { .. } if keys >= MAX_KEYS => Err(Refusal::Full),
+        Command::Register(_) if keys >= MAX_KEYS => Err(Refusal::Full),
         _ => Ok(()),
     }
 }
 
 /// No refusal of the moment, of the key, of who asks or of the key's state holds; else the first.
 fn check_moment_key_giver_state(view: &View, request: &Request) -> Result<(), Refusal>
-    ensures { Checks (entry_refusal view.now.latest view.now.key request.now) result }
+    ensures { Checks (first_that_holds (entry_refusals view.now.latest view.now.key request.now))
+        result }
 {
     let at = request.moment;
     let command = &request.command;

@@ -2,10 +2,11 @@
 //! besides.
 ghost use Rattle.std.specs.Prelude.{◌≡◌, None, Option, Some, IsSome, IfOk, IfErr, OnOk};
 ghost use Rattle.period_core.specs.declared.key_type.KeyType.{KeyType};
+ghost use Rattle.period_core.specs.Fitting.{cut_to_limit};
 ghost use Rattle.period_core.specs.Period.{Period, period_or_default};
-ghost use Rattle.register_core.specs.Effect.{owner_after, unset_dates, given_dates};
+ghost use Rattle.register_core.specs.Effect.{owner_after, unset_dates};
 ghost use Rattle.register_core.specs.Effect.{date_after_edit};
-ghost use Rattle.register_core.specs.Effect.{asked_dates, edited_dates, cut_date_at, dates_after};
+ghost use Rattle.register_core.specs.Effect.{asked_dates, dates_after};
 ghost use Rattle.register_core.specs.Effect.{dates_before, row_with_dates_at, custody_change};
 ghost use Rattle.register_core.specs.Decision.{change_by_request, change_without_key};
 ghost use Rattle.register_core.specs.Decision.{change_of_held_key};
@@ -20,7 +21,7 @@ use crate::view::Held;
 use lifecycle_core::{Dates, Row, state_of};
 use moment_core::{FIRST_MOMENT, Moment};
 use period_core::{Period, period_or_default};
-use register_requests::{Command, Edit, Name, Request};
+use register_requests::{Command, Edit, Name, Registration, Request};
 
 /// The dates of a key before it is registered: none is set.
 fn unset_dates() -> Dates
@@ -37,24 +38,6 @@ fn unset_dates() -> Dates
     }
 }
 
-/// The dates that a registration at the moment gives a key, before Fill.
-pub fn given_dates(
-    at: Moment,
-    activation: Option<Moment>,
-    protect_stop: Option<Moment>,
-    deactivation: Option<Moment>,
-) -> Dates
-    ensures { result ≡ given_dates at activation protect_stop deactivation }
-{
-    Dates {
-        initial: at,
-        activation,
-        protect_stop,
-        deactivation,
-        ..unset_dates()
-    }
-}
-
 /// The date after an edit.
 fn date_after_edit(edit: Edit, before: Option<Moment>) -> Option<Moment>
     ensures { result ≡ date_after_edit edit before }
@@ -63,18 +46,6 @@ fn date_after_edit(edit: Edit, before: Option<Moment>) -> Option<Moment>
         Edit::Keep => before,
         Edit::Clear => None,
         Edit::Set(date) => Some(date),
-    }
-}
-
-/// The dates after these edits, before Fill.
-fn edited_dates(activation: Edit, protect_stop: Edit, deactivation: Edit, dates: &Dates) -> Dates
-    ensures { result ≡ edited_dates activation protect_stop deactivation dates.now }
-{
-    Dates {
-        activation: date_after_edit(activation, dates.activation),
-        protect_stop: date_after_edit(protect_stop, dates.protect_stop),
-        deactivation: date_after_edit(deactivation, dates.deactivation),
-        ..*dates
     }
 }
 
@@ -90,7 +61,7 @@ fn row_with_dates_at(dates: Dates, at: Moment) -> Row
 
 /// The earlier of the date and the moment, where the date is set.
 fn cut_date_at(at: Moment, date: Option<Moment>) -> Option<Moment>
-    ensures { result ≡ cut_date_at at date }
+    ensures { result ≡ cut_to_limit date (Some at) }
 {
     match date {
         Some(date) if at < date => Some(at),
@@ -113,12 +84,13 @@ fn asked_dates(dates: &Dates, at: Moment, command: &Command) -> Dates
     ensures { result ≡ asked_dates dates.now at command.now }
 {
     match *command {
-        Command::Register {
-            activation,
-            protect_stop,
-            deactivation,
-            ..
-        } => given_dates(at, activation, protect_stop, deactivation),
+        Command::Register(new) => Dates {
+            initial: at,
+            activation: new.activation,
+            protect_stop: new.protect_stop,
+            deactivation: new.deactivation,
+            ..unset_dates()
+        },
         Command::Activate { .. } => Dates {
             activation: Some(at),
             ..*dates
@@ -128,7 +100,12 @@ fn asked_dates(dates: &Dates, at: Moment, command: &Command) -> Dates
             protect_stop,
             deactivation,
             ..
-        } => edited_dates(activation, protect_stop, deactivation, dates),
+        } => Dates {
+            activation: date_after_edit(activation, dates.activation),
+            protect_stop: date_after_edit(protect_stop, dates.protect_stop),
+            deactivation: date_after_edit(deactivation, dates.deactivation),
+            ..*dates
+        },
         Command::Revoke {
             reason,
             occurrence,
@@ -198,7 +175,7 @@ fn owner_after(before: Name, command: &Command) -> Name
     ensures { result ≡ owner_after before command.now }
 {
     match *command {
-        Command::Register { owner, .. } | Command::Assign { owner, .. } => owner,
+        Command::Register(Registration { owner, .. }) | Command::Assign { owner, .. } => owner,
         _ => before,
     }
 }
@@ -237,17 +214,11 @@ pub(crate) fn change_by_request(dates: Dates, named: &Option<Held>, request: &Re
         → result ≡ change_by_request (period_or_default set) named.now request.now }
 {
     let command = &request.command;
-    if let Command::Register {
-        kind,
-        owner,
-        purpose,
-        ..
-    } = *command
-    {
+    if let Command::Register(new) = *command {
         return Change::Made(Key {
-            kind,
-            owner,
-            purpose,
+            kind: new.kind,
+            owner: new.owner,
+            purpose: new.purpose,
             row: row_with_dates_at(dates, request.moment),
         });
     }

@@ -26,7 +26,7 @@ pub fn needed_period_type(key: &Option<Held>, command: &Command) -> Option<KeyTy
 {
     match (Fitting::of(command), command, key) {
         (Fitting::Unfitted, _, _) => None,
-        (_, Command::Register { kind, .. }, _) => Some(*kind),
+        (_, Command::Register(new), _) => Some(new.kind),
         (_, _, Some(held)) => Some(held.kind),
         _ => None,
     }
@@ -35,14 +35,15 @@ pub fn needed_period_type(key: &Option<Held>, command: &Command) -> Option<KeyTy
 impl Fitting {
     ghost use Rattle.std.specs.Prelude.{◌≡◌, IsSome};
     ghost use Rattle.register_core.specs.declared.fitting.Fitting.TheVariants.{Trimmed};
-    ghost use Rattle.register_core.specs.Effect.{fitted_or_refusal, fitting};
+    ghost use Rattle.register_core.specs.Effect.{fitting};
+    ghost use Rattle.register_core.specs.Within.Effect.{fitted_or_refusal};
 
     /// How the dates that the command asks for are fitted.
     pub(crate) fn of(command: &Command) -> Self
         ensures { result ≡ fitting command.now }
     {
         match command {
-            Command::Register { .. } | Command::SetDates { .. } => Fitting::Filled,
+            Command::Register(_) | Command::SetDates { .. } => Fitting::Filled,
             Command::Activate { .. } => Fitting::Trimmed,
             _ => Fitting::Unfitted,
         }

@@ -1,7 +1,7 @@
 //! What is kept of an accepted request, so that it acts once.
 use crate::answer::Answer;
 use crate::reply::{Refusal, Reply};
-use register_requests::{Command, Fields, Name, Request, RequestNumber, command_text};
+use register_requests::{Command, Name, Request, RequestNumber, command_text};
 
 /// What is kept of an accepted request: who made it under which number, its command, and its reply.
 #[derive(Clone, Copy)]
@@ -30,21 +30,15 @@ impl KeptReply {
         }
     }
 
-    /// Whether the reply has a key and a state exactly where the command is about a key: one with
-    /// no fields, or with a type and its period, is about none.
+    /// Whether the reply has a key and a state exactly where the command is about a key.
     pub fn fits_its_command(&self) -> bool
         ensures { result ≡ fits_its_command self.now }
     {
-        match self.command.fields() {
-            Fields::Nothing | Fields::TypeAndPeriod { .. } => self.reply.key == 0
-                && self.reply.state.is_none(),
-            Fields::Key { .. }
-            | Fields::KeyAndName { .. }
-            | Fields::KeyAndOwner { .. }
-            | Fields::KeyAndNeed { .. }
-            | Fields::Registration { .. }
-            | Fields::DateEdits { .. }
-            | Fields::Revocation { .. } => self.reply.key > 0 && self.reply.state.is_some(),
+        match self.command {
+            Command::Advance | Command::SetPeriod { .. } => {
+                self.reply.key == 0 && self.reply.state.is_none()
+            }
+            _ => self.reply.key > 0 && self.reply.state.is_some(),
         }
     }
 

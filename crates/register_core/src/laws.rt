@@ -6,7 +6,7 @@ ghost use Rattle.std.specs.Cmp.Lexicographic.{slice_cmp};
 ghost use Rattle.std.specs.List.{AllByRecursion};
 ghost use Rattle.std.specs.Ordering.{nat_cmp};
 ghost use Rattle.lifecycle_core.specs.State.{state_at};
-ghost use Rattle.lifecycle_core.specs.Transition.{Leads};
+ghost use Rattle.lifecycle_core.specs.Transition.{HasPath};
 ghost use Rattle.period_core.specs.Fitting.{Fits, is_either_use_too_long, is_not_after};
 ghost use Rattle.period_core.specs.Period.{periods};
 ghost use Rattle.register_requests.specs.declared.request.Request.{Request};
@@ -103,7 +103,7 @@ pub fn protect_stop_is_a_moment()
 /// that it had at the latest moment, or from none.
 pub fn states_follow_transitions()
     ensures { (h : List Request) (q : Request) → IsAccepted h q → (k : ℕ) → HasKey (h ++ q ∷ []) k →
-        Leads (state_of_key h k) (Some (state_at (dates (h ++ q ∷ []) k) q.moment)) }
+        HasPath (state_of_key h k) (Some (state_at (dates (h ++ q ∷ []) k) q.moment)) }
 {}
 
 /// Of the dates of a key, a request that is accepted moves those only that may still move.

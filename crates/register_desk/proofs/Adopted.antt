@@ -36,5 +36,6 @@ adopts_something size image pages adopts sound other some blank =
     ∙ ap (λ (b : List ℕ). slice_index b 0) magic in
     let begun = first_byte other some in
     begun_is_not_blank (sealed (first_page other)) page _ image adopts.stored adopts.found is
-    (adopts.whole.sized 1 page is) (omega arith) (first ∙ sym begun) (λ none. let never = sym begun ∙ none in omega arith)
+    (adopts.whole.sized 1 page is) (omega arith) (first ∙ sym begun)
+    (λ none. let never = sym begun ∙ none in omega arith)
     blank

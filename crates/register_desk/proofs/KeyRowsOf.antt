@@ -1,9 +1,9 @@
 -- The rows of a history's keys, and those of them that a report lists.
-use Rattle.std.proofs.Common.{◌≡◌, inl, inr, ℕ, ◌+◌, ◌≤◌, ◌<◌, ◌==◌, ◌&&◌, ◌||◌, Bool, true, false, List, length}
-use Rattle.std.proofs.Common.{slice_get, Option, None, Some, refl, sym, ap, subst, ◌∙◌, arith}
+use Rattle.std.proofs.Common.{◌≡◌, inl, inr, ℕ, ◌+◌, ◌≤◌, ◌==◌, ◌&&◌, ◌||◌, Bool, true, false, List}
+use Rattle.std.proofs.Common.{Option, None, Some, refl, sym, ap, subst, ◌∙◌, arith}
 use Rattle.std.specs.List.{Contains}
-use Rattle.std.proofs.lemmas.Bool.{cases_lt, le-leb, leb-true}
-use Rattle.std.proofs.lemmas.Option.{slice_get_past}
+use Rattle.std.proofs.lemmas.Bool.{le-leb, leb-true}
+use Rattle.std.proofs.lemmas.Option.{slice_get_within}
 use Rattle.sql_steps.proofs.Members.{contains_has}
 use Rattle.sql_steps.proofs.SameRows.{map_has}
 use Rattle.sqlite_rules.specs.Lists.{Has}
@@ -26,12 +26,11 @@ use Rattle.register_core.proofs.DateRanges.{stop_in_range}
 use Rattle.register_core.proofs.UnsetPeriods.{none_long}
 use Rattle.register_store.specs.TableChanges.{key_at}
 use Rattle.register_store.specs.Tables.{numbered}
-use Rattle.register_store.proofs.DueFound.{one_number}
 use Rattle.register_store.proofs.KeyFound.{at_number}
-use Rattle.register_desk.specs.Register.{tables}
+use Rattle.register_desk.specs.Register.{key_of, tables}
 use Rattle.register_desk.specs.KeyRows.{all_rows, row_of}
 use Rattle.register_desk.proofs.Grows.{found_key, keys_counted}
-use Rattle.register_desk.proofs.RowScan.{key_next}
+use Rattle.register_desk.proofs.RowScan.{key_next, own_numbers_of}
 
 -- a row is that of a key, under the key's number
 record IsRowOf (h : List Request) (r : KeyRow) : Type 0 where
@@ -43,30 +42,23 @@ numbered_key_in : (h : List Request) (r : KeyRow) → Contains (all_rows h) r
     → (x : ℕ × Key) × Has (numbered (tables h).keys) x × (r ≡ row_of x)
 numbered_key_in h r there = map_has row_of (numbered (tables h).keys) r (contains_has (all_rows h) r there)
 
-in_list : {X : Type 0} (xs : List X) (i : ℕ) (x : X) → slice_get xs i ≡ Some x → i < length xs
-in_list xs i x at = elim (cases_lt i (length xs)) [
-  | inl within ↦ within
-  | inr past ↦ absurd (let none = sym (slice_get_past xs i past) ∙ at in cc)
-]
-
 of_key : (h : List Request) (x : ℕ × Key) → Has (numbered (tables h).keys) x → IsRowOf h (row_of x)
 of_key h x has =
     let place = at_number 1 (tables h).keys x has in
-    let within = in_list (tables h).keys place.0 x.1 place.2 in
+    let within = slice_get_within (tables h).keys place.0 x.1 place.2 in
     let there : HasKey h x.0 = (omega (arith, place.1), omega (arith, place.1, within, keys_counted h)) in
     let next : x.0 ≡ place.0 + 1 = omega (arith, place.1) in
     let at : key_at (tables h).keys x.0 ≡ Some x.1 =
     ap (key_at (tables h).keys) next ∙ key_next (tables h).keys place.0 ∙ place.2 in
     elim (found_key h x.0) [
       | inl found ↦
-          let same : found.0 ≡ x.1 = let both = sym found.1 ∙ at in cc in
-          let is = sym same ∙ found.2.is in
+          let is : x.1 ≡ key_of h x.0 = let both = sym at ∙ found.at in cc in
           record {
             there = there;
             kind = ap (λ (k : Key). k.kind) is;
             dates_are = ap (λ (k : Key). k.row.dates) is;
           }
-      | inr missing ↦ absurd (let both = sym missing.0 ∙ at in cc)
+      | inr missing ↦ absurd (let both = sym missing.not_at ∙ at in cc)
     ]
 
 row_is : (h : List Request) (r : KeyRow) → Contains (all_rows h) r → IsRowOf h r
@@ -74,12 +66,7 @@ row_is h r there = let x = numbered_key_in h r there in subst (IsRowOf h) (sym x
 
 -- no two rows have one number
 pub own_numbers : (h : List Request) → HaveOwnNumbers (all_rows h)
-own_numbers h r s of_r of_s same =
-    let x = numbered_key_in h r of_r in
-    let y = numbered_key_in h s of_s in
-    let number : x.0.0 ≡ y.0.0 = sym (ap (λ (row : KeyRow). row.number) x.2) ∙ same
-    ∙ ap (λ (row : KeyRow). row.number) y.2 in
-    x.2 ∙ ap row_of (sym (one_number (tables h) x.0 y.0 x.1 y.1 number)) ∙ sym y.2
+own_numbers h = own_numbers_of (tables h)
 
 -- ---- those that are listed
 

@@ -149,7 +149,8 @@ module _ {R : Type 0} {remaining : R → Option (List ℕ)} (one : OneRequest) (
   whole place last items left came ends =
       let x = left_at place items came in
       let parts = split place items came in
-      let end = subst IsAtEnd (sym (nothing_unread last.0.unread (remaining last.1.inner) ends.none_left)) ends.at_end in
+      let end = subst IsAtEnd (sym (nothing_unread last.0.unread (remaining last.1.inner) ends.none_left))
+      ends.at_end in
       let is = all_left (ahead remaining place) (ahead remaining last) x.0 ends.bytes x.1 ends.consumed end in
       let none = none_left parts.more_lines ends.bytes rest ends.unbroken (sym is ∙ parts.left_is) in
       let empty = no_more_items parts.more (subst (λ ls. AreItems ls parts.more) none.0 parts.each) in

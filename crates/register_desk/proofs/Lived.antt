@@ -1,22 +1,20 @@
 -- The life that a call over items was, whatever its reader told.
-use Rattle.std.proofs.Common.{◌≡◌, ℕ, ◌+◌, Bool, true, false, List, [], ◌∷◌, take, Option, None, Some}
-use Rattle.std.proofs.Common.{inl, inr, refl, sym, subst, ◌∙◌, arith}
+use Rattle.std.proofs.Common.{◌≡◌, ℕ, ◌+◌, Bool, true, false, List, [], ◌∷◌, take, Option, None, Some, inl, inr, refl}
+use Rattle.std.proofs.Common.{sym, subst, ◌∙◌, arith}
 use Rattle.std.proofs.lemmas.Option.{slice_get_within}
 use Rattle.register_store.specs.Schema.{Holds}
 use Rattle.sqlite_trees.specs.declared.store.Store.{Ghosts}
 use Rattle.register_requests.specs.declared.request.Request.{Request}
 use Rattle.register_core.specs.Fold.{history}
-use Rattle.register_requests.specs.Request.{IsItem}
+use Rattle.register_requests.specs.Request.{IsItem, IsRequest}
 use Rattle.std.specs.Prelude.{IfSome}
-use Rattle.register_requests.specs.Request.{IsRequest}
 use Rattle.register_desk.specs.declared.end.End.TheVariants.{Memory, Store, Broken, ReadFault, WriteFault, BadHeader}
 use Rattle.register_desk.specs.declared.runs.Finish.{Finish}
 use Rattle.register_desk.specs.declared.runs.Finish.TheVariants.{AtEnd, Ended}
 use Rattle.register_desk.specs.declared.desk.Desk.{Desk}
 use Rattle.register_desk.specs.Input.{AreItems}
 use Rattle.register_desk.specs.Desk.{IsClean, IsWhole}
-use Rattle.register_desk.specs.Lives.{after, AreInRange, IsLife, LeavesLife, life_of, LivesSome}
-use Rattle.register_desk.specs.Lives.{MayApplyOneMore}
+use Rattle.register_desk.specs.Lives.{after, AreInRange, IsLife, LeavesLife, life_of, DeskLives, MayApplyOneMore}
 use Rattle.register_desk.specs.Register.{StandsFor, tables}
 use Rattle.register_desk.specs.Run.{Answered, LeavesDesk, RunsOver}
 
@@ -36,7 +34,7 @@ items_in_range (line ∷ lines) [] each = absurd each
 
 module _ {S : Type 0} (g : Ghosts S) (h : List Request) (items : List (Option Request)) (in_range : AreInRange items)
     (replies : ℕ) (now : Desk S g) (clean : IsClean g now) where
-  left_after : (end : Finish) (one_more : Bool) → IsLife end replies (life_of items replies one_more) → IsWhole now
+  left_after : (end : Finish) (one_more : Bool) → IsLife end one_more (life_of items replies one_more) → IsWhole now
       → StandsFor g now (after h (life_of items replies one_more)) → LeavesLife g h items end replies now
   left_after end one_more is whole stands trees may =
       let left = (stands.over.sees whole clean).leaves trees may in (one_more, is, left.0, left.1, left.2)
@@ -47,10 +45,8 @@ module _ {S : Type 0} (g : Ghosts S) (h : List Request) (items : List (Option Re
       let n : replies ≡ replies + 0 = omega arith in
       left_after end false (record {
         in_range = in_range;
-        replies_are = refl;
         one_more_is = may;
-        enough = omega
-            (arith, over.some);
+        enough = omega (arith, over.some);
       }) whole
       (subst (λ (n : ℕ). StandsFor g now (history h (take n items))) n over.stands)
 
@@ -67,7 +63,7 @@ module _ {S : Type 0} (g : Ghosts S) (h : List Request) (items : List (Option Re
       absurd (let broken = leaves.was_broken refl in let both = sym whole ∙ broken in cc)
   leaves_life rest (Ended WriteFault) old new kept leaves over whole =
       left_after (Ended WriteFault) true
-      (record { in_range = in_range; replies_are = refl; one_more_is = refl; enough = over.some })
+      (record { in_range = in_range; one_more_is = refl; enough = over.some })
       (leaves.whole whole (λ e. absurd cc)) over.stands
   leaves_life rest (Ended Store) old new kept leaves over whole = λ trees may.
       let left = over.2 trees may in
@@ -78,10 +74,8 @@ module _ {S : Type 0} (g : Ghosts S) (h : List Request) (items : List (Option Re
           false,
           record {
             in_range = in_range;
-            replies_are = refl;
             one_more_is = tt;
-            enough = omega
-                (arith, over.0.some);
+            enough = omega (arith, over.0.some);
           },
           left.0,
           subst (λ (n : ℕ). Holds (tables (history h (take n items))) left.0) n
@@ -92,10 +86,8 @@ module _ {S : Type 0} (g : Ghosts S) (h : List Request) (items : List (Option Re
           true,
           record {
             in_range = in_range;
-            replies_are = refl;
             one_more_is = tt;
-            enough = omega
-                (arith, next);
+            enough = omega (arith, next);
           },
           left.0,
           holds,
@@ -106,7 +98,7 @@ module _ {S : Type 0} (g : Ghosts S) (h : List Request) (items : List (Option Re
 
   -- the life that it was
   pub lived : (rest : List ℕ) (end : Finish) (old new : Option (List ℕ)) (kept : Desk S g) → LeavesDesk kept now end
-      → RunsOver g h items rest end replies old new now → LivesSome g h end replies old new kept now
+      → RunsOver g h items rest end replies old new now → DeskLives g h end replies old new kept now
   lived rest end old new kept leaves over =
       record {
         items = items;
@@ -120,6 +112,6 @@ module _ {S : Type 0} (g : Ghosts S) (h : List Request) (items : List (Option Re
   pub lived_alone : (rest : List ℕ) (end : Finish) (old new : Option (List ℕ)) (kept : Desk S g)
       → MayApplyOneMore end false → (IsWhole kept → IsWhole now) → Answered g h items replies old new now
       → ((end ≡ Ended BadHeader → ⊥) → RunsOver g h items rest end replies old new now)
-      → LivesSome g h end replies old new kept now
+      → DeskLives g h end replies old new kept now
   lived_alone rest end old new kept may whole answered over =
       record { items = items; rest = rest; over = over; leaves = λ was. none_more end old new may (whole was) answered }

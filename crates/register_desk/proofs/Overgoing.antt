@@ -1,6 +1,6 @@
 -- What applying a request does to a desk that is over some tables, whatever history they are of if any.
 use Rattle.std.proofs.Common.{◌≡◌, ◌≤◌, inl, inr, ℕ, ◌+◌, Bool, false, if◌then◌else◌, List, [], ◌∷◌}
-use Rattle.std.proofs.Common.{length, map, Option, None, Some, Result, Ok, refl, sym, ap, subst, ◌∙◌, arith}
+use Rattle.std.proofs.Common.{length, map, Option, None, Some, Result, Ok, Err, refl, sym, ap, subst, ◌∙◌, arith}
 use Rattle.std.specs.List.{AllByRecursion, enumerate_from}
 use Rattle.std.proofs.lemmas.Bool.Decides.{nat_tests}
 use Rattle.std.proofs.lemmas.List.{length-append, length-map}
@@ -20,6 +20,7 @@ use Rattle.register_requests.specs.Version.{current}
 use Rattle.register_requests.specs.Within.Subject.{made_by}
 use Rattle.register_core.specs.declared.answer.Answer.{Answer}
 use Rattle.register_core.specs.declared.answer.Answer.TheVariants.{Accepted, Refused}
+use Rattle.register_core.specs.Answer.{UnlessAccepted}
 use Rattle.register_core.specs.declared.change.Change.{Change}
 use Rattle.register_core.specs.declared.change.Change.TheVariants.{Made, Nothing}
 use Rattle.register_core.specs.declared.change.Change.TheVariants as change
@@ -49,13 +50,17 @@ use Rattle.register_store.specs.TableChanges.{with_owner_and_row}
 use Rattle.register_store.specs.TableReads.{HasRequest, seen}
 use Rattle.register_store.specs.Tables.{Tables}
 use Rattle.register_desk.specs.declared.desk.Desk.{Desk}
-use Rattle.register_desk.specs.Desk.{IsAnsweredOver, IsClean, IsNew, IsOpen, LeavesWithRequest}
+use Rattle.register_desk.specs.declared.end.End.{End}
+use Rattle.register_desk.specs.declared.end.End.TheVariants.{Store}
+use Rattle.register_desk.specs.Desk.{AppliesOver, ChangesNothing, IsAnsweredOver, IsClean, IsNew, IsOpen, IsWhole}
+use Rattle.register_desk.specs.Desk.{KeepsCounts, LeavesWithRequest, UnlessChanged}
+use Rattle.register_desk.specs.Within.DeskCalls.{left_at, left_by}
 use Rattle.register_desk.specs.Register.{IsOver}
 use Rattle.register_desk.specs.TablesView.{change_over, judgement_over, key_needed, period_over, reply_over}
 use Rattle.register_desk.specs.TablesView.{tables_after, with_accepted}
 use Rattle.register_desk.specs.Within.TablesView.{IsViewOver}
 use Rattle.register_desk.proofs.Grows.{change_counts}
-use Rattle.register_desk.proofs.Readings.{Settles, keeps_committed}
+use Rattle.register_desk.proofs.Readings.{Settles, keeps_committed, leaves_nothing_else, over_still}
 
 -- ---- how many keys there are
 
@@ -252,3 +257,58 @@ answers_again g desk t q before given over there is = record {
   over = subst (λ (a : Answer). IsOver g desk (tables_after t q a)) (sym is)
       (over_again g desk t q before (reply_over t q) (is_same_command before.command q.command) over);
 }
+
+-- ---- after an end
+
+module _ {S : Type 0} (g : store.Ghosts S) (t : Tables) (q : Request) where
+  -- an end before anything was changed
+  pub applies_ended : (old new : Desk S g) (r : Result Answer End) (end : End) → r ≡ Err end → IsWhole old
+      → ChangesNothing g old (left_at end new) → AppliesOver g t q old (left_by r new) r
+  applies_ended old new r end is whole nothing =
+      subst (λ (r : Result Answer End). AppliesOver g t q old (left_by r new) r) (sym is) (record {
+        answers = λ over request clean. tt;
+        still = over_still g old (left_at end new) nothing t;
+        leaves = λ over request clean store.
+            inl (leaves_nothing_else g old (left_at end new) nothing t over.sees whole clean);
+      })
+
+  -- the database refused the change
+  pub applies_broken : (old new : Desk S g) (r : Result Answer End) (end : End) → r ≡ Err end → end ≡ Store
+      → (IsOver g old t → IsOver g (left_at Store new) t)
+      → (IsOver g old t → IsRequest q → IsClean g new → LeavesWithRequest g t q new)
+      → AppliesOver g t q old (left_by r new) r
+  applies_broken old new r end is store still leaves =
+      subst (λ (r : Result Answer End). AppliesOver g t q old (left_by r new) r) (sym (is ∙ ap Err store)) (record {
+        answers = λ over request clean. tt;
+        still = still;
+        leaves = λ over request clean same. leaves over request clean;
+      })
+
+  -- a broken desk is over what it was over, as long as it counts as before
+  pub over_broken : (old new : Desk S g) → KeepsCounts old new → IsOver g old t → IsOver g (left_at Store new) t
+  over_broken old new counts over = record {
+    latest_is = counts.latest ∙ over.latest_is;
+    keys_are = counts.keys ∙ over.keys_are;
+    counted = over.counted ∙ sym counts.keys;
+    right = subst (λ (latest : ℕ). AreRightAt latest t) (sym counts.latest) over.right;
+    sees = λ whole clean. absurd cc;
+  }
+
+-- ---- what is so unless something was changed
+
+pub unless_accepted : (given : Answer) (P : Type 0) → P → UnlessAccepted given P
+unless_accepted given P holds = grind arith
+
+pub unless_so : (given : Answer) (P R : Type 0) → (P → R) → UnlessAccepted given P → UnlessAccepted given R
+unless_so given P R so holds = grind arith
+
+pub unchanged_so : (r : Result Answer End) (P R : Type 0) → (P → R) → UnlessChanged r P → UnlessChanged r R
+unchanged_so (Ok given) P R so holds = unless_so given P R so holds
+unchanged_so (Err end) P R so holds = λ other. so (holds other)
+
+-- the desk that is left is changed by its mark alone, and by that at the end 31
+pub unchanged_left : {S : Type 0} (g : store.Ghosts S) (old mid : Desk S g) (r : Result Answer End)
+    → UnlessChanged r (ChangesNothing g old mid) → UnlessChanged r (ChangesNothing g old (left_by r mid))
+unchanged_left g old mid (Ok given) holds = holds
+unchanged_left g old mid (Err Store) holds = λ other. absurd (other refl)
+unchanged_left g old mid (Err end) holds = holds

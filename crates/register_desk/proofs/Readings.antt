@@ -1,7 +1,8 @@
 -- Calls of a desk that only read, and calls that do nothing.
 use Rattle.std.proofs.Common.{◌≡◌, ℕ, ◌+◌, ◌≢◌, ◌≤◌, List, Result, Ok, Err, arith}
 use Rattle.std.proofs.Common.{IsTrue, inl, inr, refl, sym, ap, subst, ◌∙◌}
-use Rattle.std.specs.Prelude.{IfErr, IfOk}
+use Rattle.std.specs.Prelude.{IfErr, OnOk}
+use Rattle.std.proofs.lemmas.Result.{on_ok_weaker}
 use Rattle.sqlite_trees.specs.declared.store.Store as store
 use Rattle.sqlite.specs.Effect.{Database}
 use Rattle.sqlite.specs.Held.{Held, state}
@@ -20,8 +21,9 @@ use Rattle.register_store.specs.Schema.{Holds}
 use Rattle.register_desk.specs.declared.desk.Desk.{Desk}
 use Rattle.register_desk.specs.declared.end.End.{End}
 use Rattle.register_desk.specs.declared.end.End.TheVariants as ends
-use Rattle.register_desk.specs.Desk.{IsWhole, IsBroken, IsClean, EndsBy, ChangesNothing, KeepsCounts, KeepsToSteps}
-use Rattle.register_desk.specs.Within.DeskCalls.{KeepsAll, LooksUp}
+use Rattle.register_desk.specs.Desk.{ChangesNothing, Ends, IsClean, IsOpen, IsWhole, KeepsToSteps}
+use Rattle.register_desk.specs.End.{end_of_error}
+use Rattle.register_desk.specs.Within.DeskCalls.{IsOfStore, LooksUp, left_at, left_by}
 use Rattle.register_store.specs.TableChanges.{AreRightAt}
 use Rattle.register_desk.specs.Register.{tables, HasCommitted, IsOver, StandsFor, Sees, Keeps, Leaves}
 
@@ -132,32 +134,6 @@ module _ {S : Type 0} (g : store.Ghosts S) where
 
   -- ---- a reading of the store
 
-  module _ {T : Type 0} (Found : Tables → T → Type 0) (old new : Desk S g) (after : Counted S g)
-      (r : Result T StoreError) (whole : IsWhole old) (reads : ReadsBy Found (seen g old.connection) (seen g after) r)
-      (same : new.connection ≡ after) (counts : KeepsCounts old new) where
-    early : IsClean g new → HasCleanDisk (seen g after)
-    early clean = subst (λ c. HasCleanDisk (seen g c)) same clean
-
-    kept_before : (t : Tables) → Sees g t old → IsClean g new → Keeps t (seen g old.connection)
-    kept_before t sees clean = sees whole (reads.clean (early clean))
-
-    -- where nothing was changed, the connection keeps what it kept
-    keeps_still : (t : Tables) → Sees g t old → IsClean g new → IsUnchanged (seen g old.connection) (seen g after)
-        → Keeps t (seen g new.connection)
-    keeps_still t sees clean unchanged =
-        let kept = kept_before t sees clean in
-        let now = kept_still t (seen g old.connection) (seen g after) kept unchanged reads.survives (early clean) in
-        subst (λ c. Keeps t (seen g c)) (sym same) now
-
-    only_read : (IsWhole new → (t : Tables) → Sees g t old → IsClean g new → IsUnchanged (seen g old.connection)
-        (seen g after)) → ChangesNothing g old new
-    only_read unchanged = record {
-      clean = λ clean. reads.clean (early clean);
-      counts = counts;
-      rows = λ t sees still clean. keeps_still t sees clean (unchanged still t sees clean);
-      survives = subst (λ c. Survives (seen g old.connection) (seen g c) (λ _. ⊥)) (sym same) reads.survives;
-    }
-
   -- where an open connection sees what it saw, whatever came of the call, nothing is changed
   pub sees_nothing : {T : Type 0} (Found : Tables → T → Type 0) (old : Desk S g) (after : Counted S g)
       (within : old.keys ≤ max_keys) (r : Result T StoreError)
@@ -192,105 +168,159 @@ module _ {S : Type 0} (g : store.Ghosts S) where
     pub found_in : Found t value
     found_in = found_so.0
 
-    unchanged_in : IsUnchanged (seen g old.connection) (seen g after)
-    unchanged_in = found_so.1
+  -- ---- what a look-up leaves
 
-  read_well : {T : Type 0} (Found : Tables → T → Type 0) (old : Desk S g) (after : Counted S g)
-      (within : old.keys ≤ max_keys) (value : T) → IsWhole old
-      → ReadsBy Found (seen g old.connection) (seen g after) (Ok value)
-      → ChangesNothing g old (called old after within)
-  read_well Found old after within value whole reads =
-      only_read Found old (called old after within) after (Ok value) whole reads refl
-      (record { latest = refl; keys = refl })
-      (λ still t sees clean. unchanged_in Found old after value whole reads t sees clean)
+  -- the desk breaks by its mark alone
+  left_connection : {T : Type 0} (r : Result T End) (desk : Desk S g) → (left_by r desk).connection ≡ desk.connection
+  left_connection (Ok value) desk = refl
+  left_connection (Err ends.Store) desk = refl
+  left_connection (Err end) desk = refl
 
-  -- the desk goes on only where memory gave out
-  read_failed : {T : Type 0} (Found : Tables → T → Type 0) (old new : Desk S g) (after : Counted S g)
-      (error : StoreError) → IsWhole old → ReadsBy Found (seen g old.connection) (seen g after) (Err error)
-      → new.connection ≡ after → KeepsCounts old new → (IsWhole new → error ≡ Memory) → ChangesNothing g old new
-  read_failed Found old new after error whole reads same counts memory =
-      only_read Found old new after (Err error) whole reads same counts
-      (λ still t sees clean.
-      let clean_after : HasCleanDisk (seen g after) = subst (λ c. HasCleanDisk (seen g c)) same clean in
-      (reads.failed clean_after t
-      (seen_where_open t (seen g old.connection) (sees whole (reads.clean clean_after)))).unchanged (memory still))
+  pub left_clean : {T : Type 0} (r : Result T End) (desk : Desk S g) → IsClean g (left_by r desk) → IsClean g desk
+  left_clean r desk = subst (λ c. HasCleanDisk (seen g c)) (left_connection r desk)
 
--- ---- ends
+  clean_left : {T : Type 0} (r : Result T End) (desk : Desk S g) → IsClean g desk → IsClean g (left_by r desk)
+  clean_left r desk = subst (λ c. HasCleanDisk (seen g c)) (sym (left_connection r desk))
 
--- only want of memory leaves a desk whole
-whole_is_memory : {S : Type 0} {g : store.Ghosts S} (new : Desk S g) (error : StoreError)
-    → (error ≢ Memory → IsBroken new) → IsWhole new → error ≡ Memory
-whole_is_memory new (Refused e) broken whole = absurd (let is = broken (λ same. cc) in let both = sym is ∙ whole in cc)
-whole_is_memory new Memory broken whole = refl
-whole_is_memory new NoRegister broken whole = absurd (let is = broken (λ same. cc) in let both = sym is ∙ whole in cc)
+  -- what is made of the answer looks up as much
+  pub looks_given : {T R : Type 0} (most : ℕ) (old new : Desk S g) (x : T) (y : R) → LooksUp g most old new (Ok x)
+      → LooksUp g most old new (Ok y)
+  looks_given most old new x y looks = record {
+    mark = looks.mark;
+    ends = tt;
+    reads = looks.reads;
+    steps = looks.steps;
+    opened = looks.opened;
+  }
 
--- the end that an error of the store comes to
-ends_by_error : {S : Type 0} {g : store.Ghosts S} (old new : Desk S g) (error : StoreError) (end : End)
-    → IsWhole old
-    → (error ≡ Memory → (end ≡ ends.Memory) × IsWhole new) → (error ≢ Memory → (end ≡ ends.Store) × IsBroken new)
-    → EndsBy old new end
-ends_by_error old new (Refused e) end whole memory refused =
-    let it = refused (λ same. cc) in subst (EndsBy old new) (sym it.0) (whole, it.1)
-ends_by_error old new Memory end whole memory refused =
-    let it = memory refl in subst (EndsBy old new) (sym it.0) (whole, it.1)
-ends_by_error old new NoRegister end whole memory refused =
-    let it = refused (λ same. cc) in subst (EndsBy old new) (sym it.0) (whole, it.1)
+  -- so does an end that is handed on
+  pub looks_ended : {T R : Type 0} (most : ℕ) (old new : Desk S g) (end : End) (r : Result R End) → r ≡ Err end
+      → LooksUp {T = T} g most old new (Err end) → LooksUp g most old new r
+  looks_ended {T} {R} most old new end r is looks = subst (LooksUp {T = R} g most old new) (sym is) (record {
+    mark = looks.mark;
+    ends = looks.ends;
+    reads = looks.reads;
+    steps = looks.steps;
+    opened = tt;
+  })
+
+  -- another look-up after one that answered
+  pub looks_then : {T R : Type 0} (old mid new : Desk S g) (first second : ℕ) (x : T) (r : Result R End)
+      → LooksUp g first old mid (Ok x) → LooksUp g second mid new r → LooksUp g (first + second) old new r
+  looks_then old mid new first second x r one two = record {
+    mark = two.mark ∙ one.mark;
+    ends = two.ends;
+    reads = nothing_then old mid (left_by r new) one.reads two.reads;
+    steps = steps_then old mid new first second one.reads one.steps
+        (λ clean. two.reads.clean (clean_left r new clean)) two.steps;
+    opened = two.opened;
+  }
+
+  -- where the end is another than 31, or there is none, nothing is changed yet
+  pub looks_still : (old new : Desk S g) (end : End) → ChangesNothing g old (left_at end new) → end ≢ ends.Store
+      → ChangesNothing g old new
+  looks_still old new ends.Store reads other = absurd (other refl)
+  looks_still old new end reads other = reads
+
+  ends_left : {T : Type 0} (old mid : Desk S g) (r : Result T End) → IfErr r IsOfStore → IsWhole old → IsWhole mid
+      → Ends old (left_by r mid) r
+  ends_left old mid (Ok value) of_store whole still = (whole, still)
+  ends_left old mid (Err ends.Memory) of_store whole still = (whole, still)
+  ends_left old mid (Err ends.Store) of_store whole still = (whole, refl)
+  ends_left old mid (Err end) of_store whole still = absurd of_store
+
+  -- a call that looks up and then leaves the desk so
+  module _ {T : Type 0} (most : ℕ) (old mid new : Desk S g) (r : Result T End) (left : new ≡ left_by r mid) where
+    pub ends_so : IfErr r IsOfStore → IsWhole old → mid.is_broken ≡ old.is_broken → Ends old new r
+    ends_so of_store whole mark =
+        subst (λ desk. Ends old desk r) (sym left) (ends_left old mid r of_store whole (mark ∙ whole))
+
+    pub clean_so : IsClean g new → IsClean g mid
+    clean_so clean = left_clean r mid (subst (IsClean g) left clean)
+
+    pub steps_so : KeepsToSteps g most old mid → KeepsToSteps g most old new
+    steps_so steps h stands clean =
+        subst (λ c. Calls most old.connection c)
+        (sym (ap (λ (desk : Desk S g). desk.connection) left ∙ left_connection r mid)) (steps h stands (clean_so clean))
+
+    pub opened_so : OnOk r (IsOpen g mid) → OnOk r (IsOpen g new)
+    opened_so =
+        on_ok_weaker r (λ opened clean. subst (λ c. IsTrue (seen g c).is_open)
+        (sym (ap (λ (desk : Desk S g). desk.connection) left ∙ left_connection r mid)) (opened (clean_so clean)))
+
+    pub reads_so : LooksUp g most old mid r → ChangesNothing g old new
+    reads_so looks = subst (ChangesNothing g old) (sym left) looks.reads
 
 -- ---- look-ups
 
-module _ {S T R : Type 0} (g : store.Ghosts S) (Found : Tables → T → Type 0) (most : ℕ) (old : Desk S g)
-    (after : Counted S g) (within : old.keys ≤ max_keys) where
-  -- what the store gives is handed on
-  pub looks_well : (value : T) (x : R) → IsWhole old
-      → ReadsBy Found (seen g old.connection) (seen g after) (Ok value)
-      → ((h : List Request) → StandsFor g old h → HasCleanDisk (seen g after) → Calls most old.connection after)
-      → LooksUp g most old (called old after within) (Ok x)
-  looks_well value x whole reads calls = record {
-    ends = (whole, whole);
-    reads = read_well g Found old after within value whole reads;
-    steps = calls;
-    opened = λ clean. (reads.opened clean).is_open;
-  }
+module _ {S T : Type 0} (g : store.Ghosts S) (Found : Tables → T → Type 0) (most : ℕ) (old : Desk S g)
+    (after : Counted S g) (within : old.keys ≤ max_keys) (whole : IsWhole old) (r : Result T StoreError)
+    (reads : ReadsBy Found (seen g old.connection) (seen g after) r)
+    (calls : (h : List Request) → StandsFor g old h → HasCleanDisk (seen g after) → Calls most old.connection after)
+  where
+    -- where nothing was changed, the desk sees what it saw
+    goes_on : ((t : Tables) → Sees g t old → HasCleanDisk (seen g after)
+        → IsUnchanged (seen g old.connection) (seen g after)) → ChangesNothing g old (called old after within)
+    goes_on unchanged = record {
+      clean = reads.clean;
+      counts = record { latest = refl; keys = refl };
+      rows = λ t sees still clean.
+          kept_still t (seen g old.connection) (seen g after) (sees whole (reads.clean clean)) (unchanged t sees clean)
+          reads.survives clean;
+      survives = reads.survives;
+    }
 
-  -- the store's error ends the call
-  pub looks_failed : (new : Desk S g) (error : StoreError) (end : End) → IsWhole old
-      → ReadsBy Found (seen g old.connection) (seen g after) (Err error)
-      → ((h : List Request) → StandsFor g old h → HasCleanDisk (seen g after) → Calls most old.connection after)
-      → KeepsAll (called old after within) new → (error ≡ Memory → (end ≡ ends.Memory) × IsWhole new)
-      → (error ≢ Memory → (end ≡ ends.Store) × IsBroken new) → LooksUp {T = R} g most old new (Err end)
-  looks_failed new error end whole reads calls same memory refused = record {
-    ends = ends_by_error old new error end whole memory refused;
-    reads = read_failed g Found old new after error whole reads same.connection
-        (record { latest = same.counts.latest; keys = same.counts.keys })
-        (whole_is_memory new error (λ other. (refused other).1));
-    steps = λ h stands clean. subst (λ k. Calls most old.connection k) (sym same.connection)
-        (calls h stands (subst (λ k. HasCleanDisk (seen g k)) same.connection clean));
-    opened = tt;
-  }
+    -- the store refused, or what it gives is none that a register holds
+    pub looks_refused : (R : Type 0) → LooksUp {T = R} g most old (called old after within) (Err ends.Store)
+    looks_refused R = record {
+      mark = refl;
+      ends = tt;
+      reads = record {
+        clean = reads.clean;
+        counts = record { latest = refl; keys = refl };
+        rows = λ t sees still clean. absurd cc;
+        survives = reads.survives;
+      };
+      steps = calls;
+      opened = tt;
+    }
 
-  -- what the store gives is none that a register holds, and breaks the desk
-  pub looks_refused : (value : T) (new : Desk S g) (end : End) → IsWhole old
-      → ReadsBy Found (seen g old.connection) (seen g after) (Ok value)
-      → ((h : List Request) → StandsFor g old h → HasCleanDisk (seen g after) → Calls most old.connection after)
-      → KeepsAll (called old after within) new → (end ≡ ends.Store) × IsBroken new
-      → LooksUp {T = R} g most old new (Err end)
-  looks_refused value new end whole reads calls same is = record {
-    ends = subst (EndsBy old new) (sym is.0) (whole, is.1);
-    reads = only_read g Found old new after (Ok value) whole reads same.connection
-        (record { latest = same.counts.latest; keys = same.counts.keys })
-        (λ still t sees clean. absurd (let both = sym still ∙ is.1 in cc));
-    steps = λ h stands clean. subst (λ k. Calls most old.connection k) (sym same.connection)
-        (calls h stands (subst (λ k. HasCleanDisk (seen g k)) same.connection clean));
-    opened = tt;
-  }
+    -- what the store gives is handed on
+    pub looks_well : {R : Type 0} (value : T) (x : R) → r ≡ Ok value
+        → LooksUp g most old (called old after within) (Ok x)
+    looks_well value x is =
+        let well = subst (ReadsBy Found (seen g old.connection) (seen g after)) is reads in
+        record {
+          mark = refl;
+          ends = tt;
+          reads = goes_on (λ t sees clean.
+              (well.found clean t (seen_where_open t (seen g old.connection) (sees whole (well.clean clean)))).1);
+          steps = calls;
+          opened = λ clean. (well.opened clean).is_open;
+        }
 
-  -- what the store gives is handed on where it may be so, and else breaks the desk
-  pub looks_where : (value : T) (new : Desk S g) (given : Result R End) → IsWhole old
-      → ReadsBy Found (seen g old.connection) (seen g after) (Ok value)
-      → ((h : List Request) → StandsFor g old h → HasCleanDisk (seen g after) → Calls most old.connection after)
-      → KeepsAll (called old after within) new → IfOk given (λ x. new ≡ called old after within)
-      → IfErr given (λ end. (end ≡ ends.Store) × IsBroken new) → LooksUp g most old new given
-  looks_where value new (Ok x) whole reads calls same as_it_was broken =
-      subst (λ (desk : Desk S g). LooksUp g most old desk (Ok x)) (sym as_it_was) (looks_well value x whole reads calls)
-  looks_where value new (Err end) whole reads calls same as_it_was broken =
-      looks_refused value new end whole reads calls same broken
+    -- so is it where it may be, and else refused
+    pub looks_where : {R : Type 0} (value : T) (given : Result R End) → r ≡ Ok value
+        → IfErr given (λ end. end ≡ ends.Store)
+        → LooksUp g most old (called old after within) given
+    looks_where value (Ok x) is store = looks_well value x is
+    looks_where {R} value (Err end) is store =
+        subst (λ (e : End). LooksUp {T = R} g most old (called old after within) (Err e)) (sym store) (looks_refused R)
+
+    -- the store's error ends the call
+    pub looks_failed : (R : Type 0) (error : StoreError) → r ≡ Err error
+        → LooksUp {T = R} g most old (called old after within) (Err (end_of_error error))
+    looks_failed R Memory is =
+        let failed = subst (ReadsBy Found (seen g old.connection) (seen g after)) is reads in
+        record {
+          mark = refl;
+          ends = tt;
+          reads = goes_on (λ t sees clean.
+              (failed.failed clean t (seen_where_open t (seen g old.connection)
+              (sees whole (failed.clean clean)))).unchanged
+              refl);
+          steps = calls;
+          opened = tt;
+        }
+    looks_failed R (Refused error) is = looks_refused R
+    looks_failed R NoRegister is = looks_refused R

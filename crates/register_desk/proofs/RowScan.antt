@@ -1,20 +1,22 @@
 -- Rows that are given one after the other are the first of all, and after the last they are all.
-use Rattle.std.proofs.Common.{◌≡◌, ◌≤◌, inl, inr, ℕ, zero, suc, ◌+◌, true, List, [], ◌∷◌, ◌++◌, length, map, take}
+use Rattle.std.proofs.Common.{◌≡◌, ◌≢◌, ◌≤◌, inl, inr, ℕ, zero, suc, ◌+◌, true, List, [], ◌∷◌, ◌++◌, length, map, take}
 use Rattle.std.proofs.Common.{slice_get, Option, None, Some, refl, sym, ap, subst, ◌∙◌, add-one, arith}
 use Rattle.std.proofs.lemmas.Bool.{cases_lt}
+use Rattle.std.proofs.lemmas.List.Elements.{All-cons, All-contains, All-nil, All-tail, All-weaker}
+use Rattle.std.proofs.lemmas.List.Kept.{AllPairs-cons}
 use Rattle.std.proofs.lemmas.Option.{slice_get_past}
-use Rattle.std.specs.List.{Contains, enumerate_from}
+use Rattle.std.specs.List.{All, Contains, enumerate_from}
 use Rattle.std.specs.Option.{option_map}
-use Rattle.sqlite_rules.specs.Lists.{Has}
 use Rattle.sql_steps.proofs.Members.{contains_has, has_contains}
 use Rattle.sql_steps.proofs.SameRows.{has_map, map_has}
 use Rattle.key_rows.specs.declared.key_row.KeyRow.{KeyRow}
-use Rattle.key_rows.specs.DueRows.{AreDue, AreFirstDue, AreInOrder, IsBefore, is_due, stop_of, IsAfter as IsAfterAll}
-use Rattle.key_rows.proofs.DueOrder.{before_trans}
+use Rattle.key_rows.specs.DueRows.{AreDue, AreFirstDue, AreInOrder, HaveOwnNumbers, IsBefore, is_due, stop_of}
+use Rattle.key_rows.specs.DueRows.{IsAfter as IsAfterAll}
+use Rattle.key_rows.proofs.DueOrder.{before_trans, rest_in_order}
 use Rattle.key_rows.proofs.DueRows.{all_first, next_first}
 use Rattle.register_core.specs.declared.key.Key.{Key}
 use Rattle.register_store.specs.declared.key_scan.DueCursor.{DueCursor}
-use Rattle.register_store.specs.KeyScan.{ComesAfter, HasNextDue, IsAfter}
+use Rattle.register_store.specs.KeyScan.{ComesAfter, HasNextDue, IsAfterKey}
 use Rattle.register_store.specs.TableChanges.{key_at}
 use Rattle.register_store.specs.Tables.{Tables, numbered}
 use Rattle.register_desk.specs.declared.rows.Scan.{Scan}
@@ -77,16 +79,17 @@ none_past t last past =
 
 -- a row after the cursor of the last of some rows in order is after all of them
 after_all : (cursor : DueCursor) (rows : List KeyRow) (r : KeyRow) → AreInOrder rows
-    → IsAfter (last_cursor cursor rows) (cursor_of_row r) → IsAfterAll rows r
-after_all cursor [] r in_order after = tt
-after_all cursor (x ∷ []) r in_order after = (after, tt)
+    → IsAfterKey (last_cursor cursor rows) (cursor_of_row r) → IsAfterAll rows r
+after_all cursor [] r in_order after = All-nil (λ x. IsBefore x r)
+after_all cursor (x ∷ []) r in_order after = All-cons (λ y. IsBefore y r) x [] after (All-nil (λ y. IsBefore y r))
 after_all cursor (x ∷ y ∷ rows) r in_order after =
-    let rest = after_all (cursor_of_row x) (y ∷ rows) r in_order.1 after in
-    (before_trans x y r in_order.0.0 rest.0, rest)
+    let rest = after_all (cursor_of_row x) (y ∷ rows) r (rest_in_order IsBefore x (y ∷ rows) in_order) after in
+    let next = in_order 0 1 r (omega arith) (omega arith) in
+    All-cons (λ z. IsBefore z r) x (y ∷ rows) (before_trans x y r next (rest 0 r (omega arith))) rest
 
 -- and the other way round
 after_last : (rows : List KeyRow) (r : KeyRow) → 1 ≤ r.number → IsAfterAll rows r
-    → IsAfter (last_cursor first_cursor rows) (cursor_of_row r)
+    → IsAfterKey (last_cursor first_cursor rows) (cursor_of_row r)
 after_last [] r numbered_from after = elim (cases_lt 0 (stop_of r)) [
   | inl later ↦ inl later
   | inr none ↦ inr (omega (arith, none), omega (arith, numbered_from))
@@ -94,19 +97,33 @@ after_last [] r numbered_from after = elim (cases_lt 0 (stop_of r)) [
 after_last (x ∷ rows) r numbered_from after = from x rows after
   where
     from : (x : KeyRow) (rows : List KeyRow) → IsAfterAll (x ∷ rows) r
-        → IsAfter (last_cursor (cursor_of_row x) rows) (cursor_of_row r)
-    from x [] after = after.0
-    from x (y ∷ rows) after = from y rows after.1
+        → IsAfterKey (last_cursor (cursor_of_row x) rows) (cursor_of_row r)
+    from x [] after = after 0 x (omega arith)
+    from x (y ∷ rows) after = from y rows (All-tail (λ z. IsBefore z r) x (y ∷ rows) after)
 
 last_is : (cursor : DueCursor) (rows : List KeyRow) (r : KeyRow) → last_cursor cursor (rows ++ r ∷ []) ≡ cursor_of_row r
 last_is cursor [] r = refl
 last_is cursor (x ∷ rows) r = last_is (cursor_of_row x) rows r
 
--- numbers begin at 1
-from_one : (n : ℕ) (keys : List Key) (x : ℕ × Key) → Has (enumerate_from n keys) x → n ≤ x.0
-from_one n [] x there = absurd there
-from_one n (k ∷ keys) x (inl same) = let is = ap (λ (p : ℕ × Key). p.0) same in omega (arith, is)
-from_one n (k ∷ keys) x (inr there) = let is = from_one (n + 1) keys x there in omega (arith, is)
+-- numbers rise from the first on
+from_number : (n : ℕ) (keys : List Key) → All (λ (r : KeyRow). n ≤ r.number) (map row_of (enumerate_from n keys))
+from_number n [] = All-nil (λ (r : KeyRow). n ≤ r.number)
+from_number n (k ∷ keys) =
+    let rows = map row_of (enumerate_from (n + 1) keys) in
+    All-cons (λ (r : KeyRow). n ≤ r.number) (row_of (n, k)) rows (omega arith)
+    (All-weaker (λ (r : KeyRow). n + 1 ≤ r.number) (λ (r : KeyRow). n ≤ r.number) (λ r le. omega (arith, le)) rows
+    (from_number (n + 1) keys))
+
+numbers_differ : (n : ℕ) (keys : List Key) → HaveOwnNumbers (map row_of (enumerate_from n keys))
+numbers_differ n [] = λ i j d less within. absurd (omega arith)
+numbers_differ n (k ∷ keys) =
+    let rows = map row_of (enumerate_from (n + 1) keys) in
+    AllPairs-cons (λ (r s : KeyRow). r.number ≢ s.number) (row_of (n, k)) rows
+    (All-weaker (λ (r : KeyRow). n + 1 ≤ r.number) (λ (r : KeyRow). n ≢ r.number) (λ r le same. absurd (omega (arith, le, same)))
+    rows (from_number (n + 1) keys)) (numbers_differ (n + 1) keys)
+
+pub own_numbers_of : (t : Tables) → HaveOwnNumbers (rows_of t)
+own_numbers_of t = numbers_differ 1 t.keys
 
 module _ (t : Tables) (until : ℕ) (given : List KeyRow) (first : AreFirstDue (rows_of t) until given) where
   abbrev last : DueCursor
@@ -118,14 +135,13 @@ module _ (t : Tables) (until : ℕ) (given : List KeyRow) (first : AreFirstDue (
   came s there due after =
       let at = map_has row_of (numbered t.keys) s (contains_has (rows_of t) s there) in
       let y = at.0 in
-      let number = from_one 1 t.keys y at.1 in
-      let own = subst (IsAfterAll given) at.2 after in (
+      let number = All-contains (λ (r : KeyRow). 1 ≤ r.number) (rows_of t) s (from_number 1 t.keys) there in (
         y,
         at.2,
         record {
           there = at.1;
           due = subst (λ (r : KeyRow). is_due until r ≡ true) at.2 due;
-          after = after_last given (row_of y) number own;
+          after = subst (λ (r : KeyRow). IsAfterKey last (cursor_of_row r)) at.2 (after_last given s number after);
         },
       )
 
@@ -144,7 +160,8 @@ module _ (t : Tables) (until : ℕ) (given : List KeyRow) (first : AreFirstDue (
 
   due_none : HasNextDue until last t None → AreDue (rows_of t) until given
   due_none none =
-      all_first (rows_of t) until given first (λ s there due after. let y = came s there due after in none y.0 y.2)
+      all_first (rows_of t) until given (own_numbers_of t) first
+      (λ s there due after. let y = came s there due after in none y.0 y.2)
 
 -- ---- one row more
 

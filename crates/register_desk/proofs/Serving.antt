@@ -18,10 +18,10 @@ use Rattle.register_desk.specs.declared.desk.Desk.{Desk}
 use Rattle.register_desk.specs.Desk.{GoesOn, IsBroken, IsClean}
 use Rattle.register_desk.specs.Items.{IsOfReading, ServedInPart, ServedItems, Serves}
 use Rattle.register_desk.specs.Within.Items.{AreAhead}
-use Rattle.register_desk.specs.Lives.{LivesSome}
+use Rattle.register_desk.specs.Lives.{DeskLives}
 use Rattle.register_desk.specs.Register.{StandsFor}
-use Rattle.register_desk.specs.Run.{AreFlushed, Answered, IsRequestNext, LeavesDesk, Refused, RunsBroken, RunsItems, RunsOver}
-use Rattle.register_desk.specs.Run.{LeavesWriter, Wrote, max_idle_turns}
+use Rattle.register_desk.specs.Run.{AreFlushed, Answered, IsRequestNext, LeavesDesk, RefusedItems, RunsBroken}
+use Rattle.register_desk.specs.Run.{RunsItems, RunsOver, LeavesWriter, Wrote, max_idle_turns}
 use Rattle.register_desk.specs.RunProgress.{LeavesItem, ServesItem}
 use Rattle.register_desk.proofs.Answering.{answered_more, answered_none, appends_none, appends_then, prefix_refused}
 use Rattle.register_desk.proofs.Answering.{prefix_so, stopped_broken, stopped_so, there}
@@ -105,7 +105,7 @@ module _ {S : Type 0} (g : Ghosts S) where
   unread_over h replies old new now BadHeader items rest of_reading answered = absurd of_reading
 
 unread_broken : (all : List (Option Request)) (rest : List ℕ) (replies : ℕ) (old new : Option (List ℕ)) (end : End)
-    → IsOfReading end → Refused all replies old new → RunsBroken all rest (Ended end) replies old new
+    → IsOfReading end → RefusedItems all replies old new → RunsBroken all rest (Ended end) replies old new
 unread_broken all rest replies old new Memory of_reading none = none
 unread_broken all rest replies old new ReadFault of_reading none = none
 unread_broken all rest replies old new Store of_reading none = absurd of_reading
@@ -191,7 +191,7 @@ module _ {P : Type 0} {Came : P → P → List (Option Request) → Type 0} {End
         prefix_so g all served.items replies served.counted so_far.0 so_far.1 h old new kept now served.so_far stands
         clean
 
-    refused : IsBroken kept → Refused all replies old new
+    refused : IsBroken kept → RefusedItems all replies old new
     refused broken =
         let so_far = known.first place served.items served.came in
         prefix_refused g all served.items replies served.counted so_far.0 so_far.1 old new kept now served.so_far broken
@@ -220,7 +220,7 @@ module _ {P : Type 0} {Came : P → P → List (Option Request) → Type 0} {End
 
   -- whatever its source tells of what is to come
   pub lives_so : (h : List Request) → StandsFor g kept h → IsClean g now → (end : Finish) → LeavesDesk kept now end
-      → Serves Came Ends Fails g start last old new kept now replies end → LivesSome g h end replies old new kept now
+      → Serves Came Ends Fails g start last old new kept now replies end → DeskLives g h end replies old new kept now
   lives_so h stands clean (AtEnd rest) leaves serves =
       let served = serves.to.served in
       lived g h served.items served.in_range replies now clean (replicate rest 0) (AtEnd rest) old new kept leaves
@@ -336,5 +336,5 @@ module _ {S : Type 0} (g : Ghosts S) (w : Option (List ℕ)) (kept : Desk S g) (
         runs_so rest known (Ended end) nothing_leaves unread
 
     pub nothing_lives : (h : List Request) → StandsFor g kept h → IsClean g kept
-        → LivesSome g h (Ended end) 0 w w kept kept
+        → DeskLives g h (Ended end) 0 w w kept kept
     nothing_lives h stands clean = lives_so h stands clean (Ended end) nothing_leaves unread

@@ -1,11 +1,12 @@
 -- What the calls of a desk leave.
-use Rattle.std.specs.Prelude.{◌≡◌, ◌⊎◌, ◌<◌, ◌≤◌, ℕ, Bool, true, false, List, [], ◌∷◌, Option, None, Some, Result}
-use Rattle.std.specs.Prelude.{IfErr, IfOk, IsTrue, MatchResult, OnErr, OnOk}
+use Rattle.std.specs.Prelude.{◌≡◌, ◌≢◌, ◌⊎◌, ◌<◌, ◌≤◌, ℕ, Bool, true, false, List, [], ◌∷◌, Option, None, Some, Result}
+use Rattle.std.specs.Prelude.{Ok, Err, IfErr, IfOk, IsTrue, MatchResult, OnErr}
 use Rattle.sqlite_trees.specs.declared.store.Store.{Ghosts}
 use Rattle.sqlite.specs.State.{HasCleanDisk, Survives}
 use Rattle.sqlite.specs.Held.{Held as Connection}
 use Rattle.register_core.specs.declared.answer.Answer.{Answer}
 use Rattle.register_core.specs.declared.answer.Answer.TheVariants.{Accepted, Repeated, Refused}
+use Rattle.register_core.specs.Answer.{UnlessAccepted}
 use Rattle.register_core.specs.declared.kept_reply.KeptReply.{KeptReply}
 use Rattle.register_requests.specs.declared.request.Request.{Request}
 use Rattle.register_core.specs.Fold.{history}
@@ -21,14 +22,15 @@ use Rattle.register_desk.specs.declared.end.End.TheVariants.{Memory, Store, Brok
 use Rattle.register_desk.specs.Register.{IsOver, Sees, Leaves, LeavesOneOf, LeavesEitherOf, StandsFor}
 
 module _ {S : Type 0} {g : Ghosts S} where
-  -- no call of the database was refused
+  -- The database has refused this desk no call.
   abbrev pub IsWhole : Desk S g → Type 0
   IsWhole desk = desk.is_broken ≡ false
 
-  -- one was, and no call uses the database any more
+  -- The database refused the desk a call; the desk uses it no more.
   abbrev pub IsBroken : Desk S g → Type 0
   IsBroken desk = desk.is_broken ≡ true
 
+  -- The connection of a desk to its database.
   abbrev pub connection_of : Desk S g → Connection S
   connection_of desk = desk.connection.connection
 
@@ -64,7 +66,7 @@ was_broken mark = mark.is_broken
 abbrev pub steps_of : {S : Type 0} {g : Ghosts S} → Desk S g → ℕ
 steps_of desk = desk.connection.steps
 
--- at most this many of them between the one and the other
+-- The database took at most this many steps between the one desk and the other.
 abbrev pub TakesSteps : {S : Type 0} {g : Ghosts S} → ℕ → Desk S g → Desk S g → Type 0
 TakesSteps most old new = Calls most old.connection new.connection
 
@@ -72,18 +74,19 @@ TakesSteps most old new = Calls most old.connection new.connection
 abbrev pub IsClean : {S : Type 0} → (g : Ghosts S) → Desk S g → Type 0
 IsClean g desk = HasCleanDisk (seen g desk.connection)
 
--- the call takes at most so many steps, whatever history the desk stands for
+-- The call takes at most this many steps of the database, whatever history the desk stands for.
 abbrev pub KeepsToSteps : {S : Type 0} → (g : Ghosts S) → ℕ → Desk S g → Desk S g → Type 0
 KeepsToSteps g most old new = (h : List Request) → StandsFor g old h → IsClean g new → TakesSteps most old new
 
--- and the connection is open: no fault has shut it
+-- The connection of the desk is open: no fault has shut it, where the disk gave back what was written.
 abbrev pub IsOpen : {S : Type 0} → (g : Ghosts S) → Desk S g → Type 0
 IsOpen g desk = IsClean g desk → IsTrue (seen g desk.connection).is_open
 
--- the latest moment that the desk knows of, and how many keys
+-- The latest moment that the desk has stored with its connection.
 abbrev pub latest_of : {S : Type 0} {g : Ghosts S} → Desk S g → ℕ
 latest_of desk = desk.latest
 
+-- The number of keys that the desk counts.
 abbrev pub keys_of : {S : Type 0} {g : Ghosts S} → Desk S g → ℕ
 keys_of desk = desk.keys
 
@@ -140,28 +143,38 @@ pub record ChangesNothing {S : Type 0} (g : Ghosts S) (old new : Desk S g) : Typ
   pub rows : (t : Tables) → Sees g t old → Sees g t new
   pub survives : Survives (seen g old.connection) (seen g new.connection) (λ _. ⊥)
 
--- What applying a request does over tables, whatever history these are of if any: they answer it, and an accepted
--- request makes one change of them; nothing else does, and after the end 31 a stop leaves them, or them with the
--- request.
-pub record AppliesOver {S : Type 0} (g : Ghosts S) (q : Request) (old new : Desk S g) (result : Result Answer End)
+-- The answer to the request over a history is the verdict, and then the desk stands for the history with the request
+-- at its end, if that was accepted.
+pub record IsAnsweredTo {S : Type 0} (g : Ghosts S) (h : List Request) (q : Request) (given : Answer) (desk : Desk S g)
     : Type 0 where
-  pub over : (t : Tables) → IsOver g old t → IsRequest q → IsClean g new
-      → IfOk result (λ given. IsAnsweredOver g t q given new)
-  pub over_still : (t : Tables) → IsOver g old t → OnErr result (IsOver g new t)
-  pub tables : (t : Tables) → IsOver g old t → IsRequest q → IsClean g new
-      → IfErr result (λ end. end ≡ Store → LeavesWithRequest g t q new)
+  pub answer_is : given ≡ answer h q
+  pub stands : StandsFor g desk (history h (Some q ∷ []))
 
--- What applying a request does to a desk that stands for a history. The answer is the verdict over that; the desk then
--- stands for the history with the request at its end, if that was accepted, and at any end still for the history. After
--- the end 31 a stop leaves the register without the request, or with it where it is to be accepted. It takes so many
--- steps at most, however many keys there are.
-pub record AppliesTo {S : Type 0} (g : Ghosts S) (q : Request) (most : ℕ) (old new : Desk S g)
+-- What applying a request does to a desk of which something is so: an answer comes with what is to be so of both; at
+-- any end it is so of the desk still, and after the end 31 a stop leaves what is to be left.
+pub record Applies {S : Type 0} {g : Ghosts S} (q : Request) (Is : Desk S g → Type 0)
+    (IsAnswered : Answer → Desk S g → Type 0) (IsLeft : Desk S g → Type 0) (old new : Desk S g)
     (result : Result Answer End) : Type 0 where
-  pub answer : (h : List Request) → StandsFor g old h → IsRequest q → IsClean g new
-      → IfOk result (λ given. given ≡ answer h q)
-  pub stands : (h : List Request) → StandsFor g old h → IsRequest q → IsClean g new
-      → OnOk result (StandsFor g new (history h (Some q ∷ [])))
-  pub still : (h : List Request) → StandsFor g old h → OnErr result (StandsFor g new h)
-  pub leaves : (h : List Request) → StandsFor g old h → IsRequest q → IsClean g new
-      → IfErr result (λ end. end ≡ Store → LeavesEither g h (history h (Some q ∷ [])) new)
-  pub steps : KeepsToSteps g most old new
+  pub answers : Is old → IsRequest q → IsClean g new → IfOk result (λ given. IsAnswered given new)
+  pub still : Is old → OnErr result (Is new)
+  pub leaves : Is old → IsRequest q → IsClean g new → IfErr result (λ end. end ≡ Store → IsLeft new)
+
+-- Applying a request over tables, whatever history these are of if any: they answer it, and an accepted request makes
+-- one change of them; nothing else does, and after the end 31 a stop leaves them, or them with the request.
+abbrev pub AppliesOver : {S : Type 0} → (g : Ghosts S) → Tables → Request → Desk S g → Desk S g → Result Answer End
+    → Type 0
+AppliesOver g t q old new result =
+    Applies q (λ desk. IsOver g desk t) (IsAnsweredOver g t q) (LeavesWithRequest g t q) old new result
+
+-- Applying a request to a desk that stands for a history: the answer is the verdict over that, and after the end 31 a
+-- stop leaves the register without the request, or with it where it is to be accepted.
+abbrev pub AppliesTo : {S : Type 0} → (g : Ghosts S) → List Request → Request → Desk S g → Desk S g
+    → Result Answer End → Type 0
+AppliesTo g h q old new result =
+    Applies q (λ desk. StandsFor g desk h) (IsAnsweredTo g h q)
+    (LeavesEither g h (history h (Some q ∷ []))) old new result
+
+-- this is so unless the call may have changed something: it accepted a request, or the database refused it
+abbrev pub UnlessChanged : Result Answer End → Type 0 → Type 0
+UnlessChanged (Ok given) P = UnlessAccepted given P
+UnlessChanged (Err end) P = end ≢ Store → P

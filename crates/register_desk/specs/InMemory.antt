@@ -13,10 +13,11 @@ use Rattle.register_desk.specs.declared.runs.Outcome.{Outcome}
 use Rattle.register_desk.specs.Input.{HasItems}
 use Rattle.register_desk.specs.Run.{RunsOver}
 
--- where it lies: a file in memory, and its log
+-- A database file in memory, with its log.
 abbrev pub MemoryStore : Type 0
 MemoryStore = FileStore MemoryDisk disk.ghosts
 
+-- The specification state of a database over a file in memory and its log.
 abbrev pub over_memory : Ghosts MemoryStore
 over_memory = over_files
 

@@ -24,7 +24,7 @@ IsOfReading BadHeader = ⊥
 -- What came from one place of an input to another, whether nothing more came, and why nothing could be read.
 module _ {P : Type 0} (Came : P → P → List (Option Request) → Type 0) (Ends : P → P → ℕ → Type 0)
     (Fails : P → P → End → Type 0) {S : Type 0} (g : Ghosts S) where
-  -- items came and were answered, each by its whole line, as many as there are replies
+  -- Items came from the first place to the other; each was answered by its whole line. There are as many as replies.
   pub record ServedItems (start place : P) (old new : Option (List ℕ)) (kept now : Desk S g) (replies : ℕ) : Type 0
     where
       pub items : List (Option Request)
@@ -33,14 +33,14 @@ module _ {P : Type 0} (Came : P → P → List (Option Request) → Type 0) (End
       pub counted : length items ≡ replies
       pub so_far : AnsweredItems g old new kept now items
 
-  -- and after them no further one came
+  -- The items up to the end were answered, and no further one came.
   pub record ServedAll (start last : P) (old new : Option (List ℕ)) (kept now : Desk S g) (replies rest : ℕ) : Type 0
     where
       pub place : P
       pub served : ServedItems start place old new kept now replies
       pub ends : Ends place last rest
 
-  -- or none could be read
+  -- Items were answered, and the source failed to read a further one.
   pub record ServedUnread (start last : P) (old new : Option (List ℕ)) (kept now : Desk S g) (replies : ℕ) (end : End)
       : Type 0 where
     pub place : P
@@ -48,7 +48,7 @@ module _ {P : Type 0} (Came : P → P → List (Option Request) → Type 0) (End
     pub of_reading : IsOfReading end
     pub fails : Fails place last end
 
-  -- or one more came, of which this is left
+  -- Items were answered, and one more came, of which the call left this.
   pub record ServedInPart (start last : P) (old new : Option (List ℕ)) (kept now : Desk S g) (replies : ℕ) (end : End)
       : Type 0 where
     pub place : P
@@ -61,6 +61,8 @@ module _ {P : Type 0} (Came : P → P → List (Option Request) → Type 0) (End
     pub came : Came start last (served.items ++ item ∷ [])
     pub leaves : LeavesItem g mid now so_far new item end part
 
+  -- What items were served by the end of the call: at the end of the source all; at any other end the source failed, or
+  -- one more item came.
   abbrev pub ServedTo : P → P → Option (List ℕ) → Option (List ℕ) → Desk S g → Desk S g → ℕ → Finish → Type 0
   ServedTo start last old new kept now replies (AtEnd rest) = ServedAll start last old new kept now replies rest
   ServedTo start last old new kept now replies (Ended end) =

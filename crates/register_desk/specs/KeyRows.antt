@@ -15,30 +15,33 @@ use Rattle.register_desk.specs.Register.{tables}
 
 -- ---- the rows of tables
 
+-- The row that an export or a report gives of a numbered key.
 abbrev pub row_of : ℕ × Key → KeyRow
 row_of x = record { number = x.0; kind = x.1.kind; owner = x.1.owner; purpose = x.1.purpose; row = x.1.row }
 
--- those of all keys, by number
+-- The rows of all keys of these tables, by number.
 abbrev pub rows_of : Tables → List KeyRow
 rows_of t = map row_of (numbered t.keys)
 
+-- The rows of all keys of a history, by number.
 abbrev pub all_rows : List Request → List KeyRow
 all_rows h = rows_of (tables h)
 
 -- ---- which rows are given: all by number, or the due ones up to a moment
 
--- these are the first of them
+-- Rows that are the first of those to be given: by number, or of the due ones in their order.
 abbrev pub AreSoFar : Option ℕ → List KeyRow → List KeyRow → Type 0
 AreSoFar None all given = given ≡ take (length given) all
 AreSoFar (Some until) all given = AreFirstDue all until given
 
--- and these are all of them
+-- These are all rows to be given: every one by number, or the due ones in their order.
 abbrev pub AreAll : Option ℕ → List KeyRow → List KeyRow → Type 0
 AreAll None all given = given ≡ all
 AreAll (Some until) all given = AreDue all until given
 
 -- ---- how far they are
 
+-- The moment up to which a scan gives due keys; none where it gives all by number.
 abbrev pub due_until : Scan → Option ℕ
 due_until (ByNumber last) = None
 due_until (ByStop until last run) = Some until
@@ -52,6 +55,7 @@ row_steps (Some until) = 4
 abbrev pub first_cursor : DueCursor
 first_cursor = record { stop = 0; number = 0 }
 
+-- The cursor that stands on the row of a due key.
 abbrev pub cursor_of_row : KeyRow → DueCursor
 cursor_of_row r = record { stop = stop_of r; number = r.number }
 
@@ -71,13 +75,15 @@ last_number (ByNumber last) = last
 last_number (ByStop until last run) = last.number
 
 module _ {S : Type 0} {g : Ghosts S} where
-  -- the rows go on, came to their end, or are broken by a call that the database refused
+  -- The rows have not ended, and the database has refused none.
   abbrev pub GoOn : KeyRows S g → Type 0
   GoOn rows = rows.progress ≡ Going
 
+  -- The rows came to their end.
   abbrev pub AreEnded : KeyRows S g → Type 0
   AreEnded rows = rows.progress ≡ Ended
 
+  -- The database refused a row.
   abbrev pub AreBroken : KeyRows S g → Type 0
   AreBroken rows = rows.progress ≡ Broken
 

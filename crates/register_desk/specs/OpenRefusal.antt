@@ -1,18 +1,22 @@
 -- Why a database is not taken as a register, with the name of each cause. They are this register's own.
-use Rattle.std.specs.Prelude.{◌≡◌, ◌⊎◌, ℕ, List, codes, Result, IfOk, IfErr, IsTrue}
+use Rattle.std.specs.Prelude.{◌≡◌, ◌⊎◌, ℕ, false, List, [], codes, Result, IfOk, IfErr, IsTrue}
 use Rattle.sqlite_trees.specs.declared.store.Store.{Ghosts}
 use Rattle.sqlite.specs.Effect.{Database}
 use Rattle.sqlite.specs.Held.{Held as Connection, state}
 use Rattle.sqlite.specs.State.{State, HasCleanDisk, IsUnchanged, Survives}
 use Rattle.sqlite.specs.Tree.{Trees}
 use Rattle.sql_steps.specs.Steps.{KeepsCommitted}
-use Rattle.register_store.specs.Creation.{HasTable, MakesRegister}
+use Rattle.register_core.specs.Fold.{IsLawfulIn}
+use Rattle.register_requests.specs.declared.request.Request.{Request}
+use Rattle.register_requests.specs.declared.version.Version.{Version}
+use Rattle.register_store.specs.Creation.{Finds, HasTable, MakesRegister}
+use Rattle.register_store.specs.OpeningChecks.{MeetsChecks}
 use Rattle.register_requests.specs.declared.version.Version.TheVariants.{First}
 use Rattle.register_requests.specs.Version.{current}
-use Rattle.register_store.specs.Schema.{Holds}
+use Rattle.register_store.specs.Schema.{Holds, no_schema}
 use Rattle.register_store.specs.CheckedTables.{FailsOne, HasNewer, Passes}
 use Rattle.register_store.specs.Migration.{HasNewTable}
-use Rattle.register_store.specs.OpenedTables.{HasBoth, MigratesTo}
+use Rattle.register_store.specs.OpenedTables.{HasBoth, HasCommittedIn, MigratesTo}
 use Rattle.register_store.specs.Stored.{Stored}
 use Rattle.register_store.specs.declared.error.CheckError.{CheckError}
 use Rattle.register_store.specs.declared.error.CheckError.TheVariants as checks
@@ -24,7 +28,9 @@ use Rattle.register_desk.specs.declared.end.End.TheVariants as end
 use Rattle.register_desk.specs.declared.opening.OpenRefusal.{OpenRefusal}
 use Rattle.register_desk.specs.declared.opening.Unopened.{Unopened}
 use Rattle.register_desk.specs.declared.opening.OpenRefusal.TheVariants.{Memory, Store, NotARegister, NewerVersion}
+use Rattle.register_desk.specs.Desk.{IsClean, IsWhole}
 use Rattle.register_desk.specs.End.{end_name}
+use Rattle.register_desk.specs.Register.{StandsFor, tables}
 
 -- a refusal that is the end of a call too has the end's name
 abbrev pub open_refusal_name : OpenRefusal → List ℕ
@@ -45,13 +51,15 @@ check_refusal (checks.NewerVersion found) = NewerVersion found
 check_refusal checks.Memory = Memory
 check_refusal (checks.Database error) = Store
 
--- why the connection did not become a desk, the connection, and what that shows
+-- Why the connection did not become a desk.
 abbrev pub refusal_in : {S : Type 0} → Unopened S → OpenRefusal
 refusal_in unopened = unopened.refusal
 
+-- The connection that did not become a desk.
 abbrev pub connection_in : {S : Type 0} → Unopened S → Connection S
 connection_in unopened = unopened.connection
 
+-- What the connection that did not become a desk shows.
 abbrev pub state_in : {S : Type 0} → (g : Ghosts S) → Unopened S → State
 state_in g unopened = state g unopened.connection
 
@@ -93,12 +101,13 @@ LeavesCommitted old new =
 abbrev pub IsTakenIn : State → Trees → Type 0
 IsTakenIn = MigratesTo
 
--- what was committed, or that
+-- A stop leaves what was committed, or that migrated to this program's version.
 abbrev pub LeavesMigrated : State → State → Type 0
 LeavesMigrated old new = IsTrue old.is_open → HasCleanDisk new → (trees : Trees) → new.may_leave trees
     → (trees ≡ old.committed.trees) ⊎ IsTakenIn old trees
 
--- after an opening that was refused: the second only where the database refused
+-- What a stop leaves after a refused opening: what was committed, and only where the database refused perhaps that
+-- migrated.
 abbrev pub LeavesBehind : OpenRefusal → State → State → Type 0
 LeavesBehind Store old new = LeavesMigrated old new
 LeavesBehind refusal old new = LeavesCommitted old new
@@ -124,12 +133,12 @@ pub record SparesTables {S : Type 0} (g : Ghosts S) (old : Connection S)
 abbrev pub IsMadeIn : State → Trees → Type 0
 IsMadeIn s trees = (db : Database) × MakesRegister s.now db × (trees ≡ db.trees)
 
--- a stop leaves what was committed, or that
+-- A stop leaves what was committed, or that with an empty register made in it.
 abbrev pub LeavesMade : State → State → Type 0
 LeavesMade old new = IsTrue old.is_open → HasCleanDisk new → (trees : Trees) → new.may_leave trees
     → (trees ≡ old.committed.trees) ⊎ IsMadeIn old trees
 
--- a stop leaves that alone
+-- A stop leaves what was committed with an empty register made in it, and nothing else.
 abbrev pub LeavesNew : State → State → Type 0
 LeavesNew old new = (trees : Trees) → new.may_leave trees → IsMadeIn old trees
 
@@ -139,5 +148,39 @@ pub record CreatesNothingIn (old new : State) : Type 0 where
   pub kept : KeepsCommitted old new
   pub stop : Survives old new (λ trees. (db : Database) × MakesRegister old.now db × (trees ≡ db.trees))
 
+-- What a refused creation leaves of a connection.
 abbrev pub CreatesNothing : {S : Type 0} → (g : Ghosts S) → Connection S → Connection S → Type 0
 CreatesNothing g old new = CreatesNothingIn (state g old) (state g new)
+
+-- ---- whole calls
+
+-- What a creation makes: in an empty database the register of no request. None of a register's tables was there, and
+-- what was beside them is kept; a stop leaves that.
+pub record Creates {S : Type 0} (g : Ghosts S) (old : Connection S) (desk : Desk S g) : Type 0 where
+  pub whole : IsWhole desk
+  pub clean : IsClean g desk → HasCleanDisk (state g old)
+  pub stands : (state g old).now.schema ≡ no_schema → StandsFor g desk []
+  pub leaves_new : IsClean g desk → LeavesNew (state g old) (seen g desk.connection)
+
+-- Why a creation was refused, and what it leaves: nothing of it, or an empty register where none of a register's tables
+-- was there. Where one is there, what was committed is left alone.
+pub record RefusesCreation {S : Type 0} (g : Ghosts S) (old : Connection S) (unopened : Unopened S) : Type 0 where
+  pub idle : (connection_in unopened).in_transaction ≡ false
+  pub reason : (refusal_in unopened ≡ Store) ⊎ (refusal_in unopened ≡ NotARegister)
+  pub there : refusal_in unopened ≡ NotARegister → Finds g old (connection_in unopened)
+  pub leaves : CreatesNothing g old (connection_in unopened)
+  pub leaves_there : refusal_in unopened ≡ NotARegister → LeavesCommitted (state g old) (state_in g unopened)
+  pub leaves_made : LeavesMade (state g old) (state_in g unopened)
+
+-- Why an opening was refused, and what it leaves. The register of a history that is lawful in its version is not refused
+-- for its tables.
+pub record RefusesOpening {S : Type 0} (g : Ghosts S) (old : Connection S) (unopened : Unopened S) : Type 0 where
+  pub idle : (connection_in unopened).in_transaction ≡ false
+  pub reason : HasCleanDisk (state_in g unopened)
+      → IsReasonOf (state g old) (state_in g unopened) (refusal_in unopened)
+  pub blames_none : (version : Version) (h : List Request) → IsLawfulIn version h
+      → HasCommittedIn version (tables h) (state g old) → HasCleanDisk (state_in g unopened)
+      → RefusesNoTable (refusal_in unopened)
+  pub leaves : LeavesBehind (refusal_in unopened) (state g old) (state_in g unopened)
+  pub leaves_stored : (t : Stored) → HasCommittedIn t.version t.tables (state g old) → MeetsChecks t
+      → LeavesStored t (state g old) (state_in g unopened)

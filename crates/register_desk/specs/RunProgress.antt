@@ -72,6 +72,7 @@ module _ {S : Type 0} (g : Ghosts S) where
     pub stands : (h : List Request) → StandsFor g kept h → StandsFor g now h
     pub clean : WasClean kept now
 
+  -- What an end leaves of the desk and of the item that it stopped.
   abbrev pub StopsItem : Desk S g → Desk S g → Option Request → End → Type 0
   StopsItem kept now item Store = BreaksAt kept now item
   StopsItem kept now item Broken = IsBrokenAt kept now item

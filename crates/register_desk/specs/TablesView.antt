@@ -31,7 +31,8 @@ use Rattle.register_store.specs.Tables.{Tables}
 abbrev pub need_over : Tables → ℕ → ℕ
 need_over t number = unwrap_or (need_at number t.needs) min_approvals
 
--- the same where a decision on the command looks at it, and else the least
+-- The approvals that the destruction of a key needs where the command's decision looks at that, and otherwise the
+-- least.
 abbrev pub need_for : Tables → Command → ℕ → ℕ
 need_for t c number = if looks_at_need c then need_over t number else min_approvals
 
@@ -61,8 +62,8 @@ key_for t c number =
     then key_with_custody t number (need_for t c number)
     else key_without_custody t number
 
--- that of the key which the request names; nothing where its moment is below the latest, which refuses it whatever the
--- key is
+-- The key that the request names, as its decision needs it; none where its moment is below the latest, which refuses
+-- the request whatever the key is.
 abbrev pub key_needed : Tables → Request → Option Held
 key_needed t q =
     if nat_lt q.moment t.counts.latest then None else option_and_then (key_for t q.command) (named q.command)
@@ -81,11 +82,11 @@ judgement_over t q = judge t.counts.latest (length t.keys) (period_over t) (key_
 abbrev pub verdict_over : Tables → Request → Option KeptReply → Verdict
 verdict_over t q found = unless_kept (cons_option found []) q.command (verdict_by (judgement_over t q))
 
--- what the request changes where it is accepted
+-- The change that the request makes over these tables where it is accepted.
 abbrev pub change_over : Tables → Request → Change
 change_over t q = change_by_request (period_over t) (key_needed t q) q
 
--- what it is answered then
+-- The reply to the request over these tables where it is accepted.
 abbrev pub reply_over : Tables → Request → Reply
 reply_over t q = reply_to (length t.keys) q.moment (change_over t q)
 

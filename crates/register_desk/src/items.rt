@@ -23,7 +23,8 @@ pub enum NextItem {
 
 /// A source of items, which it makes of what an input of type `I` gives.
 pub trait Items<I> {
-    ghost use Rattle.std.specs.Prelude.{◌≡◌, ◌<◌, ℕ, List, [], ◌∷◌, ◌++◌, Option, Ok, IfErr, IfSome, OnOk};
+    ghost use Rattle.std.specs.Prelude.{◌≡◌, ◌<◌, ℕ, List, [], ◌∷◌, ◌++◌, Option, Ok, IfErr};
+    ghost use Rattle.std.specs.Prelude.{IfSome, OnOk};
     ghost use Rattle.register_requests.specs.declared.request.Request.{Request};
     ghost use Rattle.register_requests.specs.Request.{IsRequest};
     ghost use Rattle.register_desk.specs.declared.end.End.{End};
@@ -54,7 +55,8 @@ pub trait Items<I> {
         ensures in_range { (item : Option Request) → result ≡ Ok (NextItem.Item item)
             → IfSome item IsRequest }
         ensures came { (item : Option Request) → result ≡ Ok (NextItem.Item item)
-            → (start : Self × I) (items : List (Option Request)) → came start (self.old, input.old) items
+            → (start : Self × I) (items : List (Option Request))
+            → came start (self.old, input.old) items
             → came start (self.new, input.new) (items ++ item ∷ []) }
         ensures less { (item : Option Request) → result ≡ Ok (NextItem.Item item)
             → left (self.new, input.new) < left (self.old, input.old) }

@@ -70,7 +70,8 @@ fn run_new<S: Alter + Drop, R: Read, W: Write>(
     requires reader { reader.old.failed ≡ false }
     requires writer { writer.old.failed ≡ false }
     ensures runs { IfOk result (RunsNew S.Store (state S.Store connection)
-        (R.remaining reader.old.inner) (W.contents writer.old.inner) (W.contents writer.new.inner)) }
+        (R.remaining reader.old.inner) (W.contents writer.old.inner)
+        (W.contents writer.new.inner)) }
     ensures reader { IfOk result (LeavesReader R.remaining reader.old reader.new) }
     ensures writer { IfOk result (LeavesWriter W.contents writer.old writer.new) }
     ensures refused { IfErr result (λ refusal. refusal ≡ OpenRefusal.Store) }

@@ -23,9 +23,9 @@ use Rattle.http_messages.specs.declared.asked.Asked.{Asked}
 use Rattle.http_messages.specs.declared.asked.Asked.TheVariants.{Reject}
 use Rattle.http_messages.specs.declared.asked.Rejection.{Rejection}
 use Rattle.http_messages.specs.Rejection.{reply_of}
-use Rattle.http_messages.specs.HttpReply.{Reply}
-use Rattle.register_http.specs.Action.{Acts, IsTextOf, MayChange, StopsBy}
-use Rattle.register_http.specs.ActionReply.{found_reply, history_after, reply_to, uses_register}
+use Rattle.http_messages.specs.HttpReply.{HttpReply}
+use Rattle.register_http.specs.Action.{Acts, IsTextOf, MayChange, StopsAsked}
+use Rattle.register_http.specs.ActionReply.{found_reply, history_after_asked, reply_to_asked, uses_register}
 
 whole_not_broken : {A : Type 0} {S : Type 0} {g : Ghosts S} (desk : Desk S g) → IsWhole desk → IsBroken desk → A
 whole_not_broken desk whole broken = let both = sym whole ∙ broken in absurd (cc)
@@ -33,10 +33,13 @@ whole_not_broken desk whole broken = let both = sym whole ∙ broken in absurd (
 module _ {S : Type 0} (g : Ghosts S) where
   -- a stop leaves one of two histories where it leaves the first, or the second
   pub leaves_first : (h other : List Request) (desk : Desk S g) → LeavesEither g h h desk → LeavesEither g h other desk
-  leaves_first h other desk leaves = λ trees left. let (db, holds, is) = leaves trees left in (db, inl (elim holds [ inl one ↦ one | inr two ↦ two ]), is)
+  leaves_first h other desk leaves = λ trees left. let (db, holds, is) = leaves trees left in
+      (db, inl (elim holds [ inl one ↦ one | inr two ↦ two ]), is)
 
-  pub leaves_second : (h other : List Request) (desk : Desk S g) → LeavesEither g other other desk → LeavesEither g h other desk
-  leaves_second h other desk leaves = λ trees left. let (db, holds, is) = leaves trees left in (db, inr (elim holds [ inl one ↦ one | inr two ↦ two ]), is)
+  pub leaves_second : (h other : List Request) (desk : Desk S g) → LeavesEither g other other desk
+      → LeavesEither g h other desk
+  leaves_second h other desk leaves = λ trees left. let (db, holds, is) = leaves trees left in
+      (db, inr (elim holds [ inl one ↦ one | inr two ↦ two ]), is)
 
   -- a call of the database that a broken desk refuses ends by that
   broken_ends : (old new : Desk S g) (end : End) → EndsBy old new end → IsBroken old → end ≡ Broken
@@ -50,7 +53,7 @@ module _ {S : Type 0} (g : Ghosts S) where
   both_whole : (old new : Desk S g) → IsWhole old → IsWhole new → GoesOn old new
   both_whole old new was is = record { whole = λ _. is; broken = λ broken. whole_not_broken old was broken }
 
-  stops_by : (old new : Desk S g) (end : End) → EndsBy old new end → StopsBy g old new end
+  stops_by : (old new : Desk S g) (end : End) → EndsBy old new end → StopsAsked g old new end
   stops_by old new Memory ends = both_whole old new ends.0 ends.1
   stops_by old new Store ends = ends
   stops_by old new Broken ends = ends
@@ -61,7 +64,7 @@ module _ {S : Type 0} (g : Ghosts S) where
   module _ (moment : ℕ) (asked : Asked) (old new : Desk S g) where
     -- what was asked is a question: it adds no request, uses the register, and is not rejected
     pub record IsQuestion : Type 0 where
-      pub same : (h : List Request) → history_after h moment asked ≡ h
+      pub same : (h : List Request) → history_after_asked h moment asked ≡ h
       pub uses : uses_register asked ≡ true
       pub asks : (rejection : Rejection) → asked ≢ Reject rejection
 
@@ -70,8 +73,10 @@ module _ {S : Type 0} (g : Ghosts S) where
       pub clean : IsClean g new → IsClean g old
       pub goes_on : GoesOn old new
       pub whole : uses_register asked ≡ true → IsWhole old
-      pub stands : (h : List Request) → StandsFor g old h → IsClean g new → StandsFor g new (history_after h moment asked)
-      pub leaves : (h : List Request) → StandsFor g old h → IsWhole old → IsClean g new → LeavesEither g h (history_after h moment asked) new
+      pub stands : (h : List Request) → StandsFor g old h → IsClean g new
+          → StandsFor g new (history_after_asked h moment asked)
+      pub leaves : (h : List Request) → StandsFor g old h → IsWhole old → IsClean g new
+          → LeavesEither g h (history_after_asked h moment asked) new
 
     pub went_reading : IsQuestion → IsWhole old × IsWhole new → ChangesNothing g old new → Went
     went_reading question both reads = record {
@@ -79,14 +84,15 @@ module _ {S : Type 0} (g : Ghosts S) where
       goes_on = both_whole old new both.0 both.1;
       whole = λ uses. both.0;
       stands = λ h s clean. subst (StandsFor g new) (sym (question.same h)) (stands_still g old new reads h s);
-      leaves = λ h s whole clean. subst (λ k. LeavesEither g h k new) (sym (question.same h)) (leaves_still g h old new reads s whole clean);
+      leaves = λ h s whole clean. subst (λ k. LeavesEither g h k new) (sym (question.same h))
+          (leaves_still g h old new reads s whole clean);
     }
 
     -- a text was made of the answer, or memory for it gave out
     pub acts_text : (made : Result (String Global) AllocError) (result : Result (String Global) End) → Went
         → ChangesNothing g old new ⊎ MayChange asked result
         → ((rejection : Rejection) → asked ≡ Reject rejection → (new ≡ old) × IfOk made (IsTextOf (reply_of rejection)))
-        → ((h : List Request) → StandsFor g old h → IsClean g new → IfOk made (IsTextOf (reply_to h moment asked)))
+        → ((h : List Request) → StandsFor g old h → IsClean g new → IfOk made (IsTextOf (reply_to_asked h moment asked)))
         → IfOk made (λ s. result ≡ Ok s) → OnErr made (result ≡ Err Memory) → Acts g moment asked old new result
     acts_text (Ok s) result went changes rejects text ok err = subst (Acts g moment asked old new) (sym ok) (record {
       changes = subst (λ r. ChangesNothing g old new ⊎ MayChange asked r) ok changes;
@@ -114,10 +120,12 @@ module _ {S : Type 0} (g : Ghosts S) where
     })
 
     -- the desk's call came to an end
-    pub acts_end : (end : End) (result : Result (String Global) End) → uses_register asked ≡ true → ((rejection : Rejection) → asked ≢ Reject rejection)
+    pub acts_end : (end : End) (result : Result (String Global) End) → uses_register asked ≡ true
+        → ((rejection : Rejection) → asked ≢ Reject rejection)
         → (IsClean g new → IsClean g old) → EndsBy old new end
         → ((h : List Request) → StandsFor g old h → StandsFor g new h)
-        → ((h : List Request) → StandsFor g old h → IsWhole old → IsClean g new → LeavesEither g h (history_after h moment asked) new)
+        → ((h : List Request) → StandsFor g old h → IsWhole old → IsClean g new
+        → LeavesEither g h (history_after_asked h moment asked) new)
         → ChangesNothing g old new ⊎ MayChange asked (Err end) → result ≡ Err end → Acts g moment asked old new result
     acts_end end result uses asks clean ends stands leaves changes is =
         subst (Acts g moment asked old new) (sym is) (record {
@@ -133,7 +141,8 @@ module _ {S : Type 0} (g : Ghosts S) where
           leaves = leaves;
         })
 
-    pub question_ends : (end : End) (result : Result (String Global) End) → IsQuestion → EndsBy old new end → ChangesNothing g old new
+    pub question_ends : (end : End) (result : Result (String Global) End) → IsQuestion → EndsBy old new end
+        → ChangesNothing g old new
         → result ≡ Err end → Acts g moment asked old new result
     question_ends end result question ends reads is =
         acts_end end result question.uses question.asks reads.clean ends (λ h s. stands_still g old new reads h s)
@@ -141,19 +150,24 @@ module _ {S : Type 0} (g : Ghosts S) where
         (leaves_still g h old new reads s whole clean)) (inl reads) is
 
     -- the request was applied, and answered
-    pub went_applied : (h' : List Request → List Request) → ((h : List Request) → history_after h moment asked ≡ h' h) → (IsClean g new → IsClean g old) → IsWhole old × IsWhole new
+    pub went_applied : (h' : List Request → List Request)
+        → ((h : List Request) → history_after_asked h moment asked ≡ h' h) → (IsClean g new → IsClean g old) → IsWhole old × IsWhole new
         → ((h : List Request) → StandsFor g old h → IsClean g new → StandsFor g new (h' h)) → Went
     went_applied h' is clean both stands = record {
       clean = clean;
       goes_on = both_whole old new both.0 both.1;
       whole = λ uses. both.0;
       stands = λ h s was_clean. subst (StandsFor g new) (sym (is h)) (stands h s was_clean);
-      leaves = λ h s whole was_clean. subst (λ k. LeavesEither g h k new) (sym (is h)) (leaves_second h (h' h) new (leaves_alone g (h' h) new (stands h s was_clean) both.1 was_clean));
+      leaves = λ h s whole was_clean. subst (λ k. LeavesEither g h k new) (sym (is h))
+          (leaves_second h (h' h) new (leaves_alone g (h' h) new (stands h s was_clean) both.1 was_clean));
     }
 
-    leaves_applied : (end : End) (h other : List Request) → EndsBy old new end → StandsFor g old h → IsWhole old → IsClean g new
-        → (end ≡ Store → LeavesEither g h other new) → (end ≢ Store → ChangesNothing g old new) → LeavesEither g h other new
-    leaves_applied Memory h other ends s whole clean store same = leaves_first h other new (leaves_still g h old new (same (λ e. absurd (cc))) s whole clean)
+    leaves_applied : (end : End) (h other : List Request) → EndsBy old new end → StandsFor g old h → IsWhole old
+        → IsClean g new
+        → (end ≡ Store → LeavesEither g h other new) → (end ≢ Store → ChangesNothing g old new)
+        → LeavesEither g h other new
+    leaves_applied Memory h other ends s whole clean store same = leaves_first h other new
+        (leaves_still g h old new (same (λ e. absurd (cc))) s whole clean)
     leaves_applied Store h other ends s whole clean store same = store refl
     leaves_applied Broken h other ends s whole clean store same = whole_not_broken old whole ends.0
     leaves_applied ReadFault h other ends s whole clean store same = absurd ends
@@ -170,9 +184,11 @@ module _ {S : Type 0} (g : Ghosts S) where
     changes_applied BadHeader ends same may = absurd ends
 
     -- the request was not answered
-    pub applied_ends : (end : End) (result : Result (String Global) End) → uses_register asked ≡ true → ((rejection : Rejection) → asked ≢ Reject rejection)
-        → (IsClean g new → IsClean g old) → EndsBy old new end → ((h : List Request) → StandsFor g old h → StandsFor g new h)
-        → (h' : List Request → List Request) → ((h : List Request) → history_after h moment asked ≡ h' h)
+    pub applied_ends : (end : End) (result : Result (String Global) End) → uses_register asked ≡ true
+        → ((rejection : Rejection) → asked ≢ Reject rejection)
+        → (IsClean g new → IsClean g old) → EndsBy old new end
+        → ((h : List Request) → StandsFor g old h → StandsFor g new h)
+        → (h' : List Request → List Request) → ((h : List Request) → history_after_asked h moment asked ≡ h' h)
         → ((h : List Request) → StandsFor g old h → IsClean g new → end ≡ Store → LeavesEither g h (h' h) new)
         → (end ≢ Store → ChangesNothing g old new) → MayChange asked (Err Store) → result ≡ Err end
         → Acts g moment asked old new result
@@ -218,17 +234,21 @@ rejection_is : (r k : Rejection) → Reject r ≡ Reject k → r ≡ k
 rejection_is r k e = cc
 
 -- the text of a rejection is known without the register
-pub rejected_text : (r k : Rejection) (made : Result (String Global) AllocError) → IfOk made (IsTextOf (reply_of r)) → Reject r ≡ Reject k → IfOk made (IsTextOf (reply_of k))
+pub rejected_text : (r k : Rejection) (made : Result (String Global) AllocError) → IfOk made (IsTextOf (reply_of r))
+    → Reject r ≡ Reject k → IfOk made (IsTextOf (reply_of k))
 rejected_text r k made text e = subst (λ x. IfOk made (IsTextOf (reply_of x))) (rejection_is r k e) text
 
 -- what is found of a key is told
-pub found_text : {T : Type 0} (reply : T → Reply) (o p : Option T) (made : Result (String Global) AllocError) → o ≡ p → IfOk made (IsTextOf (found_reply reply o)) → IfOk made (IsTextOf (found_reply reply p))
+pub found_text : {T : Type 0} (reply : T → HttpReply) (o p : Option T) (made : Result (String Global) AllocError) → o ≡ p
+    → IfOk made (IsTextOf (found_reply reply o)) → IfOk made (IsTextOf (found_reply reply p))
 found_text reply o p made e text = subst (λ x. IfOk made (IsTextOf (found_reply reply x))) e text
 
 -- what was asked, by another name of it
-pub asked_same : {S : Type 0} (g : Ghosts S) (moment : ℕ) (a b : Asked) (old new : Desk S g) (result : Result (String Global) End) → a ≡ b → Acts g moment a old new result → Acts g moment b old new result
+pub asked_same : {S : Type 0} (g : Ghosts S) (moment : ℕ) (a b : Asked) (old new : Desk S g)
+    (result : Result (String Global) End) → a ≡ b → Acts g moment a old new result → Acts g moment b old new result
 asked_same g moment a b old new result e acts = subst (λ (x : Asked). Acts g moment x old new result) e acts
 
 -- what was answered, by another name of it
-pub outcome_told : (o p : Result core.Reply Refusal) (made : Result (String Global) AllocError) → o ≡ p → IfOk made (IsTextOf (outcome_reply o)) → IfOk made (IsTextOf (outcome_reply p))
+pub outcome_told : (o p : Result core.Reply Refusal) (made : Result (String Global) AllocError) → o ≡ p
+    → IfOk made (IsTextOf (outcome_reply o)) → IfOk made (IsTextOf (outcome_reply p))
 outcome_told o p made e text = subst (λ (x : Result core.Reply Refusal). IfOk made (IsTextOf (outcome_reply x))) e text

@@ -20,10 +20,10 @@ use Rattle.http_messages.specs.declared.asked.AskFault.{AskFault}
 use Rattle.http_messages.specs.declared.asked.AskFault.TheVariants as fault
 use Rattle.http_messages.specs.declared.asked.Asked.{Asked}
 use Rattle.http_messages.specs.declared.asked.Asked.TheVariants.{Reject, ShowKey, ShowUsage, Apply}
-use Rattle.http_messages.specs.CommandBody.{IsInRange}
+use Rattle.http_messages.specs.CommandBody.{IsAskedInRange}
 use Rattle.register_http.specs.Action.{Acts, StandsForEither}
-use Rattle.register_http.specs.ActionReply.{history_after, request_at}
-use Rattle.register_http.specs.Exchange.{EndsAs, Serves, ServesAsked}
+use Rattle.register_http.specs.ActionReply.{history_after_asked, request_at}
+use Rattle.register_http.specs.Exchange.{EndsAs, ServesExchange, ServesAsked}
 use Rattle.register_http.specs.OneItem.{LeavesOne}
 
 -- the item that is handed to the register
@@ -34,14 +34,14 @@ item_of moment (ShowUsage key) = None
 item_of moment (Apply sent) = Some (request_at moment sent)
 
 handed : (h : List Request) (moment : ℕ) (asked : Asked)
-    → history_after h moment asked ≡ history h (item_of moment asked ∷ [])
+    → history_after_asked h moment asked ≡ history h (item_of moment asked ∷ [])
 handed h moment (Reject rejection) = refl
 handed h moment (ShowKey key) = refl
 handed h moment (ShowUsage key) = refl
 handed h moment (Apply sent) = refl
 
 -- it is in its range where what is asked is
-item_in_range : (moment : ℕ) → IsMoment moment → (asked : Asked) → IsInRange asked
+item_in_range : (moment : ℕ) → IsMoment moment → (asked : Asked) → IsAskedInRange asked
     → IfSome (item_of moment asked) IsRequest
 item_in_range moment is (Reject rejection) in_range = tt
 item_in_range moment is (ShowKey key) in_range = tt
@@ -57,7 +57,7 @@ module _ {S : Type 0} (g : Ghosts S) (moment : ℕ) (kept now : Desk S g) (is_mo
   -- the desk after an answer, or after an end that is not the database's
   went_on : (asked : Asked) (result : Result (String Global) End) → Acts g moment asked kept now result
       → (h : List Request) → StandsFor g kept h → IsWhole kept → IsClean g now
-      → (result ≢ Err Store) → IsWhole now × StandsForEither g h (history_after h moment asked) now
+      → (result ≢ Err Store) → IsWhole now × StandsForEither g h (history_after_asked h moment asked) now
   went_on asked (Ok text) acts h s whole clean other = (acts.ends.whole whole, inr (acts.stands h s clean))
   went_on asked (Err Memory) acts h s whole clean other = (acts.ends.whole whole, acts.memory h s clean refl)
   went_on asked (Err Store) acts h s whole clean other = absurd (other refl)
@@ -76,8 +76,8 @@ module _ {S : Type 0} (g : Ghosts S) (moment : ℕ) (kept now : Desk S g) (is_mo
   not_store (Err WriteFault) end replies ends other e = absurd (cc)
   not_store (Err BadHeader) end replies ends other e = absurd (cc)
 
-  one_of : (asked : Asked) (outcome : Outcome) (old new : Option (List ℕ)) → IsInRange asked
-      → Serves g moment asked kept now old new outcome
+  one_of : (asked : Asked) (outcome : Outcome) (old new : Option (List ℕ)) → IsAskedInRange asked
+      → ServesExchange g moment asked kept now old new outcome
       → (h : List Request) → StandsFor g kept h → IsWhole kept → IsClean g now → LeavesOne g h now outcome.end
   one_of asked outcome old new in_range s h stands whole clean =
       let on = λ (other : outcome.end ≢ Ended Store). went_on asked s.result s.acts h stands whole clean
@@ -105,7 +105,7 @@ module _ {S : Type 0} (g : Ghosts S) (moment : ℕ) (kept now : Desk S g) (is_mo
       }
 
   pub leaves_one : (asked : Result (Option Asked) AskFault) (outcome : Outcome) (old new : Option (List ℕ))
-      → IfOk asked (λ o. IfSome o IsInRange) → ServesAsked g moment asked kept now old new outcome
+      → IfOk asked (λ o. IfSome o IsAskedInRange) → ServesAsked g moment asked kept now old new outcome
       → (h : List Request) → StandsFor g kept h → IsWhole kept → IsClean g now → LeavesOne g h now outcome.end
   leaves_one (Ok (Some asked)) outcome old new in_range s h stands whole clean =
       one_of asked outcome old new in_range s h stands whole clean

@@ -19,10 +19,10 @@ use Rattle.http_messages.specs.declared.asked.AskFault.{AskFault}
 use Rattle.http_messages.specs.declared.asked.AskFault.TheVariants as fault
 use Rattle.http_messages.specs.declared.asked.Asked.{Asked}
 use Rattle.register_http.specs.Action.{Acts}
-use Rattle.register_http.specs.Exchange.{EndsAs, Leaves, LeavesReader, LeavesWriter, ServesAsked}
+use Rattle.register_http.specs.Exchange.{EndsAs, LeavesUnasked, LeavesHttpReader, LeavesHttpWriter, ServesAsked}
 use Rattle.register_http.specs.Within.Exchange.{KeepsWriter}
 use Rattle.register_http.specs.Exchange.{max_exchange_reads}
-use Rattle.register_http.specs.SentReply.{Sends, reply_text}
+use Rattle.register_http.specs.SentReply.{Sends, sent_text}
 
 -- the end that was answered, or what became of the writing where a text was
 pub ends_by : (answered : Result (String Global) End) (otherwise end : Finish) (replies : ℕ)
@@ -87,7 +87,7 @@ module _ {S : Type 0} (g : Ghosts S) (moment : ℕ) (kept now : Desk S g) where
   pub sent_answer : (asked : Result (Option Asked) AskFault) (one : Asked) (old new : Option (List ℕ)) (o : Outcome)
       (answered : Result (String Global) End) (left : Desk S g) (given : Result (String Global) End) → now ≡ left
       → answered ≡ given → Acts g moment one kept left given
-      → Sends (reply_text answered) old new o.written o.replies → EndsAs answered o.end o.replies
+      → Sends (sent_text answered) old new o.written o.replies → EndsAs answered o.end o.replies
       → asked ≡ Ok (Some one) → ServesAsked g moment asked kept now old new o
   sent_answer asked one old new o answered left given desk_is given_is acts sends ends is =
       let made = subst (λ (d : Desk S g). Acts g moment one kept d given) (sym desk_is) acts in
@@ -101,12 +101,12 @@ module _ {S : Type 0} (g : Ghosts S) (moment : ℕ) (kept now : Desk S g) where
   -- memory gave out as it was read what is asked, and the reply to that was sent
   pub sent_memory : (asked : Result (Option Asked) AskFault) (old new : Option (List ℕ)) (o : Outcome)
       (answered : Result (String Global) End) → asked ≡ Err fault.Memory → now ≡ kept → answered ≡ Err Memory
-      → Sends (reply_text answered) old new o.written o.replies → EndsAs answered o.end o.replies
+      → Sends (sent_text answered) old new o.written o.replies → EndsAs answered o.end o.replies
       → ServesAsked g moment asked kept now old new o
   sent_memory asked old new o answered is same memory sends ends =
       subst (λ (a : Result (Option Asked) AskFault). ServesAsked g moment a kept now old new o) (sym is) (record {
         same = same;
-        sends = subst (λ (r : Result (String Global) End). Sends (reply_text r) old new o.written o.replies) memory
+        sends = subst (λ (r : Result (String Global) End). Sends (sent_text r) old new o.written o.replies) memory
             sends;
         ends = subst (λ (r : Result (String Global) End). EndsAs r o.end o.replies) memory ends;
       })
@@ -114,8 +114,8 @@ module _ {S : Type 0} (g : Ghosts S) (moment : ℕ) (kept now : Desk S g) where
   -- nothing was done, and nothing written
   silent : (end : Finish) (w : Option (List ℕ)) (o : Outcome) → now ≡ kept
       → o ≡ record { read = 0; written = 0; replies = 0; end = end }
-      → Leaves g end [] kept now w w o × (o.replies ≡ 0)
-  silent end w o same is = subst (λ (x : Outcome). Leaves g end [] kept now w w x × (x.replies ≡ 0)) (sym is) (
+      → LeavesUnasked g end [] kept now w w o × (o.replies ≡ 0)
+  silent end w o same is = subst (λ (x : Outcome). LeavesUnasked g end [] kept now w w x × (x.replies ≡ 0)) (sym is) (
     record {
       same = same;
       sends = record { part = []; prefix = ([], refl); wrote = appends_none w; counted = refl; whole = inr refl };
@@ -167,7 +167,7 @@ module _ {S : Type 0} (g : Ghosts S) (moment : ℕ) (kept now : Desk S g) where
         → TookBytes (remaining old.inner) (remaining new.inner) o.read
         → (new.failed ≡ true → asked ≡ Err fault.ReadFault)
         → IfErr asked (λ f. f ≡ fault.ReadFault → IsFaulted new.failed max_exchange_reads new.turns)
-        → new.turns ≤ max_exchange_reads → LeavesReader remaining old new o
+        → new.turns ≤ max_exchange_reads → LeavesHttpReader remaining old new o
     leaves_reader remaining old new took tells faulted bounded = record {
       took = took;
       told = λ failed. read_fault asked v w o (tells failed) serves;
@@ -178,7 +178,7 @@ module _ {S : Type 0} (g : Ghosts S) (moment : ℕ) (kept now : Desk S g) where
 
     -- what is left of the writer, where a reply was begun
     pub leaves_writer : {W : Type 0} (old new : Watched W) → KeepsWriter old new o.replies → old.idle ≡ 0
-        → LeavesWriter new o
+        → LeavesHttpWriter new o
     leaves_writer old new keeps idle = record {
       flushed = keeps.flushed;
       unanswered = λ none. inr (inr (keeps.fault none));

@@ -15,11 +15,11 @@ use Rattle.http_messages.specs.declared.asked.Asked.TheVariants.{Reject, ShowKey
 use Rattle.http_messages.specs.declared.asked.Rejection.{Rejection}
 use Rattle.http_messages.specs.AnswerText.{outcome_reply}
 use Rattle.http_messages.specs.Rejection.{reply_of}
-use Rattle.http_messages.specs.HttpReply.{Reply, reply_bytes}
-use Rattle.register_http.specs.ActionReply.{history_after, reply_to, uses_register}
+use Rattle.http_messages.specs.HttpReply.{HttpReply, reply_bytes}
+use Rattle.register_http.specs.ActionReply.{history_after_asked, reply_to_asked, uses_register}
 
 -- the text is the reply's
-abbrev pub IsTextOf : Reply → String Global → Type 0
+abbrev pub IsTextOf : HttpReply → String Global → Type 0
 IsTextOf reply text = string_bytes text ≡ reply_bytes reply
 
 -- what may have changed the register: a request that was accepted, whose reply is the text if there was memory for it,
@@ -33,13 +33,13 @@ MayChange (Apply sent) result =
 
 module _ {S : Type 0} (g : Ghosts S) where
   -- the desk after an end: memory may give out at a broken one too, where it is not asked
-  abbrev pub StopsBy : Desk S g → Desk S g → End → Type 0
-  StopsBy old new Memory = GoesOn old new
-  StopsBy old new Store = EndsBy old new Store
-  StopsBy old new Broken = EndsBy old new Broken
-  StopsBy old new ReadFault = EndsBy old new ReadFault
-  StopsBy old new WriteFault = EndsBy old new WriteFault
-  StopsBy old new BadHeader = EndsBy old new BadHeader
+  abbrev pub StopsAsked : Desk S g → Desk S g → End → Type 0
+  StopsAsked old new Memory = GoesOn old new
+  StopsAsked old new Store = EndsBy old new Store
+  StopsAsked old new Broken = EndsBy old new Broken
+  StopsAsked old new ReadFault = EndsBy old new ReadFault
+  StopsAsked old new WriteFault = EndsBy old new WriteFault
+  StopsAsked old new BadHeader = EndsBy old new BadHeader
 
   -- want of memory before the register acted leaves it as it was, and after that as it is then
   abbrev pub StandsForEither : List Request → List Request → Desk S g → Type 0
@@ -48,17 +48,18 @@ module _ {S : Type 0} (g : Ghosts S) where
   -- The desk was asked this at a moment, and what came of it is the text of a reply, or an end.
   pub record Acts (moment : ℕ) (asked : Asked) (old new : Desk S g) (result : Result (String Global) End) : Type 0 where
     pub clean : IsClean g new → IsClean g old
-    pub ends : MatchResult result (λ _. GoesOn old new) (StopsBy old new)
+    pub ends : MatchResult result (λ _. GoesOn old new) (StopsAsked old new)
     pub uses : IfErr result (λ end. end ≢ Memory → uses_register asked ≡ true)
     pub broken : uses_register asked ≡ true → IsBroken old → result ≡ Err Broken
     pub rejects : (rejection : Rejection) → asked ≡ Reject rejection → (new ≡ old)
         × IfOk result (IsTextOf (reply_of rejection))
     -- whatever the tables hold
     pub changes : ChangesNothing g old new ⊎ MayChange asked result
-    pub text : (h : List Request) → StandsFor g old h → IsClean g new → IfOk result (IsTextOf (reply_to h moment asked))
+    pub text : (h : List Request) → StandsFor g old h → IsClean g new
+        → IfOk result (IsTextOf (reply_to_asked h moment asked))
     pub stands : (h : List Request) → StandsFor g old h → IsClean g new
-        → OnOk result (StandsFor g new (history_after h moment asked))
+        → OnOk result (StandsFor g new (history_after_asked h moment asked))
     pub memory : (h : List Request) → StandsFor g old h → IsClean g new
-        → IfErr result (λ end. end ≡ Memory → StandsForEither h (history_after h moment asked) new)
+        → IfErr result (λ end. end ≡ Memory → StandsForEither h (history_after_asked h moment asked) new)
     pub leaves : (h : List Request) → StandsFor g old h → IsWhole old → IsClean g new
-        → LeavesEither g h (history_after h moment asked) new
+        → LeavesEither g h (history_after_asked h moment asked) new

@@ -11,7 +11,7 @@ use Rattle.http_messages.specs.declared.asked.Asked.TheVariants.{Reject, ShowKey
 use Rattle.http_messages.specs.declared.asked.Sent.{Sent}
 use Rattle.http_messages.specs.AnswerText.{key_reply, outcome_reply, usage_reply}
 use Rattle.http_messages.specs.Rejection.{reply_of}
-use Rattle.http_messages.specs.HttpReply.{Reply}
+use Rattle.http_messages.specs.HttpReply.{HttpReply}
 
 -- the request that is made of what was sent, at the moment of the exchange
 abbrev pub request_at : ℕ → Sent → Request
@@ -25,20 +25,20 @@ uses_register (ShowUsage key) = true
 uses_register (Apply sent) = true
 
 -- the history after it
-abbrev pub history_after : List Request → ℕ → Asked → List Request
-history_after h moment (Reject rejection) = h
-history_after h moment (ShowKey key) = h
-history_after h moment (ShowUsage key) = h
-history_after h moment (Apply sent) = history h (Some (request_at moment sent) ∷ [])
+abbrev pub history_after_asked : List Request → ℕ → Asked → List Request
+history_after_asked h moment (Reject rejection) = h
+history_after_asked h moment (ShowKey key) = h
+history_after_asked h moment (ShowUsage key) = h
+history_after_asked h moment (Apply sent) = history h (Some (request_at moment sent) ∷ [])
 
 -- what is found of a key is replied so, and where there is none, that the key is unknown
-abbrev pub found_reply : {T : Type 0} → (T → Reply) → Option T → Reply
+abbrev pub found_reply : {T : Type 0} → (T → HttpReply) → Option T → HttpReply
 found_reply reply None = outcome_reply (Err UnknownKey)
 found_reply reply (Some found) = reply found
 
 -- the reply of the register of this history
-abbrev pub reply_to : List Request → ℕ → Asked → Reply
-reply_to h moment (Reject rejection) = reply_of rejection
-reply_to h moment (ShowKey key) = found_reply key_reply (shown h key)
-reply_to h moment (ShowUsage key) = found_reply usage_reply (usage h key)
-reply_to h moment (Apply sent) = outcome_reply (outcome (answer h (request_at moment sent)))
+abbrev pub reply_to_asked : List Request → ℕ → Asked → HttpReply
+reply_to_asked h moment (Reject rejection) = reply_of rejection
+reply_to_asked h moment (ShowKey key) = found_reply key_reply (shown h key)
+reply_to_asked h moment (ShowUsage key) = found_reply usage_reply (usage h key)
+reply_to_asked h moment (Apply sent) = outcome_reply (outcome (answer h (request_at moment sent)))

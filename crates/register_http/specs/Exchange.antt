@@ -17,7 +17,7 @@ use Rattle.http_messages.specs.declared.asked.AskFault.TheVariants as fault
 use Rattle.http_messages.specs.declared.asked.Asked.{Asked}
 use Rattle.http_messages.specs.Asked.{AsksFor}
 use Rattle.register_http.specs.Action.{Acts}
-use Rattle.register_http.specs.SentReply.{Sends, end_reply, reply_text}
+use Rattle.register_http.specs.SentReply.{Sends, end_reply, sent_text}
 
 -- the most reads in one exchange (this register's own)
 abbrev pub max_exchange_reads : ℕ
@@ -31,15 +31,15 @@ EndsAs (Err e) end replies = end ≡ Ended e
 
 module _ {S : Type 0} (g : Ghosts S) where
   -- the desk was asked this, and a prefix of its reply was written
-  pub record Serves (moment : ℕ) (asked : Asked) (kept now : Desk S g) (old new : Option (List ℕ))
+  pub record ServesExchange (moment : ℕ) (asked : Asked) (kept now : Desk S g) (old new : Option (List ℕ))
       (outcome : Outcome) : Type 0 where
     pub result : Result (String Global) End
     pub acts : Acts g moment asked kept now result
-    pub sends : Sends (reply_text result) old new outcome.written outcome.replies
+    pub sends : Sends (sent_text result) old new outcome.written outcome.replies
     pub ends : EndsAs result outcome.end outcome.replies
 
   -- the desk was not asked, and is as it was
-  pub record Leaves (end : Finish) (reply : List ℕ) (kept now : Desk S g) (old new : Option (List ℕ))
+  pub record LeavesUnasked (end : Finish) (reply : List ℕ) (kept now : Desk S g) (old new : Option (List ℕ))
       (outcome : Outcome) : Type 0 where
     pub same : now ≡ kept
     pub sends : Sends reply old new outcome.written outcome.replies
@@ -49,13 +49,13 @@ module _ {S : Type 0} (g : Ghosts S) where
   -- failed
   abbrev pub ServesAsked : ℕ → Result (Option Asked) AskFault → Desk S g → Desk S g → Option (List ℕ)
       → Option (List ℕ) → Outcome → Type 0
-  ServesAsked moment (Ok (Some asked)) kept now old new outcome = Serves moment asked kept now old new outcome
+  ServesAsked moment (Ok (Some asked)) kept now old new outcome = ServesExchange moment asked kept now old new outcome
   ServesAsked moment (Ok None) kept now old new outcome =
-      Leaves (AtEnd 0) [] kept now old new outcome × (outcome.replies ≡ 0)
+      LeavesUnasked (AtEnd 0) [] kept now old new outcome × (outcome.replies ≡ 0)
   ServesAsked moment (Err fault.Memory) kept now old new outcome =
-      Leaves (Ended Memory) (end_reply Memory) kept now old new outcome
+      LeavesUnasked (Ended Memory) (end_reply Memory) kept now old new outcome
   ServesAsked moment (Err fault.ReadFault) kept now old new outcome =
-      Leaves (Ended ReadFault) [] kept now old new outcome × (outcome.replies ≡ 0)
+      LeavesUnasked (Ended ReadFault) [] kept now old new outcome × (outcome.replies ≡ 0)
 
   -- An exchange at this moment: what is asked is what the whole input asks for, where the reader's bytes are known, and
   -- it was served.
@@ -67,7 +67,7 @@ module _ {S : Type 0} (g : Ghosts S) where
 
 -- What it leaves of its reader: each byte that was read is counted, a read that failed is told, a fault is the reader's
 -- own or the bound on reads, and that is never passed. The turns are those of this exchange alone.
-pub record LeavesReader {R : Type 0} (remaining : R → Option (List ℕ)) (old new : Watched R)
+pub record LeavesHttpReader {R : Type 0} (remaining : R → Option (List ℕ)) (old new : Watched R)
     (outcome : Outcome) : Type 0 where
   pub took : TookBytes (remaining old.inner) (remaining new.inner) outcome.read
   pub told : new.failed ≡ true → outcome.end ≡ Ended ReadFault
@@ -75,7 +75,7 @@ pub record LeavesReader {R : Type 0} (remaining : R → Option (List ℕ)) (old 
   pub bounded : new.turns ≤ max_exchange_reads
 
 -- No reply is left out but where nothing is asked, where the reader failed, or at a fault of the writer.
-pub record LeavesWriter {W : Type 0} (new : Watched W) (outcome : Outcome) : Type 0 where
+pub record LeavesHttpWriter {W : Type 0} (new : Watched W) (outcome : Outcome) : Type 0 where
   pub flushed : outcome.replies ≡ 1 → new.unflushed ≡ false
   pub unanswered : outcome.replies ≡ 0
       → (outcome.end ≡ AtEnd 0) ⊎ ((outcome.end ≡ Ended ReadFault) ⊎ IsFaulted new.failed max_idle_turns new.idle)

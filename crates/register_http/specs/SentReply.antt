@@ -20,9 +20,9 @@ end_reply WriteFault = []
 end_reply BadHeader = []
 
 -- the bytes that are to be written
-abbrev pub reply_text : Result (String Global) End → List ℕ
-reply_text (Ok text) = string_bytes text
-reply_text (Err end) = end_reply end
+abbrev pub sent_text : Result (String Global) End → List ℕ
+sent_text (Ok text) = string_bytes text
+sent_text (Err end) = end_reply end
 
 -- a prefix of the reply was written, each byte counted, and the whole where a reply is counted
 pub record Sends (reply : List ℕ) (old new : Option (List ℕ)) (written replies : ℕ) : Type 0 where

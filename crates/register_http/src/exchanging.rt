@@ -4,16 +4,16 @@ ghost use Rattle.register_requests.specs.Request.{IsRequest};
 ghost use Rattle.register_core.specs.declared.reply.Refusal.TheVariants.{UnknownKey};
 ghost use Rattle.register_requests.specs.declared.request.Request.{Request};
 ghost use Rattle.http_messages.specs.AnswerText.{outcome_reply};
-ghost use Rattle.http_messages.specs.CommandBody.{IsInRange};
+ghost use Rattle.http_messages.specs.CommandBody.{IsAskedInRange};
 ghost use Rattle.register_desk.specs.Desk.{IsClean, IsWhole, KeepsToSteps};
 ghost use Rattle.register_desk.specs.Register.{StandsFor};
 ghost use Rattle.register_http.specs.Action.{Acts, IsTextOf};
 ghost use Rattle.register_http.specs.ActionReply.{request_at};
-ghost use Rattle.register_http.specs.Exchange.{EndsAs, Exchanges, LeavesReader};
+ghost use Rattle.register_http.specs.Exchange.{EndsAs, Exchanges, LeavesHttpReader};
 ghost use Rattle.register_http.specs.Within.Exchange.{KeepsWriter};
-ghost use Rattle.register_http.specs.Exchange.{LeavesWriter};
+ghost use Rattle.register_http.specs.Exchange.{LeavesHttpWriter};
 ghost use Rattle.register_http.specs.OneItem.{LeavesOne};
-ghost use Rattle.register_http.specs.SentReply.{Sends, end_reply, reply_text};
+ghost use Rattle.register_http.specs.SentReply.{Sends, end_reply, sent_text};
 
 use http_messages::{
     AskFault, Asked, Routes, Sent, answer_reply_text, key_reply_text, read_asked, rejection_text,
@@ -93,7 +93,8 @@ fn usage_reply<S: Alter>(alloc: Global, desk: &mut Desk<S>, key: u32) -> Result<
 /// The request that is made of what was sent, at this moment.
 fn request_at(moment: Moment, sent: &Sent) -> Request
     ensures is { result ≡ request_at moment sent.now }
-    ensures in_range { IsInRange (Asked.Apply sent.now) → IsRequest (request_at moment sent.now) }
+    ensures in_range { IsAskedInRange (Asked.Apply sent.now)
+        → IsRequest (request_at moment sent.now) }
 {
     Request {
         moment,
@@ -110,7 +111,7 @@ fn reply_text_after_applying<S: Alter>(
     moment: Moment,
     sent: &Sent,
 ) -> Result<String, End>
-    requires { IsInRange (Asked.Apply sent.now) }
+    requires { IsAskedInRange (Asked.Apply sent.now) }
     ensures acts { Acts S.Store moment (Asked.Apply sent.now) desk.old desk.new result }
     ensures steps { KeepsToSteps S.Store 51 desk.old desk.new }
 {
@@ -130,7 +131,7 @@ fn answer_asked<S: Alter>(
     moment: Moment,
     asked: &Asked,
 ) -> Result<String, End>
-    requires { IsInRange asked.now }
+    requires { IsAskedInRange asked.now }
     ensures acts { Acts S.Store moment asked.now desk.old desk.new result }
     ensures steps { KeepsToSteps S.Store 51 desk.old desk.new }
 {
@@ -144,7 +145,7 @@ fn answer_asked<S: Alter>(
 
 /// The bytes of the reply to what was answered.
 fn reply_bytes(answered: &Result<String, End>) -> &[u8]
-    ensures { result.now ≡ reply_text answered.now }
+    ensures { result.now ≡ sent_text answered.now }
 {
     match answered {
         Ok(text) => text.as_bytes(),
@@ -169,7 +170,7 @@ fn send_reply<W: Write>(
     answered: &Result<String, End>,
     read: u64,
 ) -> Outcome
-    ensures sends { Sends (reply_text answered.now) (W.contents writer.old.inner)
+    ensures sends { Sends (sent_text answered.now) (W.contents writer.old.inner)
         (W.contents writer.new.inner) result.written result.replies }
     ensures ends { EndsAs answered.now result.end result.replies }
     ensures keeps { KeepsWriter writer.old writer.new result.replies }
@@ -214,8 +215,8 @@ pub fn exchange<R: Read, W: Write, S: Alter>(
     ensures clean { IsClean S.Store desk.new → IsClean S.Store desk.old }
     // However many keys there are.
     ensures steps { KeepsToSteps S.Store 51 desk.old desk.new }
-    ensures reader { LeavesReader R.remaining reader.old reader.new result }
-    ensures writer { LeavesWriter writer.new result }
+    ensures reader { LeavesHttpReader R.remaining reader.old reader.new result }
+    ensures writer { LeavesHttpWriter writer.new result }
 {
     reader.reset_turn_counts();
     writer.reset_turn_counts();

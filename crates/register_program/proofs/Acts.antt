@@ -11,10 +11,10 @@ use Rattle.register_desk.specs.Run.{LeavesReader, LeavesWriter}
 use Rattle.register_words.specs.declared.words.Job.{Job}
 use Rattle.register_program.specs.declared.acting.Done.{Done}
 use Rattle.register_program.specs.declared.acting.Inputs.{Inputs}
-use Rattle.register_program.specs.Act.{Acts}
+use Rattle.register_program.specs.Act.{ActsOver}
 use Rattle.register_program.specs.Alone.{RunsWithoutFile, end_alone}
 use Rattle.register_program.specs.Ends.{EndsRun}
-use Rattle.register_program.specs.declared.register_file.Life.{Life}
+use Rattle.register_program.specs.declared.register_file.FileLife.{FileLife}
 use Rattle.register_program.specs.Job.{BreaksSo, EndsSo, Performs, status_after}
 use Rattle.streams.specs.declared.watched.Watched.{Watched}
 
@@ -23,7 +23,7 @@ use Rattle.streams.specs.declared.watched.Watched.{Watched}
 pub acts_alone : (input old new : Option (List ℕ)) (came : Result Outcome OpenRefusal) (status : ℕ)
     → status ≡ status_after (end_alone came) → RunsWithoutFile input old new came
     → (bytes : List ℕ) (items : List (Option Request)) (rest : List ℕ) → input ≡ Some bytes → HasItems bytes items rest
-    → Acts items rest status old new
+    → ActsOver items rest status old new
 acts_alone input old new (Ok outcome) status told runs bytes items rest known cut =
     inr (record { outcome = outcome; runs = runs bytes items rest known cut; status_is = told })
 acts_alone input old new (Err refusal) status told same bytes items rest known cut =
@@ -38,7 +38,8 @@ pub ends_run : {R W E : Type 0} (remaining : R → Option (List ℕ)) (contents 
     (reader reader_new : Watched R) (old new : Watched W) (came : Result Outcome E)
     → IfOk came (LeavesReader remaining reader reader_new) → IfOk came (LeavesWriter contents old new)
     → IfOk came (EndsRun remaining contents reader reader_new old new)
-ends_run remaining contents reader reader_new old new (Ok outcome) reads writer = record { reads = reads; writer = writer }
+ends_run remaining contents reader reader_new old new
+    (Ok outcome) reads writer = record { reads = reads; writer = writer }
 ends_run remaining contents reader reader_new old new (Err refusal) reads writer = tt
 
 -- ---- by a job
@@ -52,7 +53,8 @@ untouched contents (Err e) old new same = ap contents same
 -- a job that was told apart
 pub performs_as : {S U : Type 0} (g : Ghosts S) (may_leave : S → Image → Type 0) (may_stay : U → Image → Type 0)
     (found : Image) (input old new : Option (List ℕ)) (done : Done S U) (given job : Job) → given ≡ job
-    → Performs g may_leave may_stay found job input old new done → Performs g may_leave may_stay found given input old new done
+    → Performs g may_leave may_stay found job input old new done
+    → Performs g may_leave may_stay found given input old new done
 performs_as g may_leave may_stay found input old new done given job is performs =
     subst (λ (it : Job). Performs g may_leave may_stay found it input old new done) (sym is) performs
 
@@ -67,7 +69,7 @@ ends_so remaining contents inputs inputs_new old new given job is outcome came e
     (sym is) ends
 
 -- and what that left of the desk
-pub breaks_so : {S E : Type 0} (given job : Job) → given ≡ job → (came : Result (Life S) E)
+pub breaks_so : {S E : Type 0} (given job : Job) → given ≡ job → (came : Result (FileLife S) E)
     → IfOk came (λ life. BreaksSo job life.outcome.end life.mark)
     → IfOk came (λ life. BreaksSo given life.outcome.end life.mark)
 breaks_so given job is came breaks =

@@ -19,7 +19,7 @@ use Rattle.register_desk.specs.declared.runs.Finish.{Finish}
 use Rattle.register_desk.specs.declared.runs.Finish.TheVariants.{AtEnd, Ended}
 use Rattle.register_desk.specs.DatabaseFiles.{HoldsNothing, HoldsOneOf, HoldsRegister}
 use Rattle.register_desk.specs.Input.{HasItems}
-use Rattle.register_desk.specs.Lives.{AreInRange, Life, MayApplyOneMore, after, applied, life_of}
+use Rattle.register_desk.specs.Lives.{AreInRange, Life, MayApplyOneMore, after, life_of}
 use Rattle.register_desk.specs.Run.{Answered as AnsweredWhole, AnsweredInPart, IsPrefixOf, RunsOver, answer_line}
 use Rattle.register_desk.specs.Run.{answer_lines}
 use Rattle.register_desk.proofs.Answering.{appends_none}
@@ -27,23 +27,28 @@ use Rattle.register_desk.proofs.Cutting.{items_in}
 use Rattle.register_desk.proofs.Lived.{items_in_range}
 use Rattle.register_desk.proofs.Lives.{lawful_on}
 use Rattle.register_program.specs.declared.files.Closed.{Closed}
-use Rattle.register_program.specs.declared.register_file.Life.{Life as Lived_}
+use Rattle.register_program.specs.declared.register_file.FileLife.{FileLife}
 use Rattle.register_program.specs.declared.refused.Refused.{Refused}
 use Rattle.register_program.specs.declared.refused.RefusedFiles.{RefusedFiles}
 use Rattle.register_program.specs.declared.refused.RefusedFiles.TheVariants.{Failed, Shut}
-use Rattle.register_program.specs.FileCalls.{Exports, LivesAnyway, MakesRegister, OpensFirst}
+use Rattle.register_program.specs.FileCalls.{Exports, LivesAnyway, MakesFile, OpensFirst}
 use Rattle.register_program.specs.FileCalls.{Reports, RunsLines, ServesExchanges}
 use Rattle.register_program.specs.Closing.{LeftIn}
-use Rattle.register_program.specs.Life.{LeavesInFiles, LeavesNoRequest, LeavesNothing, LivesOver, OfLeft, SparesRegister}
+use Rattle.register_program.specs.Life.{LeavesInFiles, LeavesNoRequest, LeavesNothing, LivesOver, OfLeft}
+use Rattle.register_program.specs.Life.{SparesRegister}
 use Rattle.register_program.specs.declared.acting.Done.{Done}
 use Rattle.register_program.specs.declared.acting.Done.TheVariants.{Lived, Made}
-use Rattle.register_program.specs.Sentence.{Answered, AreItemsOf, Follow, FoundAgain, HoldsHistory, IsLifeOf}
+use Rattle.register_program.specs.Sentence.{WroteAnswers, AreItemsOf, Follow, FoundAgain, HoldsHistory, IsLifeOf}
 use Rattle.register_program.specs.Sentence.{LeadsFrom, LeftBy, LeftByClosed, LeftByRefused, ProgramRun}
-use Rattle.register_program.specs.Sentence.{WasLife, no_life, outcome_of, run_of}
+use Rattle.register_program.specs.Sentence.{WasLife, outcome_of}
 use Rattle.register_program.specs.Job.{Performs}
-use Rattle.register_program.proofs.Served.{served_life}
+use Rattle.register_program.proofs.Served.{AppliesWithin, applies_within, served_life}
 use Rattle.register_words.specs.declared.words.Job.{Job}
 use Rattle.register_words.specs.declared.words.Job.TheVariants.{Export, Import, Init, Report, Run, Serve}
+
+-- a life in which nothing was applied
+abbrev no_life : Life
+no_life = life_of [] 0 false
 
 -- ---- the lines that were written
 
@@ -60,28 +65,28 @@ lines_begin n m given less =
 
 module _ {S : Type 0} (g : Ghosts S) (h : List Request) (items : List (Option Request)) (replies : ℕ)
     (old new : Option (List ℕ)) (desk : Desk S g) (one_more : Bool) where
-  told : AnsweredWhole g h items replies old new desk → Answered h (life_of items replies one_more) old new
+  told : AnsweredWhole g h items replies old new desk → WroteAnswers h (life_of items replies one_more) old new
   told it = record {
     text = answer_lines (take replies (answers h items));
     written = it.written;
     answered = ([], append-nil (answer_lines (take replies (answers h items))));
-    at_most_applied = lines_begin replies (applied (life_of items replies one_more)) (answers h items) (omega arith);
+    at_most_applied = lines_begin replies (life_of items replies one_more).applied (answers h items) (omega arith);
   }
 
   told_in_part : one_more ≡ true → AnsweredInPart g h items replies old new desk
-      → Answered h (life_of items replies one_more) old new
+      → WroteAnswers h (life_of items replies one_more) old new
   told_in_part more it = record {
     text = answer_lines (take replies (answers h items)) ++ it.part;
     written = subst (λ lines. Appends old new (lines ++ it.part)) it.lines it.written;
     answered = (it.part, refl);
     at_most_applied = subst (λ (is : Bool). IsPrefixOf (answer_lines (take replies (answers h items)) ++ it.part)
-        (answer_lines (take (applied (life_of items replies is)) (answers h items)))) (sym more)
+        (answer_lines (take (life_of items replies is).applied (answers h items)))) (sym more)
         (subst (λ lines. IsPrefixOf (lines ++ it.part)
         (answer_lines (take (replies + 1) (answers h items)))) it.lines it.prefix);
   }
 
   told_over : (rest : List ℕ) (end : Finish) → (end ≡ Ended WriteFault → one_more ≡ true)
-      → RunsOver g h items rest end replies old new desk → Answered h (life_of items replies one_more) old new
+      → RunsOver g h items rest end replies old new desk → WroteAnswers h (life_of items replies one_more) old new
   told_over rest (AtEnd left) applied over = told over.0
   told_over rest (Ended Memory) applied over = told over
   told_over rest (Ended Store) applied over = told over.0
@@ -90,17 +95,17 @@ module _ {S : Type 0} (g : Ghosts S) (h : List Request) (items : List (Option Re
   told_over rest (Ended WriteFault) applied over = told_in_part (applied refl) over
   told_over rest (Ended BadHeader) applied over = absurd over
 
-  told_none : new ≡ old → replies ≡ 0 → Answered h (life_of items replies one_more) old new
+  told_none : new ≡ old → replies ≡ 0 → WroteAnswers h (life_of items replies one_more) old new
   told_none same none = record {
     text = [];
     written = subst (λ (now : Option (List ℕ)). Appends old now []) (sym same) (appends_none old);
     answered = ([], ap (λ (n : ℕ). answer_lines (take n (answers h items)) ++ []) none);
-    at_most_applied = (answer_lines (take (applied (life_of items replies one_more)) (answers h items)), refl);
+    at_most_applied = (answer_lines (take (life_of items replies one_more).applied (answers h items)), refl);
   }
 
   told_some : (rest : List ℕ) (end : Finish) → MayApplyOneMore end one_more
       → (end ≢ Ended BadHeader → RunsOver g h items rest end replies old new desk)
-      → (end ≡ Ended BadHeader → (new ≡ old) × (replies ≡ 0)) → Answered h (life_of items replies one_more) old new
+      → (end ≡ Ended BadHeader → (new ≡ old) × (replies ≡ 0)) → WroteAnswers h (life_of items replies one_more) old new
   told_some rest (Ended BadHeader) may over unbegun = let none = unbegun refl in told_none none.0 none.1
   told_some rest (Ended WriteFault) may over unbegun = told_in_part may (over (λ is. absurd (cc is)))
   told_some rest (AtEnd left) may over unbegun = told (over (λ is. absurd (cc is))).0
@@ -164,7 +169,7 @@ module _ {S U : Type 0} (g : Ghosts S) (may_leave : S → Image → Type 0) (may
       left_in h left ((spares holds leaves.0).1 left leaves.1)
 
   made_as : (came : Result (Closed S) (Refused S U)) → LeftBy g may_leave may_stay (Made came) left
-      → MakesRegister g may_leave may_stay found came → (from : HoldsHistory h found) → ∥ HoldsHistory h left ∥₁
+      → MakesFile g may_leave may_stay found came → (from : HoldsHistory h found) → ∥ HoldsHistory h left ∥₁
   made_as (Ok closed) leaves makes (inl none) =
       ∥∥₁_map ((makes.leaves none.0 leaves.0).1.from left leaves.1)
       (λ new. left_new h left none.1 (either [] left new))
@@ -177,7 +182,15 @@ module _ {S U : Type 0} (g : Ghosts S) (may_leave : S → Image → Type 0) (may
   module _ (lawful : IsLawful h) (old new : Option (List ℕ)) where
     -- the run of this job over this input, which came to this
     abbrev the_run : Option (List ℕ) → Job → Done S U → ProgramRun
-    the_run input job done = run_of found job input old new done left
+    the_run input job done = record {
+      found = found;
+      job = job;
+      input = input;
+      old = old;
+      new = new;
+      outcome = outcome_of done;
+      left = left;
+    }
 
     abbrev Fits : Option (List ℕ) → Job → Done S U → Life → Type 0
     Fits input job done life = IsLifeOf h job (outcome_of done) (the_run input job done) life
@@ -190,12 +203,12 @@ module _ {S U : Type 0} (g : Ghosts S) (may_leave : S → Image → Type 0) (may
     was_none : (input : Option (List ℕ)) (job : Job) (done : Done S U)
         → Fits input job done no_life → ∥ HoldsHistory h left ∥₁ → WasOne input job done
     was_none input job done is some =
-        ∥∥₁_map some (λ it. (no_life, record { in_range = tt; enough = omega arith; is = is }, it))
+        ∥∥₁_map some (λ it. (no_life, record { in_range = tt; applied = (omega arith, omega arith, omega arith); is = is }, it))
 
     -- where it opened the register and applied nothing
-    opened_none : (came : Result (Lived_ S) (Refused S U))
+    opened_none : (came : Result (FileLife S) (Refused S U))
         → LeftBy g may_leave may_stay (Lived came) left → OpensFirst g may_leave may_stay found came
-        → ((lived : Lived_ S) → came ≡ Ok lived → HoldsRegister h found → ∥ HoldsHistory h left ∥₁)
+        → ((lived : FileLife S) → came ≡ Ok lived → HoldsRegister h found → ∥ HoldsHistory h left ∥₁)
         → (from : HoldsHistory h found) → ∥ HoldsHistory h left ∥₁
     opened_none (Ok lived) leaves opens keeps (inl none) = absurd (opens.nothing none.0 leaves.0)
     opened_none (Ok lived) leaves opens keeps (inr holds) = keeps lived refl holds
@@ -205,22 +218,22 @@ module _ {S U : Type 0} (g : Ghosts S) (may_leave : S → Image → Type 0) (may
     -- a life over the items of an input, with so many replies
     abbrev LifeOver : Option (List ℕ) → ℕ → Type 0
     LifeOver input replies =
-        (life : Life) × AreInRange life.items × (applied life ≤ length life.items)
-        × ((life.replies ≡ replies) × AreItemsOf input life.items × Answered h life old new)
+        (life : Life) × AreInRange life.items × AppliesWithin life
+        × ((life.replies ≡ replies) × AreItemsOf input life.items × WroteAnswers h life old new)
         × HoldsHistory (after h life) left
 
     -- a life over some items, and what was written of it
-    some_life : (input : Option (List ℕ)) (lived : Lived_ S) → LeftByClosed g may_leave lived.files left
+    some_life : (input : Option (List ℕ)) (lived : FileLife S) → LeftByClosed g may_leave lived.files left
         → LivesAnyway g may_leave may_stay found old new (Ok lived) → HoldsRegister h found
-        → ∥ ((life : Life) × AreInRange life.items × (applied life ≤ length life.items)
-        × ((life.replies ≡ lived.outcome.replies) × Answered h life old new) × HoldsRegister (after h life) left) ∥₁
+        → ∥ ((life : Life) × AreInRange life.items × AppliesWithin life
+        × ((life.replies ≡ lived.outcome.replies) × WroteAnswers h life old new) × HoldsRegister (after h life) left) ∥₁
     some_life input lived leaves anyway holds =
         let of = anyway.some h lawful holds leaves.0 in
         let some = of.1.from in
         ∥∥₁_map (some.leaves left leaves.1) (λ one. (
           life_of some.items lived.outcome.replies one.0,
           one.1.in_range,
-          one.1.enough,
+          applies_within some.items lived.outcome.replies one.0 one.1.enough,
           (
             refl,
             told_some g h some.items lived.outcome.replies old new of.0 one.0 some.rest lived.outcome.end
@@ -241,11 +254,11 @@ module _ {S U : Type 0} (g : Ghosts S) (may_leave : S → Image → Type 0) (may
 
     -- a life over the items of the input, of which perhaps one more was applied than were answered
     module _ (bytes : List ℕ) (items : List (Option Request)) (rest : List ℕ) (has : HasItems bytes items rest)
-        (lived : Lived_ S) (desk : Desk S g) (may : Image → Type 0) (may_be : may left)
+        (lived : FileLife S) (desk : Desk S g) (may : Image → Type 0) (may_be : may left)
         (lives : LivesOver g h items rest lived.outcome old new desk may) where
       fitting : (one_more : Bool) → (lived.outcome.end ≡ Ended WriteFault → one_more ≡ true)
           → (lived.outcome.replies ≡ lived.outcome.replies) × AreItemsOf (Some bytes) items
-          × Answered h (life_of items lived.outcome.replies one_more) old new
+          × WroteAnswers h (life_of items lived.outcome.replies one_more) old new
       fitting one_more applied = (
         refl,
         (rest, has),
@@ -260,24 +273,26 @@ module _ {S U : Type 0} (g : Ghosts S) (may_leave : S → Image → Type 0) (may
           let still : lived.outcome.replies ≡ lived.outcome.replies + 0 = omega arith in (
             life_of items lived.outcome.replies false,
             items_in_range has.0 items has.2,
-            omega (arith, some),
+            applies_within items lived.outcome.replies false (omega (arith, some)),
             fitting false (λ is. absurd (whole is)),
             inr (subst (λ (k : ℕ). HoldsRegister (history h (take k items)) left) still holds),
           )
 
       -- or of one more
       more : lived.outcome.replies < length items
-          → HoldsRegister (history h (take (lived.outcome.replies + 1) items)) left → LifeOver (Some bytes) lived.outcome.replies
+          → HoldsRegister (history h (take (lived.outcome.replies + 1) items)) left
+          → LifeOver (Some bytes) lived.outcome.replies
       more within_items holds = (
         life_of items lived.outcome.replies true,
         items_in_range has.0 items has.2,
-        omega (arith, within_items),
+        applies_within items lived.outcome.replies true (omega (arith, within_items)),
         fitting true (λ is. refl),
         inr holds,
       )
 
       one_or_none : lived.outcome.end ≢ Ended WriteFault
-          → HoldsRegister (history h (take (lived.outcome.replies + 1) items)) left → LifeOver (Some bytes) lived.outcome.replies
+          → HoldsRegister (history h (take (lived.outcome.replies + 1) items)) left
+          → LifeOver (Some bytes) lived.outcome.replies
       one_or_none whole holds = elim (cases_lt lived.outcome.replies (length items)) [
         | inl less ↦ more less holds
         | inr all ↦ no_more whole (subst (λ (taken : List (Option Request)). HoldsRegister (history h taken) left)
@@ -299,7 +314,7 @@ module _ {S U : Type 0} (g : Ghosts S) (may_leave : S → Image → Type 0) (may
       ]
 
     -- of request lines
-    ran : (input : Option (List ℕ)) (lived : Lived_ S) → LeftByClosed g may_leave lived.files left
+    ran : (input : Option (List ℕ)) (lived : FileLife S) → LeftByClosed g may_leave lived.files left
         → RunsLines g may_leave may_stay found input old new (Ok lived) → HoldsRegister h found
         → ∥ LifeOver input lived.outcome.replies ∥₁
     ran None lived leaves runs holds =
@@ -312,9 +327,9 @@ module _ {S U : Type 0} (g : Ghosts S) (may_leave : S → Image → Type 0) (may
 
     -- ---- each job
 
-    ran_as : (input : Option (List ℕ)) (job : Job) (came : Result (Lived_ S) (Refused S U))
-        → ((lived : Lived_ S) (life : Life)
-        → (life.replies ≡ lived.outcome.replies) × AreItemsOf input life.items × Answered h life old new
+    ran_as : (input : Option (List ℕ)) (job : Job) (came : Result (FileLife S) (Refused S U))
+        → ((lived : FileLife S) (life : Life)
+        → (life.replies ≡ lived.outcome.replies) × AreItemsOf input life.items × WroteAnswers h life old new
         → Fits input job (Lived (Ok lived)) life)
         → ((refused : Refused S U) → Fits input job (Lived (Err refused)) no_life)
         → LeftBy g may_leave may_stay (Lived came) left → RunsLines g may_leave may_stay found input old new came
@@ -323,13 +338,13 @@ module _ {S U : Type 0} (g : Ghosts S) (may_leave : S → Image → Type 0) (may
         absurd (runs.anyway.opens.nothing nothing.0 leaves.0)
     ran_as input job (Ok lived) is none leaves runs (inr holds) =
         ∥∥₁_map (ran input lived leaves runs holds)
-        (λ one. (one.0, record { in_range = one.1; enough = one.2; is = is lived one.0 one.3 }, one.4))
+        (λ one. (one.0, record { in_range = one.1; applied = one.2; is = is lived one.0 one.3 }, one.4))
     ran_as input job (Err refused) is none leaves runs from =
         was_none input job (Lived (Err refused)) (none refused)
         (opened_none (Err refused) leaves runs.anyway.opens (λ lived same holds. absurd (cc same)) from)
 
-    imported_as : (input : Option (List ℕ)) (job : Job) (came : Result (Lived_ S) (Refused S U))
-        → ((lived : Lived_ S) (life : Life) → (life.replies ≡ lived.outcome.replies) × Answered h life old new
+    imported_as : (input : Option (List ℕ)) (job : Job) (came : Result (FileLife S) (Refused S U))
+        → ((lived : FileLife S) (life : Life) → (life.replies ≡ lived.outcome.replies) × WroteAnswers h life old new
         → Fits input job (Lived (Ok lived)) life)
         → ((refused : Refused S U) → Fits input job (Lived (Err refused)) no_life)
         → LeftBy g may_leave may_stay (Lived came) left → LivesAnyway g may_leave may_stay found old new came
@@ -338,13 +353,13 @@ module _ {S U : Type 0} (g : Ghosts S) (may_leave : S → Image → Type 0) (may
         absurd (anyway.opens.nothing nothing.0 leaves.0)
     imported_as input job (Ok lived) is none leaves anyway (inr holds) =
         ∥∥₁_map (some_life input lived leaves anyway holds)
-        (λ one. (one.0, record { in_range = one.1; enough = one.2; is = is lived one.0 one.3 }, inr one.4))
+        (λ one. (one.0, record { in_range = one.1; applied = one.2; is = is lived one.0 one.3 }, inr one.4))
     imported_as input job (Err refused) is none leaves anyway from =
         was_none input job (Lived (Err refused)) (none refused)
         (opened_none (Err refused) leaves anyway.opens (λ lived same holds. absurd (cc same)) from)
 
-    served_as : (input : Option (List ℕ)) (job : Job) (most : ℕ) (came : Result (Lived_ S) (Refused S U))
-        → ((lived : Lived_ S) (life : Life) → Fits input job (Lived (Ok lived)) life)
+    served_as : (input : Option (List ℕ)) (job : Job) (most : ℕ) (came : Result (FileLife S) (Refused S U))
+        → ((lived : FileLife S) (life : Life) → Fits input job (Lived (Ok lived)) life)
         → ((refused : Refused S U) → Fits input job (Lived (Err refused)) no_life)
         → LeftBy g may_leave may_stay (Lived came) left → ServesExchanges g may_leave may_stay found most came
         → (from : HoldsHistory h found) → WasOne input job (Lived came)
@@ -355,14 +370,14 @@ module _ {S U : Type 0} (g : Ghosts S) (may_leave : S → Image → Type 0) (may
         ∥∥₁_map (served_life h served.items served.next served.in_range left (served.leaves left leaves.1))
         (λ one. (
           one.0,
-          record { in_range = one.1.in_range; enough = one.1.enough; is = is lived one.0 },
+          record { in_range = one.1.in_range; applied = one.1.applied; is = is lived one.0 },
           inr one.1.holds,
         ))
     served_as input job most (Err refused) is none leaves serves from =
         was_none input job (Lived (Err refused)) (none refused)
         (opened_none (Err refused) leaves serves.opens (λ lived same holds. absurd (cc same)) from)
 
-    exported : (came : Result (Lived_ S) (Refused S U)) → LeftBy g may_leave may_stay (Lived came) left
+    exported : (came : Result (FileLife S) (Refused S U)) → LeftBy g may_leave may_stay (Lived came) left
         → Exports g may_leave may_stay found old new came → ∥ HoldsHistory h left ∥₁
     exported (Ok lived) leaves exports =
         opened_none (Ok lived) leaves exports.opens
@@ -370,7 +385,7 @@ module _ {S U : Type 0} (g : Ghosts S) (may_leave : S → Image → Type 0) (may
     exported (Err refused) leaves exports =
         opened_none (Err refused) leaves exports.opens (λ lived same holds. absurd (cc same)) start
 
-    reported : (days : ℕ) (came : Result (Lived_ S) (Refused S U)) → LeftBy g may_leave may_stay (Lived came) left
+    reported : (days : ℕ) (came : Result (FileLife S) (Refused S U)) → LeftBy g may_leave may_stay (Lived came) left
         → Reports g may_leave may_stay found days old new came → ∥ HoldsHistory h left ∥₁
     reported days (Ok lived) leaves reports =
         opened_none (Ok lived) leaves reports.opens
@@ -392,7 +407,8 @@ module _ {S U : Type 0} (g : Ghosts S) (may_leave : S → Image → Type 0) (may
     by_job input (Report days) (Lived came) performs leaves =
         was_none input (Report days) (Lived came) refl (reported days came leaves performs.0)
     by_job input (Serve bounds) (Lived came) performs leaves =
-        served_as input (Serve bounds) bounds.exchanges came (λ lived life. tt) (λ refused. refl) leaves performs.0 start
+        served_as input (Serve bounds) bounds.exchanges came (λ lived life. tt)
+        (λ refused. refl) leaves performs.0 start
     by_job input job done performs leaves = absurd performs
 
 module _ {S U : Type 0} (g : Ghosts S) (may_leave : S → Image → Type 0) (may_stay : U → Image → Type 0) where
@@ -411,7 +427,7 @@ found_again h first left [] lawful start same =
 found_again h first left (run ∷ runs) lawful start follow =
     let begun = subst (HoldsHistory h) (sym follow.0) start in
     ∥∥₁_elim (follow.1 h lawful begun) squash₁ (λ one.
-    let next = lawful_on one.0.items h (applied one.0) lawful one.1.in_range in
+    let next = lawful_on one.0.items h one.0.applied lawful one.1.in_range in
     ∥∥₁_map (found_again (after h one.0) run.left left runs next one.2 follow.2) (λ rest. record {
       lives = one.0 ∷ rest.lives;
       were = (one.1, rest.were);

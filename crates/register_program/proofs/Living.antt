@@ -17,12 +17,12 @@ use Rattle.register_desk.specs.Desk.{IsClean, IsWhole, LeavesEither}
 use Rattle.register_desk.specs.Run.{LeavesDesk, RunsOver}
 use Rattle.register_desk.proofs.Found.{leaves_alone}
 use Rattle.register_desk.specs.Register.{StandsFor}
-use Rattle.register_desk.specs.Lives.{LeavesLife, LivesSome as RunsSome}
+use Rattle.register_desk.specs.Lives.{LeavesLife, DeskLives as RunsSome}
 use Rattle.register_program.specs.declared.files.Closed.{Closed}
 use Rattle.register_program.specs.Closing.{ClosesDesk}
 use Rattle.register_program.specs.Within.Closing.{LeavesAsDesk}
 use Rattle.register_program.proofs.OfDesk.{of_desk}
-use Rattle.register_program.specs.declared.register_file.Life.{Life}
+use Rattle.register_program.specs.declared.register_file.FileLife.{FileLife}
 use Rattle.register_program.specs.declared.refused.Refused.{Refused}
 use Rattle.register_program.specs.FileCalls.{Exports, ImportsRows, LivesAnyway, OpensFirst, Reports, RunsLines}
 use Rattle.register_program.specs.FileCalls.{ServesExchanges}
@@ -64,7 +64,8 @@ pub lives_anyway : {S U : Type 0} (g : Ghosts S) (may_leave : S → Image → Ty
     → ((h : List Request) → StandsFor g kept h → IsClean g now
     → RunsSome g h outcome.end outcome.replies old new kept now)
     → LivesAnyway g may_leave may_stay found old new (Ok (record { outcome = outcome; mark = mark; files = files }))
-lives_anyway g may_leave may_stay found outcome mark files old new kept now whole into closes before stands nothing unbegun runs =
+lives_anyway g may_leave may_stay found outcome mark files old new kept now whole into closes before stands nothing
+    unbegun runs =
     let some = λ (clean : IsCleanStore (g.view files.store)) (may : Image → Type 0) (leaves : LeavesAsDesk g now may)
     (h : List Request) (lawful : IsLawful h) (holds : HoldsRegister h found).
     lives_some g may outcome old new kept now leaves.lives
@@ -94,12 +95,13 @@ module _ {S U : Type 0} (g : Ghosts S) (may_leave : S → Image → Type 0) (may
     opens = opens_none;
   }
 
-  pub runs_none : (input old new : Option (List ℕ)) (result : Result (Life S) (Refused S U))
+  pub runs_none : (input old new : Option (List ℕ)) (result : Result (FileLife S) (Refused S U))
       → IsErrAnd result (λ given. given ≡ refused) → RunsLines g may_leave may_stay found input old new result
-  runs_none input old new result is = subst (RunsLines g may_leave may_stay found input old new) (sym (err_is refused result is))
+  runs_none input old new result is = subst (RunsLines g may_leave may_stay found input old new)
+      (sym (err_is refused result is))
       (record { lives = λ h bytes items rest lawful holds known has. tt; anyway = lives_none old new })
 
-  pub imports_none : (terms : Terms) (input old new : Option (List ℕ)) (result : Result (Life S) (Refused S U))
+  pub imports_none : (terms : Terms) (input old new : Option (List ℕ)) (result : Result (FileLife S) (Refused S U))
       → IsErrAnd result (λ given. given ≡ refused) → ImportsRows g may_leave may_stay found terms input old new result
   imports_none terms input old new result is =
       subst (ImportsRows g may_leave may_stay found terms input old new) (sym (err_is refused result is)) (record {
@@ -108,7 +110,7 @@ module _ {S U : Type 0} (g : Ghosts S) (may_leave : S → Image → Type 0) (may
         anyway = lives_none old new;
       })
 
-  pub reports_none : (days : ℕ) (old new : Option (List ℕ)) (result : Result (Life S) (Refused S U))
+  pub reports_none : (days : ℕ) (old new : Option (List ℕ)) (result : Result (FileLife S) (Refused S U))
       → IsErrAnd result (λ given. given ≡ refused) → Reports g may_leave may_stay found days old new result
   reports_none days old new result is =
       subst (Reports g may_leave may_stay found days old new) (sym (err_is refused result is)) (record {
@@ -117,12 +119,12 @@ module _ {S U : Type 0} (g : Ghosts S) (may_leave : S → Image → Type 0) (may
         opens = opens_none;
       })
 
-  pub exports_none : (old new : Option (List ℕ)) (result : Result (Life S) (Refused S U))
+  pub exports_none : (old new : Option (List ℕ)) (result : Result (FileLife S) (Refused S U))
       → IsErrAnd result (λ given. given ≡ refused) → Exports g may_leave may_stay found old new result
   exports_none old new result is = subst (Exports g may_leave may_stay found old new) (sym (err_is refused result is))
       (record { lives = λ h lawful holds. tt; opens = opens_none })
 
-  pub serves_none : (most : ℕ) (result : Result (Life S) (Refused S U)) → IsErrAnd result (λ given. given ≡ refused)
+  pub serves_none : (most : ℕ) (result : Result (FileLife S) (Refused S U)) → IsErrAnd result (λ given. given ≡ refused)
       → ServesExchanges g may_leave may_stay found most result
   serves_none most result is = subst (ServesExchanges g may_leave may_stay found most) (sym (err_is refused result is))
       (record { lives = λ h lawful holds. tt; ends = tt; opens = opens_none })

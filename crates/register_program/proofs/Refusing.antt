@@ -1,6 +1,5 @@
 -- Files that were refused are left as they were found.
-use Rattle.std.proofs.Common.{◌≡◌, ◌⊎◌, List, [], Result, Ok, Err, IsTrue, inl, inr, refl}
-use Rattle.std.proofs.Common.{sym, subst, ◌∙◌}
+use Rattle.std.proofs.Common.{◌≡◌, ◌⊎◌, List, [], Result, Ok, Err, IsTrue, inl, inr, refl, sym, subst, ◌∙◌}
 use Rattle.std.specs.Prelude.{IsErrAnd}
 use Rattle.std.proofs.Math.Logic.{∥∥₁_map}
 use Rattle.sqlite_trees.specs.declared.store.Store.{Ghosts}
@@ -21,7 +20,7 @@ use Rattle.register_desk.specs.DatabaseFiles.{HoldsNothing, HoldsRegister, Shows
 use Rattle.register_desk.specs.OpenRefusal.{IsMadeIn, IsReasonOf, IsTakenIn, LeavesBehind, LeavesCommitted, LeavesMade}
 use Rattle.register_desk.specs.OpenRefusal.{LeavesStored, RefusesNoTable, ShowsTable, connection_in, refusal_in}
 use Rattle.register_desk.specs.Within.Register.{HasHistoryIn}
-use Rattle.register_desk.proofs.Found.{finds_empty, finds_nothing, finds_register, holds_now, lawful_there}
+use Rattle.register_desk.proofs.Found.{finds_empty, finds_nothing, finds_register, holds_now, lawful_there, shows_table}
 use Rattle.register_desk.proofs.Found.{registered_left}
 use Rattle.register_desk.proofs.NoRegister.{passes_nothing}
 use Rattle.register_desk.proofs.Opened.{stored_in}
@@ -30,10 +29,9 @@ use Rattle.register_program.specs.declared.refused.Refused.{Refused}
 use Rattle.register_program.specs.declared.refused.RefusedFiles.{RefusedFiles}
 use Rattle.register_program.specs.declared.refused.RefusedFiles.TheVariants.{Failed, Shut}
 use Rattle.register_program.specs.Closing.{StandsAs}
-use Rattle.register_program.specs.FileCalls.{MakesRegister, OpensFile}
+use Rattle.register_program.specs.FileCalls.{MakesFile, OpensFile}
 use Rattle.register_program.specs.Life.{ClosesAs, GivesBack, IsCommittedOrMade, IsFoundIn, IsOfFailed, LeavesBehindIn}
-use Rattle.register_program.specs.Life.{LeavesFound}
-use Rattle.register_program.specs.Life.{LeavesInFiles, LeavesNoRequest, LeavesNothing, OfLeft, OfSound}
+use Rattle.register_program.specs.Life.{LeavesFound, LeavesInFiles, LeavesNoRequest, LeavesNothing, OfLeft, OfSound}
 use Rattle.register_program.specs.Life.{RefusesFiles, Refuses, RefusesMaking, RefusesToMake, SparesRegister}
 use Rattle.register_program.specs.Opening.{IsSound}
 
@@ -107,21 +105,23 @@ module _ {S U : Type 0} (g : Ghosts S) (may_leave : S → Image → Type 0) (may
   pub opens_refused : (refused : Refused S U) → Refuses g may_leave may_stay found refused
       → OpensFile g may_leave may_stay found (Err refused)
   opens_refused refused refuses = record {
-    stands = λ h lawful holds. no_table h refused.files refused.refusal (refuses.spares h lawful holds) refuses.unopened;
+    stands = λ h lawful holds. no_table h refused.files refused.refusal
+        (refuses.spares h lawful holds) refuses.unopened;
     whole = tt;
     nothing = λ nothing. tt;
     refuses = refuses;
   }
 
   pub opens_none : (P : Refused S U → Type 0) (result : Result (Desk S g) (Refused S U)) → IsErrAnd result P
-      → ((refused : Refused S U) → P refused → Refuses g may_leave may_stay found refused) → OpensFile g may_leave may_stay found result
+      → ((refused : Refused S U) → P refused → Refuses g may_leave may_stay found refused)
+      → OpensFile g may_leave may_stay found result
   opens_none P (Ok desk) is refuses = absurd is
   opens_none P (Err refused) is refuses = opens_refused refused (refuses refused is)
 
   -- no register was made
   pub made_none : (P : Refused S U → Type 0) (result : Result (Closed S) (Refused S U)) → IsErrAnd result P
       → ((refused : Refused S U) → P refused → RefusesMaking g may_leave may_stay found refused)
-      → MakesRegister g may_leave may_stay found result
+      → MakesFile g may_leave may_stay found result
   made_none P (Ok files) is refuses = absurd is
   made_none P (Err refused) is refuses = record {
     leaves = λ none. tt;
@@ -159,9 +159,10 @@ module _ {S U : Type 0} (g : Ghosts S) (may_leave : S → Image → Type 0) (may
       opens_closed result is = opens_none IsRefusal result is refuses_closed
 
       pub made_closed : (result : Result (Closed S) (Refused S U)) → IsErrAnd result IsRefusal
-          → MakesRegister g may_leave may_stay found result
+          → MakesFile g may_leave may_stay found result
       made_closed result is =
-          made_none IsRefusal result is (λ refused same. subst (RefusesMaking g may_leave may_stay found) (sym same) (record {
+          made_none IsRefusal result is (λ refused same. subst (RefusesMaking g may_leave may_stay found) (sym same)
+          (record {
             cause = tt;
             spares = leaves_register;
             nothing = leaves_no_request;
@@ -225,7 +226,7 @@ module _ {S U : Type 0} (g : Ghosts S) (may_leave : S → Image → Type 0) (may
         left_as_registered : (h : List Request) → IsLawful h → HoldsRegister h found → LeavesInFiles h h (may_leave it)
         left_as_registered h lawful holds left may = ∥∥₁_map (reopens it closes clean left may) (λ one.
             let shows = shown it closes clean in
-            let had = finds_register h found (state g old) holds shows in
+            let had = finds_register h found (state g old) holds shows lawful in
             let leaves = stored holds.version h (lawful_there h found holds lawful) had in
             inl (registered_left h found holds (state g old) (state g new) leaves shows.opens.is_open
             (closes.clean clean) shows left one.0 (closes.outcomes one.0 one.1) one.2))
@@ -246,7 +247,7 @@ module _ {S U : Type 0} (g : Ghosts S) (may_leave : S → Image → Type 0) (may
           → IsLawful h → HoldsRegister h found → IsCleanStore (g.view it) → SparesRegister h given (may_leave it)
       spares_register it closes given same h lawful holds clean = (
         subst RefusesNoTable (sym same) (spared holds.version h (lawful_there h found holds lawful)
-            (finds_register h found (state g old) holds (shown it closes clean)) (closes.clean clean)),
+            (finds_register h found (state g old) holds (shown it closes clean) lawful) (closes.clean clean)),
         left_as_registered it closes clean h lawful holds,
       )
 
@@ -273,15 +274,13 @@ module _ {S U : Type 0} (g : Ghosts S) (may_leave : S → Image → Type 0) (may
         (there : refusal ≡ NotARegister → HasCleanDisk (state g new) → ShowsTable (state g old))
         (committed : refusal ≡ NotARegister → LeavesCommitted (state g old) (state g new))
         (made : LeavesMade (state g old) (state g new))
-        (shown_there : ShowsTable (state g old) → LeavesCommitted (state g old) (state g new))
-        (registered : (version : Version) (h : List Request) → HasHistoryIn version h (state g old)
-        → LeavesCommitted (state g old) (state g new)) where
+        (shown_there : ShowsTable (state g old) → LeavesCommitted (state g old) (state g new)) where
       -- the register that the files hold is left
       left_as_held : (it : S) → ClosesAs g new it → (h : List Request) → HoldsRegister h found
           → IsCleanStore (g.view it) → LeavesInFiles h h (may_leave it)
       left_as_held it closes h holds clean left may =
-          let had = finds_register h found (state g old) holds (shown it closes clean) in
-          ∥∥₁_map (left_as_found it closes clean (registered holds.version h had) left may) (λ one. inl (record {
+          let there = shows_table h found (state g old) holds (shown it closes clean) in
+          ∥∥₁_map (left_as_found it closes clean (shown_there there) left may) (λ one. inl (record {
             version = holds.version;
             lawful = holds.lawful;
             db = holds.db;
@@ -302,7 +301,8 @@ module _ {S U : Type 0} (g : Ghosts S) (may_leave : S → Image → Type 0) (may
       }
 
       pub refuses_making : (unopened : Unopened S) (refused : Refused S U) → GivesBack g unopened refused
-          → refusal_in unopened ≡ refusal → connection_in unopened ≡ new → RefusesMaking g may_leave may_stay found refused
+          → refusal_in unopened ≡ refusal → connection_in unopened ≡ new
+          → RefusesMaking g may_leave may_stay found refused
       refuses_making unopened refused gives was is =
           let closes = subst (λ (k : Held S). ClosesAs g k gives.store) is gives.closes in
           record {

@@ -1,6 +1,6 @@
 -- Exchanges that were served one after the other.
-use Rattle.std.proofs.Common.{◌≡◌, ◌≢◌, inl, inr, ◌+◌, ◌≤◌, ◌++◌, ℕ, List, [], ◌∷◌, length, Option, None, Some, sym, ap, subst}
-use Rattle.std.proofs.Common.{◌∙◌, arith, refl, true, false, length-append, IfSome, Result, Ok, Err}
+use Rattle.std.proofs.Common.{◌≡◌, ◌≢◌, inl, inr, ◌+◌, ◌≤◌, ◌++◌, ℕ, List, [], ◌∷◌, length, Option, None, Some, sym, ap}
+use Rattle.std.proofs.Common.{subst, ◌∙◌, arith, refl, true, false, Bool, length-append, IfSome, Result, Ok, Err}
 use Rattle.std.specs.Prelude.{MatchResult, String}
 use Rattle.std.specs.declared.alloc.Global.{Global}
 use Rattle.std.proofs.lemmas.List.{append-nil, take_all}
@@ -20,13 +20,13 @@ use Rattle.register_desk.specs.declared.runs.Outcome.{Outcome}
 use Rattle.register_desk.specs.declared.runs.Finish.TheVariants.{AtEnd, Ended}
 use Rattle.register_desk.specs.Desk.{GoesOn, IsClean, IsWhole, LeavesEither}
 use Rattle.register_desk.specs.DatabaseFiles.{HoldsOneOf, HoldsRegister}
-use Rattle.register_desk.specs.Lives.{AreInRange, Life, after, applied, life_of}
+use Rattle.register_desk.specs.Lives.{AreInRange, Life, after, life_of}
 use Rattle.register_desk.specs.Register.{StandsFor}
 use Rattle.register_desk.proofs.Found.{leaves_alone}
 use Rattle.http_messages.specs.declared.asked.AskFault.{AskFault}
 use Rattle.http_messages.specs.declared.asked.AskFault.TheVariants as fault
 use Rattle.http_messages.specs.declared.asked.Asked.{Asked}
-use Rattle.register_http.specs.Action.{StopsBy}
+use Rattle.register_http.specs.Action.{StopsAsked}
 use Rattle.register_http.specs.Exchange.{EndsAs, Exchanges, ServesAsked}
 use Rattle.register_http.specs.OneItem.{LeavesOne}
 use Rattle.register_desk.specs.Run.{LeavesDesk}
@@ -142,10 +142,20 @@ first_in_range : (items next : List (Option Request)) → AreInRange (items ++ n
 first_in_range [] next all = tt
 first_in_range (item ∷ items) next all = (all.0, first_in_range items next all.1)
 
+-- as many items were applied as were answered, or one more, of those that there are
+abbrev pub AppliesWithin : Life → Type 0
+AppliesWithin life =
+    (life.replies ≤ life.applied) × (life.applied ≤ life.replies + 1) × (life.applied ≤ length life.items)
+
+pub applies_within : (items : List (Option Request)) (replies : ℕ) (one_more : Bool)
+    → (life_of items replies one_more).applied ≤ length items → AppliesWithin (life_of items replies one_more)
+applies_within items replies true enough = (omega arith, omega arith, enough)
+applies_within items replies false enough = (omega arith, omega arith, enough)
+
 -- a life in which all of some items were applied, and after which the register is left
 pub record ServedAll (h : List Request) (left : Image) (life : Life) : Type 0 where
   pub in_range : AreInRange life.items
-  pub enough : applied life ≤ length life.items
+  pub applied : AppliesWithin life
   pub holds : HoldsRegister (after h life) left
 
 life_over : (h : List Request) (items : List (Option Request)) → AreInRange items → (left : Image)
@@ -154,7 +164,7 @@ life_over h items in_range left holds = (
   life_of items (length items) false,
   record {
     in_range = in_range;
-    enough = omega arith;
+    applied = applies_within items (length items) false (omega arith);
     holds = subst (λ (taken : List (Option Request)). HoldsRegister (history h taken) left)
         (sym (take_all (length items + 0) items (omega arith))) holds;
   },
@@ -185,7 +195,7 @@ module _ {S : Type 0} (g : Ghosts S) (old new : Desk S g) where
   pub leaves_at_fault : GoesOn old new → LeavesDesk old new (Ended ReadFault)
   leaves_at_fault = went_on (Ended ReadFault) refl
 
-  stopped_by : (e : End) → StopsBy g old new e → LeavesDesk old new (Ended e)
+  stopped_by : (e : End) → StopsAsked g old new e → LeavesDesk old new (Ended e)
   stopped_by Memory goes = went_on (Ended Memory) refl goes
   stopped_by Store ends = leaves_stopped g old old new Store (still g old) ends
   stopped_by Broken ends = leaves_stopped g old old new Broken (still g old) ends
@@ -197,7 +207,8 @@ module _ {S : Type 0} (g : Ghosts S) (old new : Desk S g) where
   left_by end other is leaves = subst (LeavesDesk old new) (sym is) leaves
 
   left_served : (result : Result (String Global) End) (end : Finish) (replies : ℕ)
-      → MatchResult result (λ _. GoesOn old new) (StopsBy g old new) → EndsAs result end replies → LeavesDesk old new end
+      → MatchResult result (λ _. GoesOn old new) (StopsAsked g old new) → EndsAs result end replies
+      → LeavesDesk old new end
   left_served (Ok text) end replies goes (inl is) = left_by end (AtEnd 0) is.0 (leaves_at_end goes)
   left_served (Ok text) end replies goes (inr is) =
       left_by end (Ended WriteFault) is.0 (went_on (Ended WriteFault) refl goes)

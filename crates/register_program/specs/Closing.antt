@@ -23,7 +23,8 @@ pub record StandsAs (found left : Image) : Type 0 where
   pub nothing : HoldsNothing found → HoldsNothing left
 
 module _ {S : Type 0} (g : Ghosts S) (may_leave : S → Image → Type 0) where
-  -- What may be found in files that were closed: what a stop leaves of them, from when their log was copied on, and, once
+  -- What may be found in files that were closed: what a stop leaves of them, from when their log was copied on, and,
+  -- once
   -- it was copied, the database file of that alone.
   pub record LeftIn (closed : Closed S) (left : Image) : Type 0 where
     pub found : may_leave closed.store left
@@ -33,8 +34,8 @@ module _ {S : Type 0} (g : Ghosts S) (may_leave : S → Image → Type 0) where
     pub numbered : closed.log ≡ Broken → IsTrue (g.view closed.store).is_numbered
 
   -- what the store may come back as is found in these files
-  abbrev pub HoldsStored : S → Image → Type 0
-  HoldsStored store left = ∥ ((db : Trees) × (g.recovers store db) × HoldsDatabase left db) ∥₁
+  abbrev pub HoldsRecovered : S → Image → Type 0
+  HoldsRecovered store left = ∥ ((db : Trees) × (g.recovers store db) × HoldsDatabase left db) ∥₁
 
   -- The files of a store were closed: what may be found in them is a database that it could come back as. A copy of the
   -- log that is told as broken shut the store, which was not broken before.
@@ -44,7 +45,7 @@ module _ {S : Type 0} (g : Ghosts S) (may_leave : S → Image → Type 0) where
         → ((g.view store).is_broken ≡ false) × ((g.view closed.store).is_broken ≡ true)
     pub leaves : IsCleanStore (g.view closed.store) → IsTrue (g.view store).is_numbered
         → AreDatabases (g.recovers store)
-        → (left : Image) → LeftIn closed left → HoldsStored store left
+        → (left : Image) → LeftIn closed left → HoldsRecovered store left
 
   -- The files of the desk's connection were closed. This is said of what a stop leaves in them up to their closing, and
   -- of what may be found in them from then on.

@@ -10,7 +10,7 @@ use Rattle.register_desk.specs.declared.runs.Outcome.{Outcome}
 use Rattle.register_desk.specs.Desk.{was_broken}
 use Rattle.register_desk.specs.Run.{LeavesReader, LeavesWriter, max_reads}
 use Rattle.register_report.specs.Import.{StopsAtRecord}
-use Rattle.register_report.specs.TextWriter.{EndsAs}
+use Rattle.register_report.specs.TextWriter.{EndsText}
 
 -- 31 leaves the desk broken, which was whole as it was opened, and any other end leaves it whole
 abbrev pub BreaksAs : Finish → DeskMark → Type 0
@@ -22,28 +22,28 @@ BreaksAs (Ended ReadFault) mark = was_broken mark ≡ false
 BreaksAs (Ended WriteFault) mark = was_broken mark ≡ false
 BreaksAs (Ended BadHeader) mark = was_broken mark ≡ false
 
--- of a call that changes nothing of the desk, which was whole as it was opened
+-- A call that changes nothing of the desk leaves it whole, as it was opened.
 pub record BreaksNone (end : Finish) (mark : DeskMark) : Type 0 where
   pub whole : was_broken mark ≡ false
   pub none : end ≢ Ended Broken
 
--- the next record of this input is no text, or a row too many
+-- The next record of this input is no text, or is a row too many.
 abbrev pub BlamesRecord : Option (List ℕ) → Outcome → Type 0
 BlamesRecord input outcome = (bytes : List ℕ) → input ≡ Some bytes → StopsAtRecord bytes outcome.replies
 
--- of a call that reads nothing: 36 is its writer's fault
+-- A call that reads nothing: 36 is its writer's fault, and it has no end of reading.
 pub record EndsWriting {W : Type 0} (contents : W → Option (List ℕ)) (old new : Watched W) (outcome : Outcome)
     : Type 0 where
   pub writer : LeavesWriter contents old new outcome
-  pub ends : EndsAs outcome.end
+  pub ends : EndsText outcome.end
 
 module _ {R W : Type 0} (remaining : R → Option (List ℕ)) (contents : W → Option (List ℕ)) where
-  -- of request lines: 35 is their reader's fault, and 36 the writer's
+  -- A run over request lines: 35 is its reader's fault, and 36 its writer's.
   pub record EndsRun (reader reader_new : Watched R) (old new : Watched W) (outcome : Outcome) : Type 0 where
     pub reads : LeavesReader remaining reader reader_new outcome
     pub writer : LeavesWriter contents old new outcome
 
-  -- of rows: 35 is their reader's fault, or a record's
+  -- An import of rows: 35 is its reader's fault, or a record's.
   pub record EndsImport (reader reader_new : Watched R) (old new : Watched W) (outcome : Outcome) : Type 0 where
     pub reads : outcome.end ≡ Ended ReadFault
         → IsFaulted reader_new.failed max_reads reader_new.turns ⊎ BlamesRecord (remaining reader.inner) outcome

@@ -14,16 +14,19 @@ use Rattle.register_desk.specs.OpenRefusal.{open_refusal_name}
 use Rattle.register_desk.specs.Run.{IsPrefixOf, max_idle_turns}
 use Rattle.register_program.specs.Act.{usage_status}
 
--- the line that names this
+-- The line on standard error with this name. Own.
 abbrev pub line_naming : List ℕ → List ℕ
 line_naming name = codes "keyreg: " ++ name ++ line_feed ∷ []
 
+-- The line on standard error for an end.
 abbrev pub end_line : End → List ℕ
 end_line end = line_naming (end_name end)
 
+-- The line on standard error for a refused opening.
 abbrev pub refusal_line : OpenRefusal → List ℕ
 refusal_line refusal = line_naming (open_refusal_name refusal)
 
+-- The line on standard error for an argument that is no value.
 abbrev pub bad_value_line : List ℕ
 bad_value_line = line_naming (codes "BadValue")
 

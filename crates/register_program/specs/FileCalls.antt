@@ -21,7 +21,7 @@ use Rattle.register_desk.specs.Input.{HasItems}
 use Rattle.register_desk.specs.KeyRows.{all_rows}
 use Rattle.register_desk.specs.OpenRefusal.{ShowsTable}
 use Rattle.register_program.specs.declared.files.Closed.{Closed}
-use Rattle.register_program.specs.declared.register_file.Life.{Life}
+use Rattle.register_program.specs.declared.register_file.FileLife.{FileLife}
 use Rattle.register_program.specs.declared.refused.Refused.{Refused}
 use Rattle.register_words.specs.declared.values.Terms.{Terms}
 use Rattle.register_program.specs.Closing.{OfClosed}
@@ -34,10 +34,11 @@ use Rattle.register_report.specs.ImportRows.{BeginsWithHeader, HasRowItems}
 module _ {S U : Type 0} (g : Ghosts S) (may_leave : S → Image → Type 0) (may_stay : U → Image → Type 0)
     (found : Image) where
   -- the call came to a life, of which this is said, of its desk, and of what may be left in its files
-  abbrev pub OnLife : Result (Life S) (Refused S U) → (Life S → Desk S g → (Image → Type 0) → Type 0) → Type 0
+  abbrev pub OnLife : Result (FileLife S) (Refused S U) → (FileLife S → Desk S g → (Image → Type 0) → Type 0) → Type 0
   OnLife result said =
       IfOk result (λ life. IsCleanStore (g.view life.files.store) → OfClosed g may_leave life.files (said life))
 
+  -- What opening the register in these files comes to: its desk, or why it was refused.
   pub record OpensFile (result : Result (Desk S g) (Refused S U)) : Type 0 where
     -- The desk stands for the history whose register the files hold.
     pub stands : OpensRegister g found result
@@ -47,8 +48,8 @@ module _ {S U : Type 0} (g : Ghosts S) (may_leave : S → Image → Type 0) (may
     -- A refusal has its cause in what the files hold, and a stop leaves what they held.
     pub refuses : IfErr result (Refuses g may_leave may_stay found)
 
-  -- so it is with each call that opens the register first
-  pub record OpensFirst (result : Result (Life S) (Refused S U)) : Type 0 where
+  -- What every call says that opens the register before its work.
+  pub record OpensFirst (result : Result (FileLife S) (Refused S U)) : Type 0 where
     pub nothing : HoldsNothing found → IfOk result (λ life. IsCleanStore (g.view life.files.store) → ⊥)
     pub refuses : IfErr result (Refuses g may_leave may_stay found)
 
@@ -60,7 +61,8 @@ module _ {S U : Type 0} (g : Ghosts S) (may_leave : S → Image → Type 0) (may
     pub none : ShowsTable (state g old) → ⊥
     pub leaves : OfClosed g may_leave files (λ desk. LeavesMadeIn (state g old))
 
-  pub record MakesRegister (result : Result (Closed S) (Refused S U)) : Type 0 where
+  -- What making a register in these files comes to: a register of no request, or why none was made.
+  pub record MakesFile (result : Result (Closed S) (Refused S U)) : Type 0 where
     -- Where the files held nothing, whatever a stop leaves in them holds the register of no request.
     pub leaves : HoldsNothing found → IfOk result (λ files. IsCleanStore (g.view files.store)
         → OfClosed g may_leave files (λ desk. LeavesInFiles [] []))
@@ -73,8 +75,8 @@ module _ {S U : Type 0} (g : Ghosts S) (may_leave : S → Image → Type 0) (may
     -- register that the files hold.
     pub refuses : IfErr result (RefusesMaking g may_leave may_stay found)
 
-  -- whatever the reader tells of its bytes, and standard input tells none
-  pub record LivesAnyway (old new : Option (List ℕ)) (result : Result (Life S) (Refused S U)) : Type 0 where
+  -- What a run says whatever its reader tells of its bytes, as standard input does, which tells none.
+  pub record LivesAnyway (old new : Option (List ℕ)) (result : Result (FileLife S) (Refused S U)) : Type 0 where
     -- There are items that it was a run over.
     pub some : (h : List Request) → IsLawful h → HoldsRegister h found
         → OnLife result (λ life. LivesSome g h life.outcome old new)
@@ -82,9 +84,9 @@ module _ {S U : Type 0} (g : Ghosts S) (may_leave : S → Image → Type 0) (may
     pub unbegun : IfOk result (λ life. life.outcome.end ≡ Ended BadHeader → (new ≡ old) × (life.outcome.replies ≡ 0))
     pub opens : OpensFirst result
 
-  -- of request lines
+  -- What a run over request lines says.
   pub record RunsLines (input : Option (List ℕ)) (old new : Option (List ℕ))
-      (result : Result (Life S) (Refused S U)) : Type 0 where
+      (result : Result (FileLife S) (Refused S U)) : Type 0 where
     -- Where the files held the register of a history, what is written is the lines of the answers, and whatever a stop
     -- leaves in the files holds the register of the items that were answered, or of one more.
     pub lives : (h : List Request) (bytes : List ℕ) (items : List (Option Request)) (rest : List ℕ)
@@ -92,9 +94,9 @@ module _ {S U : Type 0} (g : Ghosts S) (may_leave : S → Image → Type 0) (may
         → OnLife result (λ life. LivesOver g h items rest life.outcome old new)
     pub anyway : LivesAnyway old new result
 
-  -- of the rows of a table, on these terms
+  -- What an import of the rows of a table on these terms says.
   pub record ImportsRows (terms : Terms) (input : Option (List ℕ)) (old new : Option (List ℕ))
-      (result : Result (Life S) (Refused S U)) : Type 0 where
+      (result : Result (FileLife S) (Refused S U)) : Type 0 where
     -- Where the files held the register of a history, it is a run over the items of the rows after the header row.
     pub lives : (h : List Request) (bytes : List ℕ) (items : List (Option Request))
         → IsLawful h → HoldsRegister h found → input ≡ Some bytes
@@ -106,14 +108,15 @@ module _ {S U : Type 0} (g : Ghosts S) (may_leave : S → Image → Type 0) (may
         → OnLife result (λ life desk. EndsUnbegun h life.outcome old new)
     pub anyway : LivesAnyway old new result
 
-  pub record Exports (old new : Option (List ℕ)) (result : Result (Life S) (Refused S U)) : Type 0 where
+  -- What an export of these files comes to: the rows of all keys are written.
+  pub record Exports (old new : Option (List ℕ)) (result : Result (FileLife S) (Refused S U)) : Type 0 where
     -- Where the files held the register of a history, its export is written, and they hold it still.
     pub lives : (h : List Request) → IsLawful h → HoldsRegister h found
         → OnLife result (λ life desk. WritesOut h (export_text (all_rows h)) life.outcome old new)
     pub opens : OpensFirst result
 
-  -- for this number of days
-  pub record Reports (days : ℕ) (old new : Option (List ℕ)) (result : Result (Life S) (Refused S U)) : Type 0 where
+  -- What a report for this number of days says.
+  pub record Reports (days : ℕ) (old new : Option (List ℕ)) (result : Result (FileLife S) (Refused S U)) : Type 0 where
     -- The files hold the register that they held.
     pub keeps : (h : List Request) → IsLawful h → HoldsRegister h found
         → OnLife result (λ life desk. LeavesInFiles h h)
@@ -124,8 +127,8 @@ module _ {S U : Type 0} (g : Ghosts S) (may_leave : S → Image → Type 0) (may
         WritesOut h (report_text (latest h) (horizon (latest h) days) rows) life.outcome old new)
     pub opens : OpensFirst result
 
-  -- of so many exchanges at most
-  pub record ServesExchanges (most : ℕ) (result : Result (Life S) (Refused S U)) : Type 0 where
+  -- What the serving of at most this many exchanges says.
+  pub record ServesExchanges (most : ℕ) (result : Result (FileLife S) (Refused S U)) : Type 0 where
     -- Where the files held the register of a history, whatever a stop leaves in them holds that of at most one item
     -- more for each exchange.
     pub lives : (h : List Request) → IsLawful h → HoldsRegister h found

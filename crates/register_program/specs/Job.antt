@@ -16,7 +16,7 @@ use Rattle.register_program.specs.declared.acting.Inputs.{Inputs}
 use Rattle.register_program.specs.Act.{unopened_status, status_of}
 use Rattle.register_program.specs.Ends.{BreaksAs, BreaksNone, EndsImport, EndsRun, EndsWriting}
 use Rattle.register_program.specs.Faults.{finish_line, refusal_line}
-use Rattle.register_program.specs.FileCalls.{Exports, ImportsRows, MakesRegister, Reports, RunsLines, ServesExchanges}
+use Rattle.register_program.specs.FileCalls.{Exports, ImportsRows, MakesFile, Reports, RunsLines, ServesExchanges}
 use Rattle.register_program.specs.ServedExchanges.{ExplainsEnd}
 
 -- how it ended: at an end of the register, which one that was made has not, or before that
@@ -41,7 +41,7 @@ module _ {S U : Type 0} (g : Ghosts S) (may_leave : S → Image → Type 0) (may
   -- A job comes to what the call that it names comes to. Nothing is written where the register is not opened, nor by a
   -- job that serves connections.
   abbrev pub Performs : Job → Option (List ℕ) → Option (List ℕ) → Option (List ℕ) → Done S U → Type 0
-  Performs Init input old new (Made came) = MakesRegister g may_leave may_stay found came × (new ≡ old)
+  Performs Init input old new (Made came) = MakesFile g may_leave may_stay found came × (new ≡ old)
   Performs Run input old new (Lived came) =
       RunsLines g may_leave may_stay found input old new came × OnErr came (new ≡ old)
   Performs (Import terms) input old new (Lived came) =
@@ -54,7 +54,7 @@ module _ {S U : Type 0} (g : Ghosts S) (may_leave : S → Image → Type 0) (may
       ServesExchanges g may_leave may_stay found bounds.exchanges came × (new ≡ old)
   Performs job input old new done = ⊥
 
--- what a life of a register by this job left of its desk
+-- What a life of a register by this job left of its desk: broken or whole.
 abbrev pub BreaksSo : Job → Finish → DeskMark → Type 0
 BreaksSo Init end mark = ⊥
 BreaksSo Run end mark = BreaksAs end mark
@@ -63,12 +63,13 @@ BreaksSo Export end mark = BreaksNone end mark
 BreaksSo (Report days) end mark = BreaksNone end mark
 BreaksSo (Serve bounds) end mark = BreaksAs end mark
 
+-- What a job that was done left of its desk, if it came to a life.
 abbrev pub BreaksFor : {S U : Type 0} → Job → Done S U → Type 0
 BreaksFor job (Made came) = Unit {0}
 BreaksFor job (Lived came) = IfOk came (λ life. BreaksSo job life.outcome.end life.mark)
 
 module _ {R W : Type 0} (remaining : R → Option (List ℕ)) (contents : W → Option (List ℕ)) where
-  -- what ended a life of a register by this job has its cause where it is blamed
+  -- The end of a life of a register by this job has its cause where the end blames it.
   abbrev pub EndsSo : Job → Inputs R → Inputs R → Watched W → Watched W → Outcome → Type 0
   EndsSo Init inputs inputs_new old new outcome = ⊥
   EndsSo Run inputs inputs_new old new outcome =
@@ -80,6 +81,7 @@ module _ {R W : Type 0} (remaining : R → Option (List ℕ)) (contents : W → 
   EndsSo (Serve bounds) inputs inputs_new old new outcome =
       ExplainsEnd bounds.exchanges inputs_new.attendance outcome.end
 
+  -- The end of a job that was done has its cause, if it came to a life.
   abbrev pub EndsFor : {S U : Type 0} → Job → Inputs R → Inputs R → Watched W → Watched W → Done S U → Type 0
   EndsFor job inputs inputs_new old new (Made came) = Unit {0}
   EndsFor job inputs inputs_new old new (Lived came) =

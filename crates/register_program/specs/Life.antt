@@ -1,6 +1,5 @@
 -- A life of a register in files: it is opened, something is done over it, and it may be stopped.
-use Rattle.std.specs.Prelude.{◌≡◌, ◌≢◌, ◌⊎◌, ◌+◌, ◌≤◌, ◌++◌, ℕ, List, [], length, take, Option}
-use Rattle.std.specs.Prelude.{IsTrue}
+use Rattle.std.specs.Prelude.{◌≡◌, ◌≢◌, ◌⊎◌, ◌+◌, ◌≤◌, ◌++◌, ℕ, List, [], length, take, Option, IsTrue}
 use Rattle.sqlite_trees.specs.declared.store.Store.{Ghosts}
 use Rattle.sqlite_trees.specs.View.{IsClean as IsCleanStore}
 use Rattle.sqlite.specs.Files.{AreFoundIn, HoldsDatabase}
@@ -19,8 +18,8 @@ use Rattle.register_desk.specs.declared.runs.Finish.{Finish}
 use Rattle.register_desk.specs.declared.runs.Finish.TheVariants.{Ended}
 use Rattle.register_desk.specs.declared.runs.Outcome.{Outcome}
 use Rattle.register_desk.specs.DatabaseFiles.{HoldsLife, HoldsNothing, HoldsOneOf, HoldsRegister, ShowsFiles}
-use Rattle.register_desk.specs.OpenRefusal.{IsMadeIn, IsTakenIn, IsReasonOf, RefusesNoTable, ShowsTable}
-use Rattle.register_desk.specs.OpenRefusal.{connection_in, refusal_in}
+use Rattle.register_desk.specs.OpenRefusal.{IsMadeIn, IsTakenIn, IsReasonOf, RefusesNoTable, ShowsTable, connection_in}
+use Rattle.register_desk.specs.OpenRefusal.{refusal_in}
 use Rattle.register_desk.specs.Lives.{AreInRange}
 use Rattle.register_desk.specs.Run.{RunsOver}
 use Rattle.register_program.specs.declared.refused.Refused.{Refused}
@@ -48,7 +47,7 @@ LeavesMadeIn s may_leave =
 abbrev pub LeavesNothing : (Image → Type 0) → Type 0
 LeavesNothing may_leave = (left : Image) → may_leave left → ∥ HoldsNothing left ∥₁
 
--- the same, or the register of no request
+-- Whatever a stop leaves in the files holds nothing, or the register of no request.
 abbrev pub LeavesNoRequest : (Image → Type 0) → Type 0
 LeavesNoRequest may_leave = (left : Image) → may_leave left → ∥ (HoldsNothing left ⊎ HoldsRegister [] left) ∥₁
 
@@ -62,13 +61,14 @@ abbrev pub LeavesFound : Image → (Image → Type 0) → Type 0
 LeavesFound found may_leave =
     (left : Image) → may_leave left → ∥ ((db : Trees) × IsFoundIn found db × HoldsDatabase left db) ∥₁
 
--- the same, or what that was taken to: tables of the first version in this program's
+-- Whatever a stop leaves in the files holds a database that was found in them, or that migrated to this program's
+-- version.
 abbrev pub LeavesTaken : Image → State → (Image → Type 0) → Type 0
 LeavesTaken found s may_leave =
     (left : Image) → may_leave left
     → ∥ ((db : Trees) × (IsFoundIn found db ⊎ IsTakenIn s db) × HoldsDatabase left db) ∥₁
 
--- what a stop leaves behind a refusal: what was taken to this program's version only where the database refused
+-- What a stop leaves behind a refusal: what was found, and only where the database refused perhaps that migrated.
 abbrev pub LeavesBehindIn : OpenRefusal → Image → State → (Image → Type 0) → Type 0
 LeavesBehindIn Store found s may_leave = LeavesTaken found s may_leave
 LeavesBehindIn refusal found s may_leave = LeavesFound found may_leave
@@ -107,7 +107,8 @@ IsCommittedOrMade s db = (db ≡ s.committed.trees) ⊎ IsMadeIn s db
 
 module _ {S : Type 0} (g : Ghosts S) (found : Image) where
   -- The files were no register of this program, or the database refused: the refusal has its reason in what an opened
-  -- connection to them shows, and a stop leaves what was found; where the database refused perhaps what that was taken to.
+  -- connection to them shows, and a stop leaves what was found; where the database refused perhaps what that was
+  -- taken to.
   pub record RefusesFiles (refusal : OpenRefusal) (may_leave : Image → Type 0) : Type 0 where
     pub old : Held S
     pub new : Held S
@@ -115,7 +116,8 @@ module _ {S : Type 0} (g : Ghosts S) (found : Image) where
     pub reason : IsReasonOf (state g old) (state g new) refusal
     pub leaves : LeavesBehindIn refusal found (state g old) may_leave
 
-  -- Files in which no register was made. Where a table of one is to blame it is there; where one is there, a stop leaves
+  -- Files in which no register was made. Where a table of one is to blame it is there; where one is there, a stop
+  -- leaves
   -- what was found; else it leaves what was committed, or that with an empty register made in it.
   pub record RefusesToMake (refusal : OpenRefusal) (may_leave : Image → Type 0) : Type 0 where
     pub old : Held S
@@ -126,13 +128,14 @@ module _ {S : Type 0} (g : Ghosts S) (found : Image) where
     pub leaves : (left : Image) → may_leave left
         → ∥ ((db : Trees) × HoldsDatabase left db × IsCommittedOrMade (state g old) db) ∥₁
 
--- this is said of files that were opened, if they are sound
-abbrev pub OfSound : {S U : Type 0} → Ghosts S → (S → Image → Type 0) → RefusedFiles S U → ((Image → Type 0) → Type 0) → Type 0
+-- What is said of files that were opened and are sound.
+abbrev pub OfSound : {S U : Type 0} → Ghosts S → (S → Image → Type 0) → RefusedFiles S U
+    → ((Image → Type 0) → Type 0) → Type 0
 OfSound g may_leave (Failed it) Says = Unit {0}
 OfSound g may_leave (Shut store) Says = IsCleanStore (g.view store) → Says (may_leave store)
 
 module _ {S U : Type 0} (g : Ghosts S) (may_leave : S → Image → Type 0) (may_stay : U → Image → Type 0) where
-  -- the same, and of files that could not be opened
+  -- What is said of files that a call left, whether they were opened or not.
   abbrev pub OfLeft : RefusedFiles S U → ((Image → Type 0) → Type 0) → Type 0
   OfLeft (Failed it) Says = Says (may_stay it)
   OfLeft (Shut store) Says = IsCleanStore (g.view store) → Says (may_leave store)
@@ -153,7 +156,8 @@ module _ {S U : Type 0} (g : Ghosts S) (may_leave : S → Image → Type 0) (may
   -- the register of no request.
   pub record RefusesMaking (refused : Refused S U) : Type 0 where
     pub cause : OfSound g may_leave refused.files (RefusesToMake g found refused.refusal)
-    pub spares : (h : List Request) → HoldsRegister h found → OfLeft g may_leave may_stay refused.files (LeavesInFiles h h)
+    pub spares : (h : List Request) → HoldsRegister h found
+        → OfLeft g may_leave may_stay refused.files (LeavesInFiles h h)
     pub nothing : HoldsNothing found → OfLeft g may_leave may_stay refused.files LeavesNoRequest
     pub unopened : (failed : U) → refused.files ≡ Failed failed → RefusesNoTable refused.refusal
 
@@ -189,7 +193,8 @@ pub record EndsUnbegun (h : List Request) (outcome : Outcome) (old new : Option 
   pub same : new ≡ old
   pub leaves : LeavesInFiles h h may_leave
 
--- The text was written, or a prefix of it where the call ended before, and whatever a stop leaves in the files holds the
+-- The text was written, or a prefix of it where the call ended before, and whatever a stop leaves in the files holds
+-- the
 -- register as it was.
 pub record WritesOut (h : List Request) (text : List ℕ) (outcome : Outcome) (old new : Option (List ℕ))
     (may_leave : Image → Type 0) : Type 0 where

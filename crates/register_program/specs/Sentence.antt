@@ -1,18 +1,19 @@
 -- The sentence that the work serves, of the runs of the program over the files of one register: opening the files again
 -- finds exactly the register of what was accepted, with every request whose reply line was written and at most one more
 -- of each run. A stop within a write is a disk that fails from that write on.
-use Rattle.std.specs.Prelude.{◌≡◌, ◌⊎◌, ℕ, ◌≤◌, false, List, [], ◌∷◌, length, take}
-use Rattle.std.specs.Prelude.{Option, None, Some, Ok, Err, IfSome}
+use Rattle.std.specs.Prelude.{◌≡◌, ◌⊎◌, ℕ, ◌+◌, ◌≤◌, List, [], ◌∷◌, length, take, Option, None, Some, Ok, Err, IfSome}
+use Rattle.std.specs.List.{AllByRecursion}
 use Rattle.std.specs.Io.KnownBytes.{Appends}
 use Rattle.sqlite_trees.specs.declared.store.Store.{Ghosts}
 use Rattle.sqlite_trees.specs.View.{IsClean as IsCleanStore}
 use Rattle.sqlite.specs.Recovery.{Image}
 use Rattle.register_requests.specs.declared.request.Request.{Request}
+use Rattle.register_requests.specs.Request.{IsRequest}
 use Rattle.register_core.specs.Fold.{IsLawful, answers}
 use Rattle.register_desk.specs.declared.runs.Outcome.{Outcome}
 use Rattle.register_desk.specs.DatabaseFiles.{HoldsNothing, HoldsRegister}
 use Rattle.register_desk.specs.Input.{HasItems}
-use Rattle.register_desk.specs.Lives.{AreInRange, Life, after, after_lives, applied, life_of}
+use Rattle.register_desk.specs.Lives.{Life, after, after_lives}
 use Rattle.register_desk.specs.Run.{IsPrefixOf, answer_lines}
 use Rattle.register_program.specs.declared.files.Closed.{Closed}
 use Rattle.register_program.specs.Closing.{LeftIn}
@@ -44,34 +45,31 @@ AreItemsOf input items = IfSome input (λ bytes. (rest : List ℕ) × HasItems b
 
 -- What was written has the reply line of each item that was answered, whole and in order, and nothing past the line of
 -- one that was applied.
-pub record Answered (h : List Request) (life : Life) (old new : Option (List ℕ)) : Type 0 where
+pub record WroteAnswers (h : List Request) (life : Life) (old new : Option (List ℕ)) : Type 0 where
   pub text : List ℕ
   pub written : Appends old new text
   pub answered : IsPrefixOf (answer_lines (take life.replies (answers h life.items))) text
-  pub at_most_applied : IsPrefixOf text (answer_lines (take (applied life) (answers h life.items)))
+  pub at_most_applied : IsPrefixOf text (answer_lines (take life.applied (answers h life.items)))
 
--- a life in which nothing was applied
-abbrev pub no_life : Life
-no_life = life_of [] 0 false
-
--- How a life fits a job that came to this. A run over request lines has the items of its input and as many replies as
--- it counted, and an import some items, as it were their lines; what was served are some items. Any other job applies
--- nothing.
+-- How a life fits the job of its run and what came of it. `Run` and `Import` wrote its answers and counted its replies;
+-- the items of `Run` are those of its input. `Serve` may be any life. Any other job, or one that opened no register,
+-- has no items.
 abbrev pub IsLifeOf : List Request → Job → Option Outcome → ProgramRun → Life → Type 0
 IsLifeOf h Run (Some outcome) run life =
-    (life.replies ≡ outcome.replies) × AreItemsOf run.input life.items × Answered h life run.old run.new
+    (life.replies ≡ outcome.replies) × AreItemsOf run.input life.items × WroteAnswers h life run.old run.new
 IsLifeOf h (Import terms) (Some outcome) run life =
-    (life.replies ≡ outcome.replies) × Answered h life run.old run.new
+    (life.replies ≡ outcome.replies) × WroteAnswers h life run.old run.new
 IsLifeOf h (Serve bounds) (Some outcome) run life = Unit {0}
-IsLifeOf h job outcome run life = life ≡ no_life
+IsLifeOf h job outcome run life = life.items ≡ []
 
--- The run was this life, from the history h.
+-- The run was this life, from the history h: as many items were applied as were answered, or one more.
 pub record WasLife (h : List Request) (run : ProgramRun) (life : Life) : Type 0 where
-  pub in_range : AreInRange life.items
-  pub enough : applied life ≤ length life.items
+  pub in_range : AllByRecursion (λ item. IfSome item IsRequest) life.items
+  pub applied : (life.replies ≤ life.applied) × (life.applied ≤ life.replies + 1) × (life.applied ≤ length life.items)
   pub is : IsLifeOf h run.job run.outcome run life
 
--- The files hold nothing, where nothing was applied yet, or exactly the register of the history.
+-- The history is empty and the files hold no database or an empty one, or the files hold exactly the register of the
+-- history.
 abbrev pub HoldsHistory : List Request → Image → Type 0
 HoldsHistory h image = (HoldsNothing image × (h ≡ [])) ⊎ HoldsRegister h image
 
@@ -95,14 +93,16 @@ Were h (run ∷ runs) (life ∷ lives) = WasLife h run life × Were (after h lif
 Were h [] (life ∷ lives) = ⊥
 Were h (run ∷ runs) [] = ⊥
 
--- The runs were these lives, and the files hold exactly what they come to, a lawful history.
+-- Some lives match the runs one by one, from the history h on. The history after them is lawful, and the files hold
+-- exactly that history.
 pub record FoundAgain (h : List Request) (runs : List ProgramRun) (left : Image) : Type 0 where
   pub lives : List Life
   pub were : Were h runs lives
   pub lawful : IsLawful (after_lives h lives)
   pub holds : HoldsHistory (after_lives h lives) left
 
--- The sentence: whatever runs there are, each over what the one before left, at its end or at a stop, and the first over
+-- The sentence: whatever runs there are, each over what the one before left, at its end or at a stop, and the first
+-- over
 -- files that hold nothing or the register of a history, what they come to is found again.
 abbrev pub AreFoundAgain : Type 0
 AreFoundAgain =
@@ -115,19 +115,6 @@ AreFoundAgain =
 abbrev pub outcome_of : {S U : Type 0} → Done S U → Option Outcome
 outcome_of (Lived (Ok lived)) = Some lived.outcome
 outcome_of _ = None
-
--- the run of a job that came to this, and left that
-abbrev pub run_of : {S U : Type 0} → Image → Job → Option (List ℕ) → Option (List ℕ) → Option (List ℕ) → Done S U → Image
-    → ProgramRun
-run_of found job input old new done left = record {
-  found = found;
-  job = job;
-  input = input;
-  old = old;
-  new = new;
-  outcome = outcome_of done;
-  left = left;
-}
 
 -- in files that were closed, on a disk that gave back what was written
 abbrev pub LeftByClosed : {S : Type 0} → Ghosts S → (S → Image → Type 0) → Closed S → Image → Type 0
@@ -149,4 +136,12 @@ module _ {S U : Type 0} (g : Ghosts S) (may_leave : S → Image → Type 0) (may
   -- The run of a job that came to this leads on, whatever of what it may have left is found.
   abbrev pub LeadsFrom : Image → Job → Option (List ℕ) → Option (List ℕ) → Option (List ℕ) → Done S U → Type 0
   LeadsFrom found job input old new done =
-      (left : Image) → LeftBy done left → Leads (run_of found job input old new done left)
+      (left : Image) → LeftBy done left → Leads (record {
+        found = found;
+        job = job;
+        input = input;
+        old = old;
+        new = new;
+        outcome = outcome_of done;
+        left = left;
+      })

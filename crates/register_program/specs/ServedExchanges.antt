@@ -61,7 +61,8 @@ pub record LeavesSome {S : Type 0} (g : Ghosts S) (h : List Request) (most : ℕ
   pub in_range : AreInRange (items ++ next)
   pub leaves : LeavesEither g (history h items) (history h (items ++ next)) desk
 
--- What serving so many exchanges comes to: what a stop leaves of each history, how it ended and why, and what it leaves of
+-- What serving so many exchanges comes to: what a stop leaves of each history, how it ended and why, and what it
+-- leaves of
 -- the desk.
 pub record ServesClients {S : Type 0} (g : Ghosts S) (exchanges : ℕ) (attendance : Attendance) (old new : Desk S g)
     (end : Finish) : Type 0 where

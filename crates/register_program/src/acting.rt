@@ -15,7 +15,7 @@ use crate::files::{Closed, Files};
 use crate::network::Network;
 use crate::refused::Refused;
 use crate::register_file::{
-    Life, export_file, import_file, init_file, report_file, run_file, serve_file,
+    FileLife, export_file, import_file, init_file, report_file, run_file, serve_file,
 };
 use clap::Error;
 use register_desk::{Finish, OpenRefusal, Outcome, Watched, run_in_memory};
@@ -44,7 +44,7 @@ pub enum Done<S, U> {
     /// A register was to be made.
     Made(Result<Closed<S>, Refused<S, U>>),
     /// The register was to be opened for what was done.
-    Lived(Result<Life<S>, Refused<S, U>>),
+    Lived(Result<FileLife<S>, Refused<S, U>>),
 }
 
 impl<S, U> Done<S, U> {
@@ -159,8 +159,8 @@ fn perform<F: Files + Drop, N: Network + Clock + Drop, R: Read, W: Write>(
     ensures performs { Performs F.Opened.Store F.may_leave F.may_leave_failed (F.start file.now)
         job.now (R.remaining inputs.old.reader.inner) (W.contents writer.old.inner)
         (W.contents writer.new.inner) result }
-    ensures ends { EndsFor R.remaining W.contents job.now inputs.old inputs.new writer.old writer.new
-        result }
+    ensures ends { EndsFor R.remaining W.contents job.now inputs.old inputs.new
+        writer.old writer.new result }
     ensures desk { BreaksFor job.now result }
 {
     let Machine {

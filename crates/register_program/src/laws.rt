@@ -8,7 +8,7 @@ ghost use Rattle.register_desk.specs.Lives.{after_lives};
 ghost use Rattle.register_program.specs.Closing.{LeftIn, alone};
 ghost use Rattle.register_program.specs.FileCalls.{OpensFile};
 ghost use Rattle.register_program.specs.Life.{LeavesInFiles};
-ghost use Rattle.register_program.specs.Opening.{OpensAs};
+ghost use Rattle.register_program.specs.Opening.{FindsHistory};
 ghost use Rattle.register_program.specs.Sentence.{AreFoundAgain, FoundAgain, ProgramRun};
 
 use crate::files::{Closed, Files, LogCopy};
@@ -38,5 +38,5 @@ pub fn openings_find_lives<F: Files>()
         (again : FoundAgain h runs left) → (result : _) →
         OpensFile F.Opened.Store F.may_leave F.may_leave_failed left result →
         HoldsRegister (after_lives h again.lives) left →
-        OpensAs F.Opened.Store (after_lives h again.lives) result }
+        FindsHistory F.Opened.Store (after_lives h again.lives) result }
 {}

@@ -19,8 +19,8 @@ pub use files::{Absent, Closed, Files, LogCopy, NotConnected};
 pub use network::{Client, Listener, Network, ReadHalf, WriteHalf};
 pub use refused::{Refused, RefusedFiles};
 pub use register_file::{
-    Life, export_file, import_file, init_file, open_file, report_file, run_file, serve_file,
+    FileLife, export_file, import_file, init_file, open_file, report_file, run_file, serve_file,
 };
 pub use serving::{
-    Clocks, MachineClock, Now, ServedConnection, serve_at, serve_connection, serve_on,
+    MachineClock, Means, Now, ServedConnection, serve_at, serve_connection, serve_on,
 };

@@ -4,7 +4,7 @@ ghost use Rattle.sqlite_trees.specs.View.{IsClean as IsCleanStore};
 ghost use Rattle.register_desk.specs.Desk.{IsClean, IsMarkOf};
 ghost use Rattle.register_program.specs.Closing.{ClosesDesk};
 ghost use Rattle.register_program.specs.Within.Closing.{LeavesAsDesk};
-ghost use Rattle.register_program.specs.FileCalls.{Exports, ImportsRows, MakesRegister, OpensFile};
+ghost use Rattle.register_program.specs.FileCalls.{Exports, ImportsRows, MakesFile, OpensFile};
 ghost use Rattle.register_program.specs.FileCalls.{Reports, RunsLines, ServesExchanges};
 ghost use Rattle.register_program.specs.Ends.{BreaksAs, BreaksNone, EndsImport, EndsRun};
 ghost use Rattle.register_program.specs.Ends.{EndsWriting};
@@ -24,7 +24,7 @@ use std::time::Clock;
 
 /// What one life of a register in a file came to.
 #[derive(Drop)]
-pub struct Life<S> {
+pub struct FileLife<S> {
     /// What was done.
     pub outcome: Outcome,
     /// Whether that broke the desk.
@@ -61,7 +61,8 @@ pub fn init_file<F: Files>(
     file: &str,
     files: F,
 ) -> Result<Closed<F::Opened>, Refused<F::Opened, F::Failed>>
-    ensures { MakesRegister F.Opened.Store F.may_leave F.may_leave_failed (F.start file.now) result }
+    ensures { MakesFile F.Opened.Store F.may_leave F.may_leave_failed
+        (F.start file.now) result }
 {
     let connection = files.connect(file, Absent::Made)?;
     let desk = Desk::create(alloc, connection)?;
@@ -96,7 +97,7 @@ pub fn run_file<F: Files + Drop, R: Read, W: Write>(
     files: F,
     reader: &mut Watched<R>,
     writer: &mut Watched<W>,
-) -> Result<Life<F::Opened>, Refused<F::Opened, F::Failed>>
+) -> Result<FileLife<F::Opened>, Refused<F::Opened, F::Failed>>
     requires reader { reader.old.failed ≡ false }
     requires writer { writer.old.failed ≡ false }
     ensures runs { RunsLines F.Opened.Store F.may_leave F.may_leave_failed (F.start file.now)
@@ -110,7 +111,7 @@ pub fn run_file<F: Files + Drop, R: Read, W: Write>(
     let mut desk = open_file(alloc, file, files)?;
     let outcome = run(reader, writer, &mut desk);
     let (files, mark) = close_desk::<F>(desk);
-    Ok(Life {
+    Ok(FileLife {
         outcome,
         mark,
         files,
@@ -129,7 +130,7 @@ pub fn import_file<F: Files + Drop, R: Read, W: Write>(
     terms: &Terms,
     reader: &mut Watched<R>,
     writer: &mut Watched<W>,
-) -> Result<Life<F::Opened>, Refused<F::Opened, F::Failed>>
+) -> Result<FileLife<F::Opened>, Refused<F::Opened, F::Failed>>
     requires reader { reader.old.failed ≡ false }
     requires writer { writer.old.failed ≡ false }
     ensures imports { ImportsRows F.Opened.Store F.may_leave F.may_leave_failed
@@ -151,7 +152,7 @@ pub fn import_file<F: Files + Drop, R: Read, W: Write>(
         writer,
     );
     let (files, mark) = close_desk::<F>(desk);
-    Ok(Life {
+    Ok(FileLife {
         outcome,
         mark,
         files,
@@ -167,7 +168,7 @@ pub fn export_file<F: Files + Drop, W: Write>(
     file: &str,
     files: F,
     writer: &mut Watched<W>,
-) -> Result<Life<F::Opened>, Refused<F::Opened, F::Failed>>
+) -> Result<FileLife<F::Opened>, Refused<F::Opened, F::Failed>>
     requires { writer.old.failed ≡ false }
     ensures exports { Exports F.Opened.Store F.may_leave F.may_leave_failed (F.start file.now)
         (W.contents writer.old.inner) (W.contents writer.new.inner) result }
@@ -178,7 +179,7 @@ pub fn export_file<F: Files + Drop, W: Write>(
     let mut desk = open_file(alloc, file, files)?;
     let outcome = export(alloc, &mut desk, writer);
     let (files, mark) = close_desk::<F>(desk);
-    Ok(Life {
+    Ok(FileLife {
         outcome,
         mark,
         files,
@@ -196,7 +197,7 @@ pub fn report_file<F: Files + Drop, W: Write>(
     files: F,
     days: u32,
     writer: &mut Watched<W>,
-) -> Result<Life<F::Opened>, Refused<F::Opened, F::Failed>>
+) -> Result<FileLife<F::Opened>, Refused<F::Opened, F::Failed>>
     requires { writer.old.failed ≡ false }
     ensures reports { Reports F.Opened.Store F.may_leave F.may_leave_failed (F.start file.now) days
         (W.contents writer.old.inner) (W.contents writer.new.inner) result }
@@ -207,7 +208,7 @@ pub fn report_file<F: Files + Drop, W: Write>(
     let mut desk = open_file(alloc, file, files)?;
     let outcome = rotation(alloc, &mut desk, days, writer);
     let (files, mark) = close_desk::<F>(desk);
-    Ok(Life {
+    Ok(FileLife {
         outcome,
         mark,
         files,
@@ -225,25 +226,18 @@ pub fn serve_file<F: Files + Drop, N: Network + Clock>(
     network: &N,
     bounds: &Bounds,
     attendance: &mut Attendance,
-) -> Result<Life<F::Opened>, Refused<F::Opened, F::Failed>>
+) -> Result<FileLife<F::Opened>, Refused<F::Opened, F::Failed>>
     requires { attendance.old ≡ nobody }
-    ensures serves { ServesExchanges F.Opened.Store F.may_leave F.may_leave_failed (F.start file.now)
-        bounds.now.exchanges result }
+    ensures serves { ServesExchanges F.Opened.Store F.may_leave F.may_leave_failed
+        (F.start file.now) bounds.now.exchanges result }
     ensures ends { IfOk result (λ life.
         ExplainsEnd bounds.now.exchanges attendance.new life.outcome.end) }
     ensures desk { IfOk result (λ life. BreaksAs life.outcome.end life.mark) }
 {
     let mut desk = open_file(alloc, file, files)?;
-    let end = serve_at(
-        alloc,
-        &mut desk,
-        network,
-        bounds.port,
-        bounds.exchanges,
-        attendance,
-    );
+    let end = serve_at(alloc, &mut desk, network, bounds, attendance);
     let (files, mark) = close_desk::<F>(desk);
-    Ok(Life {
+    Ok(FileLife {
         outcome: Outcome::ended_without_bytes(end),
         mark,
         files,

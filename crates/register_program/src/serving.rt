@@ -14,6 +14,7 @@ use crate::network::{Client, Listener, Network, ReadHalf, WriteHalf};
 use moment_core::Moment;
 use register_desk::{Desk, End, Finish, Outcome, Watched};
 use register_http::{Routes, exchange};
+use register_words::Bounds;
 use sqlite::Alter;
 use std::alloc::Global;
 use std::io::{self, ErrorKind, Read, Write};
@@ -49,9 +50,11 @@ impl<C: Clock> Now for MachineClock<'_, C> {
     }
 }
 
-/// What serving goes by.
+/// What serving stands on.
 #[derive(Drop)]
-pub struct Clocks<'a, C: Clock, N: Now> {
+pub struct Means<'a, L: Listener, C: Clock, N: Now> {
+    /// Where clients come.
+    pub listener: &'a L,
     /// Measures how long a client takes.
     pub timer: &'a C,
     /// Tells the moment of each exchange.
@@ -129,7 +132,6 @@ pub fn serve_connection<S: Alter, R: ReadHalf, W: WriteHalf, C: Clock>(
         (R.remaining result.client.read_half) result.outcome.read }
     ensures ended { W.has_ended result.client.write_half ≡ true }
     ensures drained { R.is_drained result.client.read_half ≡ true }
-
     // Whatever the client tells of its bytes, at most one request was handed to the register.
     ensures leaves { (h : List Request) → StandsFor S.Store desk.old h → IsWhole desk.old
         → IsClean S.Store desk.new → LeavesOne S.Store h desk.new result.outcome.end }
@@ -187,8 +189,7 @@ fn may_serve_on(finish: Finish) -> bool
 pub fn serve_on<S: Alter, L: Listener, C: Clock, N: Now>(
     alloc: Global,
     desk: &mut Desk<S>,
-    listener: &L,
-    clocks: &Clocks<'_, C, N>,
+    means: &Means<'_, L, C, N>,
     exchanges: u32,
     attendance: &mut Attendance,
 ) -> Finish
@@ -198,13 +199,13 @@ pub fn serve_on<S: Alter, L: Listener, C: Clock, N: Now>(
     let mut routes = Routes::new();
     let mut served = 0;
     'exchanges: while served < exchanges {
-        let Some(client) = attendance.accept(listener) else {
+        let Some(client) = attendance.accept(means.listener) else {
             return Finish::Ended(End::ReadFault);
         };
-        let Some(moment) = attendance.tell_moment(clocks.moments) else {
+        let Some(moment) = attendance.tell_moment(means.moments) else {
             return Finish::Ended(End::ReadFault);
         };
-        let connection = serve_connection(alloc, &mut routes, desk, client, clocks.timer, moment);
+        let connection = serve_connection(alloc, &mut routes, desk, client, means.timer, moment);
         let finish = connection.outcome.end;
         if !may_serve_on(finish) {
             return finish;
@@ -214,26 +215,26 @@ pub fn serve_on<S: Alter, L: Listener, C: Clock, N: Now>(
     Finish::AtEnd { rest: 0 }
 }
 
-/// Serves so many connections that come to this port of the machine itself, as [`serve_on`], by its
+/// Serves so many connections that come to the port of the machine itself, as [`serve_on`], by its
 /// clock. It ends by [`End::ReadFault`], too, where the port cannot be listened at.
 pub fn serve_at<S: Alter, N: Network + Clock>(
     alloc: Global,
     desk: &mut Desk<S>,
     network: &N,
-    port: u16,
-    exchanges: u32,
+    bounds: &Bounds,
     attendance: &mut Attendance,
 ) -> Finish
     requires { attendance.old ≡ nobody }
-    ensures { ServesClients S.Store exchanges attendance.new desk.old desk.new result }
+    ensures { ServesClients S.Store bounds.now.exchanges attendance.new desk.old desk.new result }
 {
-    let Some(listener) = attendance.listen(network, port) else {
+    let Some(listener) = attendance.listen(network, bounds.port) else {
         return Finish::Ended(End::ReadFault);
     };
     let moments = MachineClock::new(network);
-    let clocks = Clocks {
+    let means = Means {
+        listener: &listener,
         timer: network,
         moments: &moments,
     };
-    serve_on(alloc, desk, &listener, &clocks, exchanges, attendance)
+    serve_on(alloc, desk, &means, bounds.exchanges, attendance)
 }

@@ -19,23 +19,23 @@ use Rattle.register_desk.specs.declared.desk.Desk.{Desk}
 use Rattle.register_desk.specs.Desk.{IsClean}
 use Rattle.register_desk.specs.Register.{StandsFor}
 use Rattle.register_desk.specs.Run.{LeavesDesk, RunsItems}
-use Rattle.register_desk.specs.Lives.{LivesSome}
+use Rattle.register_desk.specs.Lives.{DeskLives}
 use Rattle.register_desk.proofs.Goings.{leaves_going, still}
 use Rattle.register_desk.proofs.Lived.{lived_alone}
 use Rattle.register_desk.proofs.Answering.{answered_none, prefix_so}
 use Rattle.register_desk.proofs.Serving.{nothing_leaves, nothing_lives, nothing_runs}
 use Rattle.register_report.specs.declared.importing.Rows.{Rows}
 use Rattle.register_report.specs.Import.{EndsWithoutHeader, StopsAtRecord}
-use Rattle.register_report.specs.ImportRows.{BeginsWithHeader, HasRows, Item, Row, header, max_rows}
+use Rattle.register_report.specs.ImportRows.{BeginsWithHeader, HasRows, Item, RowTexts, header, max_rows}
 use Rattle.register_report.specs.TableRows.{RowsCame}
 use Rattle.register_report.specs.Within.TableRows.{LacksHeader}
 use Rattle.register_report.proofs.RowsLemmas.{HasLeft, rows_split, same_length, some_same}
 
-pub same_tail : (a b : Row) (xs ys : List Row) → a ∷ xs ≡ b ∷ ys → xs ≡ ys
+pub same_tail : (a b : RowTexts) (xs ys : List RowTexts) → a ∷ xs ≡ b ∷ ys → xs ≡ ys
 same_tail a b xs ys e = cc
 
 -- an input that has rows begins with its header row
-has_header : (bytes : List ℕ) (rows : List Row) → HasRows bytes rows → BeginsWithHeader bytes
+has_header : (bytes : List ℕ) (rows : List RowTexts) → HasRows bytes rows → BeginsWithHeader bytes
 unfolding Reached
 has_header bytes rows has =
     let step = has.2 in
@@ -62,7 +62,7 @@ reads_input remaining reader input bytes config start source known = record {
 module _ {R : Type 0} {remaining : R → Option (List ℕ)} {a : Reader R} {bytes : List ℕ}
     (reads : Reads remaining a bytes) (b : Reader R) where
   -- the first record was read
-  first_read : (fields : Row) → ReadRecord remaining a b true fields
+  first_read : (fields : RowTexts) → ReadRecord remaining a b true fields
       → (z : List ℕ) × (source_of remaining b ≡ Some z) × Reached default_config states.StartRecord
       (strip_bom bytes) (fields ∷ []) (reader_state b) z
   unfolding Reached
@@ -71,14 +71,14 @@ module _ {R : Type 0} {remaining : R → Option (List ℕ)} {a : Reader R} {byte
       (strip_bom bytes) [] reads.config reads.source (sym reads.start, refl) one
 
   -- the rows after the header row
-  pub rows_after : (rows : List Row) → ReadRecord remaining a b true header → HasRows bytes rows
+  pub rows_after : (rows : List RowTexts) → ReadRecord remaining a b true header → HasRows bytes rows
       → HasLeft remaining b rows
   rows_after rows one has =
       let first = first_read header one in
       let split = rows_split default_config states.StartRecord (reader_state b) (strip_bom bytes)
       first.0 (header ∷ []) (header ∷ rows) first.2 has in
       let same : rows ≡ split.more = same_tail header header rows split.more split.parts in
-      let are = subst (λ (rs : List Row). AreRecords default_config (reader_state b) first.0 rs)
+      let are = subst (λ (rs : List RowTexts). AreRecords default_config (reader_state b) first.0 rs)
       (sym same) split.after in
       record { bytes = first.0; source = first.1; are = are }
 
@@ -88,7 +88,7 @@ module _ {R : Type 0} {remaining : R → Option (List ℕ)} {a : Reader R} {byte
       record { state = reader_state b; left = first.0; reached = first.2 }
 
   -- where the first record is not the header row, the input does not begin with it
-  not_begun : (found : Bool) (fields : Row) → ReadRecord remaining a b found fields
+  not_begun : (found : Bool) (fields : RowTexts) → ReadRecord remaining a b found fields
       → (found ≡ true → fields ≢ header) → BeginsWithHeader bytes → ⊥
   unfolding Reached
   not_begun true fields one other begins =
@@ -104,7 +104,7 @@ module _ {R : Type 0} {remaining : R → Option (List ℕ)} {a : Reader R} {byte
       absurd cc
 
   -- one record more, which was taken and perhaps no text
-  taken : (a b : State) (y : List ℕ) (fields : Row) (k : Option (List ℕ))
+  taken : (a b : State) (y : List ℕ) (fields : RowTexts) (k : Option (List ℕ))
       → ReadsNext default_config a (Some y) k true fields b
       → (z : List ℕ) × Reached default_config a y (fields ∷ []) b z
   unfolding Reached
@@ -118,7 +118,7 @@ module _ {R : Type 0} {remaining : R → Option (List ℕ)} {a : Reader R} {byte
 
   -- no header row was read of an input
   module _ {S : Type 0} (g : Ghosts S) (kept : Desk S g) (written : Option (List ℕ)) (failed : Bool) where
-    pub no_header_runs : (end : End) → LacksHeader remaining a b failed end → (rows : List Row) → HasRows bytes rows
+    pub no_header_runs : (end : End) → LacksHeader remaining a b failed end → (rows : List RowTexts) → HasRows bytes rows
         → (items : List Item) → RunsItems g items [] (Ended end) 0 written written kept kept
     no_header_runs Memory why rows has items = nothing_runs g written kept Memory tt items []
     no_header_runs ReadFault why rows has items = nothing_runs g written kept ReadFault tt items []
@@ -134,7 +134,7 @@ module _ {R : Type 0} {remaining : R → Option (List ℕ)} {a : Reader R} {byte
   no_header failed end why is begins = cc
 
   -- the first record is no text
-  pub stops_first : (fields : Row) → TookRecord remaining a b fields → ¬ (AllText fields) → StopsAtRecord bytes 0
+  pub stops_first : (fields : RowTexts) → TookRecord remaining a b fields → ¬ (AllText fields) → StopsAtRecord bytes 0
   stops_first fields took no_text =
       let it = taken (reader_state a) (reader_state b) (strip_bom bytes) fields (pending_of (remaining b.rdr) b)
       (rw (reads.config, reads.source) at took) in
@@ -145,7 +145,8 @@ module _ {R : Type 0} {remaining : R → Option (List ℕ)} {a : Reader R} {byte
         begins = record {
           state = reader_state b;
           left = it.0;
-          reached = subst (λ (s : State). Reached default_config s (strip_bom bytes) (fields ∷ []) (reader_state b) it.0)
+          reached = subst (λ (s : State). Reached default_config s (strip_bom bytes) (fields ∷ [])
+              (reader_state b) it.0)
               reads.start it.1;
         };
         why = inl no_text;
@@ -153,7 +154,7 @@ module _ {R : Type 0} {remaining : R → Option (List ℕ)} {a : Reader R} {byte
 
 -- ---- rows after the header row, and then one that ended the import
 
-reached_then : (s s2 s3 : State) (xs ys zs : List ℕ) (rows more : List Row) → Reached default_config s xs rows s2 ys
+reached_then : (s s2 s3 : State) (xs ys zs : List ℕ) (rows more : List RowTexts) → Reached default_config s xs rows s2 ys
     → Reached default_config s2 ys more s3 zs → Reached default_config s xs (rows ++ more) s3 zs
 unfolding Reached
 reached_then s s2 s3 xs ys zs [] more one two = rw (one.0, one.1) two
@@ -163,7 +164,7 @@ reached_then s s2 s3 xs ys zs (row ∷ rows) more one two =
 module _ {R : Type 0} {remaining : R → Option (List ℕ)} {a : Reader R} {bytes : List ℕ}
     (reads : Reads remaining a bytes) {start place : Rows × Reader R} (last : Rows × Reader R) {items : List Item}
     (one : ReadRecord remaining a start.1 true header) (came : RowsCame remaining start place items) where
-  pub stops_next : (fields : Row) → TookRecord remaining place.1 last.1 fields → {replies : ℕ}
+  pub stops_next : (fields : RowTexts) → TookRecord remaining place.1 last.1 fields → {replies : ℕ}
       → length items ≡ replies → ¬ (AllText fields) ⊎ (replies ≡ max_rows) → StopsAtRecord bytes replies
   stops_next fields took counted why =
       let first = first_read reads start.1 header one in
@@ -203,7 +204,7 @@ module _ {R : Type 0} (remaining : R → Option (List ℕ)) (a b : Reader R) (fa
 module _ {S : Type 0} (g : Ghosts S) (kept : Desk S g) {R : Type 0} (remaining : R → Option (List ℕ)) (a b : Reader R)
     (failed : Bool) where
   pub no_header_lives : (h : List Request) → StandsFor g kept h → IsClean g kept → (w : Option (List ℕ)) (end : End)
-      → LacksHeader remaining a b failed end → LivesSome g h (Ended end) 0 w w kept kept
+      → LacksHeader remaining a b failed end → DeskLives g h (Ended end) 0 w w kept kept
   no_header_lives h stands clean w Memory why = nothing_lives g w kept Memory tt h stands clean
   no_header_lives h stands clean w ReadFault why = nothing_lives g w kept ReadFault tt h stands clean
   no_header_lives h stands clean w BadHeader why =

@@ -3,6 +3,7 @@ use Rattle.std.proofs.Common.{◌≡◌, ◌⊎◌, inl, inr, ℕ, ◌≤◌, Bo
 use Rattle.std.proofs.Common.{filter, Option, None, refl, sym, ap, ap₂, subst, ◌∙◌, append_assoc}
 use Rattle.std.specs.Prelude.{flat_map, unwrap_or}
 use Rattle.std.specs.List.{Contains}
+use Rattle.std.proofs.lemmas.List.Elements.{filter_agree}
 use Rattle.moment_core.specs.Moment.{last_second}
 use Rattle.period_core.specs.declared.key_type.KeyType.{KeyType}
 use Rattle.period_core.specs.declared.office.OfficePeriods.{OfficePeriods}
@@ -11,7 +12,7 @@ use Rattle.period_core.specs.Period.{Period, periods}
 use Rattle.key_rows.specs.declared.key_row.KeyRow.{KeyRow}
 use Rattle.key_rows.specs.DueRows.{AreDue, AreListed, is_due, is_listed}
 use Rattle.key_rows.specs.Report.{report_line, report_text, report_total}
-use Rattle.key_rows.proofs.DueRows.{a_list, fewer, one_list}
+use Rattle.key_rows.proofs.DueRows.{a_list, fewer}
 use Rattle.register_requests.specs.declared.request.Request.{Request}
 use Rattle.register_core.specs.Fold.{IsLawful}
 use Rattle.register_core.specs.History.{period, set_period}
@@ -20,12 +21,6 @@ use Rattle.register_desk.proofs.KeyRowsOf.{listed_if_due, listed_is_due, own_num
 use Rattle.register_report.specs.declared.key_table.KeyTable.{KeyTable}
 use Rattle.register_report.specs.declared.key_table.KeyTable.TheVariants.{Report}
 use Rattle.register_report.specs.Within.KeyTable.{head_text, lines_text, has_line_for, table_text}
-
-same_filter : (p q : KeyRow → Bool) → ((r : KeyRow) → p r ≡ q r) → (rows : List KeyRow) → filter p rows ≡ filter q rows
-same_filter p q same [] = refl
-same_filter p q same (r ∷ rows) =
-    ap (λ (b : Bool). cond b (r ∷ filter p rows) (filter p rows)) (same r)
-    ∙ ap (λ rest. cond (q r) (r ∷ rest) rest) (same_filter p q same rows)
 
 module _ (latest until : ℕ) (set : OfficePeriods) where
   abbrev table : KeyTable
@@ -75,7 +70,6 @@ module _ (latest until : ℕ) (set : OfficePeriods) where
     report_rows last le end rows listed =
         let narrow = is_listed until (period h) in
         let wide = a_list (is_due last) (all_rows h) (own_numbers h) in
-        let those = fewer (is_due last) narrow (all_rows h) wide.0 wide.1 (within last le end) in
-        let same = same_filter (has_line_for table) narrow listed_same wide.0
-        ∙ one_list narrow (all_rows h) (filter narrow wide.0) rows those listed in
+        let same = filter_agree (has_line_for table) narrow listed_same wide.0
+        ∙ fewer (is_due last) narrow (all_rows h) wide.0 rows wide.1 listed (within last le end) in
         (wide.0, wide.1, text_of wide.0 rows same)

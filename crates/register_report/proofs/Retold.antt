@@ -8,7 +8,7 @@ use Rattle.register_desk.specs.declared.end.End.TheVariants.{Memory, ReadFault}
 use Rattle.register_desk.specs.declared.runs.Finish.{Finish}
 use Rattle.register_desk.specs.declared.runs.Finish.TheVariants.{Ended}
 use Rattle.register_desk.specs.declared.runs.Outcome.{Outcome}
-use Rattle.register_desk.specs.Lives.{LivesSome}
+use Rattle.register_desk.specs.Lives.{DeskLives}
 use Rattle.register_desk.specs.Run.{LeavesDesk, LeavesWriter, RunsItems}
 use Rattle.register_report.specs.Import.{CountsRows, ImportsTable}
 
@@ -20,10 +20,10 @@ module _ {S : Type 0} {g : Ghosts S} {kept now : Desk S g} where
       record { agrees = runs.agrees; leaves = runs.leaves; uses = λ is. absurd cc; broken = runs.broken }
 
   pub lives_retold : {h : List Request} {end : Finish} {replies : ℕ} {old new : Option (List ℕ)}
-      → end ≡ Ended ReadFault → LivesSome g h end replies old new kept now
-      → LivesSome g h (Ended Memory) replies old new kept now
+      → end ≡ Ended ReadFault → DeskLives g h end replies old new kept now
+      → DeskLives g h (Ended Memory) replies old new kept now
   lives_retold {h} {end} {replies} {old} {new} is some =
-      let lives = subst (λ (e : Finish). LivesSome g h e replies old new kept now) is some in
+      let lives = subst (λ (e : Finish). DeskLives g h e replies old new kept now) is some in
       record {
         items = lives.items;
         rest = lives.rest;
@@ -33,7 +33,6 @@ module _ {S : Type 0} {g : Ghosts S} {kept now : Desk S g} where
               left.0,
               record {
                 in_range = left.1.in_range;
-                replies_are = left.1.replies_are;
                 one_more_is = left.1.one_more_is;
                 enough = left.1.enough;
               },

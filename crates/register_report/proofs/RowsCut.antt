@@ -1,10 +1,9 @@
 -- The items of a table's rows: those that came are the first of the table's.
-use Rattle.std.proofs.Common.{◌≡◌, ◌⊎◌, ◌≤◌, ℕ, ◌+◌, true, List, [], ◌∷◌, ◌++◌, length, take, Option, Some}
-use Rattle.std.proofs.Common.{refl, sym, ap, subst, ◌∙◌, inl, inr, arith}
+use Rattle.std.proofs.Common.{◌≡◌, ◌⊎◌, ◌≤◌, ℕ, ◌+◌, true, List, [], ◌∷◌, ◌++◌, length, take, Option, Some, refl, sym}
+use Rattle.std.proofs.Common.{ap, subst, ◌∙◌, inl, inr, arith}
 use Rattle.std.proofs.lemmas.List.{append-nil, length-append, take_at}
 use Rattle.sqlite_trees.specs.declared.store.Store.{Ghosts}
-use Rattle.csv.specs.Reading.{Reached, ReadRecord, TookRecord, default_config, reader_config}
-use Rattle.csv.specs.Reading.{reader_state, source_of}
+use Rattle.csv.specs.Reading.{Reached, ReadRecord, TookRecord, default_config, reader_config, reader_state, source_of}
 use Rattle.csv.specs.Records.{AllText}
 use Rattle.csv.specs.declared.reader.Reader.{Reader}
 use Rattle.csv.proofs.ReadFacts.{rows-end, rows-more}
@@ -16,7 +15,7 @@ use Rattle.register_desk.specs.declared.runs.Finish.TheVariants.{AtEnd, Ended}
 use Rattle.register_desk.specs.Items.{ServedItems, Serves}
 use Rattle.register_desk.specs.Within.Items.{AreAhead}
 use Rattle.register_report.specs.declared.importing.Rows.{Rows}
-use Rattle.register_report.specs.ImportRows.{AreRowItems, AreTexts, IsRowItem, Item, Row, max_rows}
+use Rattle.register_report.specs.ImportRows.{AreRowItems, AreTexts, IsRowItem, Item, RowTexts, max_rows}
 use Rattle.register_report.specs.TableRows.{ReadRows, RowsCame, RowsEnd, RowsFail}
 use Rattle.register_report.proofs.RowsLemmas.{HasLeft, ItemsSplit, RowsSplit, items_more, items_split, no_items}
 use Rattle.register_report.proofs.RowsLemmas.{none_after, rows_split, same_length}
@@ -28,7 +27,7 @@ module _ {R : Type 0} (remaining : R → Option (List ℕ)) where
   unfolding Reached
   read_none table xs known = (xs, known, (refl, refl))
 
-  read_more : (start table next : Reader R) (rows : List Row) (row : Row) → reader_config table ≡ default_config
+  read_more : (start table next : Reader R) (rows : List RowTexts) (row : RowTexts) → reader_config table ≡ default_config
       → ReadRows remaining start table rows → ReadRecord remaining table next true row
       → ReadRows remaining start next (rows ++ row ∷ [])
   read_more start table next rows row config read one xs known =
@@ -53,7 +52,7 @@ module _ {R : Type 0} {remaining : R → Option (List ℕ)} where
   }
 
   -- one row more, which is text
-  module _ {from to next : Rows × Reader R} {items : List Item} (came : RowsCame remaining from to items) (row : Row)
+  module _ {from to next : Rows × Reader R} {items : List Item} (came : RowsCame remaining from to items) (row : RowTexts)
       (item : Item) where
     pub rows_then : ReadRecord remaining to.1 next.1 true row → AllText row
         → IsRowItem to.0.moment to.0.caller to.0.number row item → reader_config next.1 ≡ reader_config to.1
@@ -76,7 +75,7 @@ module _ {R : Type 0} {remaining : R → Option (List ℕ)} where
 
   -- ---- what came is the first of the table
 
-  module _ {start : Rows × Reader R} {all_rows : List Row} (after : HasLeft remaining start.1 all_rows)
+  module _ {start : Rows × Reader R} {all_rows : List RowTexts} (after : HasLeft remaining start.1 all_rows)
       {place : Rows × Reader R} {items : List Item} (came : RowsCame remaining start place items) where
     so_far : (y : List ℕ) × (source_of remaining place.1 ≡ Some y)
         × Reached default_config (reader_state start.1) after.bytes came.rows (reader_state place.1) y
@@ -98,7 +97,7 @@ module _ {R : Type 0} {remaining : R → Option (List ℕ)} where
       items_left : ItemsSplit start.0.moment start.0.caller (start.0.number + length items) all items rows_left.more
       items_left =
           items_split start.0.moment start.0.caller start.0.number came.rows rows_left.more items all came.each
-          (subst (λ (rs : List Row). AreRowItems start.0.moment start.0.caller start.0.number rs all) rows_left.parts
+          (subst (λ (rs : List RowTexts). AreRowItems start.0.moment start.0.caller start.0.number rs all) rows_left.parts
           each)
 
       -- no row is left
@@ -112,7 +111,7 @@ module _ {R : Type 0} {remaining : R → Option (List ℕ)} where
           no_row items_left.after) in
           (items_left.parts ∙ ap (λ l. items ++ l) no_item ∙ append-nil items, ends.none_left)
 
-  pub rows_ahead : {start : Rows × Reader R} {all_rows : List Row} (after : HasLeft remaining start.1 all_rows)
+  pub rows_ahead : {start : Rows × Reader R} {all_rows : List RowTexts} (after : HasLeft remaining start.1 all_rows)
       (all : List Item) → AreRowItems start.0.moment start.0.caller start.0.number all_rows all
       → AreAhead (RowsCame remaining) (RowsEnd remaining) start all 0
   rows_ahead after all each = record {
@@ -134,13 +133,15 @@ pub record AnsweredRows {R : Type 0} (remaining : R → Option (List ℕ)) (star
 pub record BadRecord {R : Type 0} (remaining : R → Option (List ℕ)) (start last : Rows × Reader R) (replies : ℕ)
     : Type 0 where
   pub before : AnsweredRows remaining start replies
-  pub fields : Row
+  pub fields : RowTexts
   pub took : TookRecord remaining before.place.1 last.1 fields
   pub why : ¬ (AllText fields) ⊎ (before.place.0.came ≡ max_rows)
 
-abbrev answered : {R : Type 0} {remaining : R → Option (List ℕ)} {S : Type 0} {g : Ghosts S} {start place : Rows × Reader R}
+abbrev answered : {R : Type 0} {remaining : R → Option (List ℕ)} {S : Type 0} {g : Ghosts S}
+    {start place : Rows × Reader R}
     {old so_far : Option (List ℕ)} {kept mid : Desk S g} {replies : ℕ}
-    → ServedItems (RowsCame remaining) (RowsEnd remaining) (RowsFail remaining) g start place old so_far kept mid replies
+    → ServedItems (RowsCame remaining) (RowsEnd remaining)
+    (RowsFail remaining) g start place old so_far kept mid replies
     → AnsweredRows remaining start replies
 answered {place = place} served =
     record { place = place; items = served.items; came = served.came; counted = served.counted }

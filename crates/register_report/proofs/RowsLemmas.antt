@@ -11,7 +11,7 @@ use Rattle.moment_core.proofs.Texts.{one_moment, text_length}
 use Rattle.register_requests.specs.declared.request.Request.{Request}
 use Rattle.register_requests.specs.Request.{IsDate, IsRequest}
 use Rattle.register_requests.proofs.FieldTexts.{key_types, one_text}
-use Rattle.register_report.specs.ImportRows.{AreRowItems, IsRowItem, IsRowOf, Item, Row, date_field}
+use Rattle.register_report.specs.ImportRows.{AreRowItems, IsRowItem, IsRowOf, Item, RowTexts, date_field}
 
 -- ---- no row asks for two registrations
 
@@ -21,7 +21,7 @@ one_date None (Some b) p q e = absurd (let len = text_length [] b e in cc)
 one_date (Some a) None p q e = absurd (let len = text_length [] a (sym e) in cc)
 one_date (Some a) (Some b) p q e = ap (λ (m : ℕ). Some m) (one_moment a b p q e)
 
-pub one_row : (moment : ℕ) (caller : List ℕ) (number : ℕ) (fields : Row) (p q : Request)
+pub one_row : (moment : ℕ) (caller : List ℕ) (number : ℕ) (fields : RowTexts) (p q : Request)
     → IsRowOf moment caller number fields p → IsRowOf moment caller number fields q → p ≡ q
 one_row moment caller number fields p q a b =
     let same = sym a.fields_are ∙ b.fields_are in
@@ -33,9 +33,17 @@ one_row moment caller number fields p q a b =
     let protect_stop = one_date a.given.protect_stop b.given.protect_stop ra.2 rb.2 cc in
     let deactivation = one_date a.given.deactivation b.given.deactivation ra.3 rb.3 cc in
     let purpose : a.given.purpose ≡ b.given.purpose = cc in
-    cc
+    let given : a.given ≡ b.given = λ i. record {
+      kind = kind i;
+      owner = owner i;
+      activation = activation i;
+      protect_stop = protect_stop i;
+      deactivation = deactivation i;
+      purpose = purpose i;
+    } in
+    cc (a.is, b.is, given)
 
-pub one_item : (moment : ℕ) (caller : List ℕ) (number : ℕ) (fields : Row) (a b : Item)
+pub one_item : (moment : ℕ) (caller : List ℕ) (number : ℕ) (fields : RowTexts) (a b : Item)
     → IsRowItem moment caller number fields a → IsRowItem moment caller number fields b → a ≡ b
 one_item moment caller number fields None None p q = refl
 one_item moment caller number fields None (Some b) p q = absurd (p b q)
@@ -45,15 +53,15 @@ one_item moment caller number fields (Some a) (Some b) p q =
 
 -- ---- the rows that were read are the first
 
-pub record RowsSplit (cfg : Config) (all rows : List Row) (s : State) (left : List ℕ) : Type 0 where
-  pub more : List Row
+pub record RowsSplit (cfg : Config) (all rows : List RowTexts) (s : State) (left : List ℕ) : Type 0 where
+  pub more : List RowTexts
   pub parts : all ≡ rows ++ more
   pub after : AreRecords cfg s left more
 
 pub some_same : {A : Type 0} (a b : A) → Some a ≡ Some b → a ≡ b
 some_same a b e = cc
 
-pub rows_split : (cfg : Config) (s s2 : State) (xs left : List ℕ) (rows all : List Row)
+pub rows_split : (cfg : Config) (s s2 : State) (xs left : List ℕ) (rows all : List RowTexts)
     → Reached cfg s xs rows s2 left → AreRecords cfg s xs all → RowsSplit cfg all rows s2 left
 unfolding Reached
 rows_split cfg s s2 xs left [] all reached are = record {
@@ -71,12 +79,12 @@ rows_split cfg s s2 xs left (r ∷ rows) (t ∷ all) reached are =
     subst (λ (p : Read). AreRecords cfg p.1 p.2 all) (sym same) (are.0, are.1, step.3, are.3) in
     let split = rows_split cfg reached.0.1 s2 reached.0.2 left rows all reached.3 rest in
     let head : t ≡ r = step.2 ∙ ap (λ (p : Read). p.0) (sym same) ∙ sym reached.2 in
-    let prefix = ap (λ (f : Row). f ∷ all) head in
-    let after = ap (λ (l : List Row). r ∷ l) split.parts in
+    let prefix = ap (λ (f : RowTexts). f ∷ all) head in
+    let after = ap (λ (l : List RowTexts). r ∷ l) split.parts in
     record { more = split.more; parts = prefix ∙ after; after = split.after }
 
 -- no record after the last
-pub none_after : (s : State) (bytes : List ℕ) (rows : List Row)
+pub none_after : (s : State) (bytes : List ℕ) (rows : List RowTexts)
     → next_record default_config s [] [] bytes ≡ None → AreRecords default_config s bytes rows
     → rows ≡ []
 unfolding Reached
@@ -85,15 +93,15 @@ none_after s bytes (row ∷ rows) none are = absurd (let both = sym none ∙ are
 
 -- the rows that are left to a reader, where its bytes are known
 pub record HasLeft {R : Type 0} (remaining : R → Option (List ℕ)) (reader : Reader R)
-    (rows : List Row) : Type 0 where
+    (rows : List RowTexts) : Type 0 where
   pub bytes : List ℕ
   pub source : source_of remaining reader ≡ Some bytes
   pub are : AreRecords default_config (reader_state reader) bytes rows
 
 -- ---- items
 
-pub items_more : (moment : ℕ) (caller : List ℕ) (number : ℕ) (rows : List Row) (items : List Item)
-    → (row : Row) (item : Item)
+pub items_more : (moment : ℕ) (caller : List ℕ) (number : ℕ) (rows : List RowTexts) (items : List Item)
+    → (row : RowTexts) (item : Item)
     → AreRowItems moment caller number rows items
     → IsRowItem moment caller (number + length items) row item
     → AreRowItems moment caller number (rows ++ row ∷ []) (items ++ item ∷ [])
@@ -108,12 +116,12 @@ items_more moment caller number [] (i ∷ items) row item each is = absurd each
 items_more moment caller number (r ∷ rows) [] row item each is = absurd each
 
 pub record ItemsSplit (moment : ℕ) (caller : List ℕ) (number : ℕ) (all items : List Item)
-    (rows : List Row) : Type 0 where
+    (rows : List RowTexts) : Type 0 where
   pub more : List Item
   pub parts : all ≡ items ++ more
   pub after : AreRowItems moment caller number rows more
 
-pub items_split : (moment : ℕ) (caller : List ℕ) (number : ℕ) (rows more : List Row)
+pub items_split : (moment : ℕ) (caller : List ℕ) (number : ℕ) (rows more : List RowTexts)
     → (items all : List Item)
     → AreRowItems moment caller number rows items
     → AreRowItems moment caller number (rows ++ more) all
@@ -144,7 +152,7 @@ no_items moment caller number [] a = refl
 no_items moment caller number (i ∷ items) a = absurd a
 
 -- as many items as rows
-pub same_length : (moment : ℕ) (caller : List ℕ) (number : ℕ) (rows : List Row) (items : List Item)
+pub same_length : (moment : ℕ) (caller : List ℕ) (number : ℕ) (rows : List RowTexts) (items : List Item)
     → AreRowItems moment caller number rows items → length rows ≡ length items
 same_length moment caller number [] [] each = refl
 same_length moment caller number (r ∷ rows) (i ∷ items) each =

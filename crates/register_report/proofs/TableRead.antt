@@ -1,8 +1,7 @@
 -- An input that begins with its header row has rows after it, and no two lists of them; they stand
 -- for a list of items, and for no two.
-use Rattle.std.proofs.Common.{◌≡◌, ◌⊎◌, inl, inr, ℕ, zero, suc, ◌+◌, ◌≤◌, ◌<◌, nat_le, Bool}
-use Rattle.std.proofs.Common.{true, false, if◌then◌else◌, List, [], ◌∷◌, ◌++◌, length, Option, None, Some}
-use Rattle.std.proofs.Common.{refl, sym, ap, subst, ◌∙◌, arith}
+use Rattle.std.proofs.Common.{◌≡◌, ◌⊎◌, inl, inr, ℕ, zero, suc, ◌+◌, ◌≤◌, ◌<◌, nat_le, Bool, true, false, if◌then◌else◌}
+use Rattle.std.proofs.Common.{List, [], ◌∷◌, ◌++◌, length, Option, None, Some, refl, sym, ap, subst, ◌∙◌, arith}
 use Rattle.std.specs.Str.{bytes_eq}
 use Rattle.std.proofs.lemmas.Bool.{leb-true, leb-false}
 use Rattle.std.proofs.lemmas.List.{append-nil}
@@ -18,15 +17,16 @@ use Rattle.period_core.specs.declared.key_type.KeyType.{KeyType}
 use Rattle.period_core.specs.KeyType.{key_type_text}
 use Rattle.register_requests.specs.declared.request.Request.{Request}
 use Rattle.register_requests.specs.declared.request.Command.TheVariants.{Register}
+use Rattle.register_requests.specs.declared.request.Registration.{Registration}
 use Rattle.register_requests.specs.Name.{IsName}
 use Rattle.register_requests.specs.Number.{IsNumber, max_request_number}
 use Rattle.register_requests.specs.Purpose.{IsPurpose}
-use Rattle.register_requests.specs.Request.{IsDate, IsRequest, StandsFor}
+use Rattle.register_requests.specs.Request.{IsDate, IsRequest, IsReadAs}
 use Rattle.register_requests.specs.Within.FieldText.{Writes as IsTextOf}
 use Rattle.register_requests.proofs.Texts.{IsExact}
 use Rattle.register_requests.proofs.FieldTexts.{key_types, names, purposes}
-use Rattle.register_report.specs.ImportRows.{AreRowItems, BeginsWithHeader, HasRowItems, HasRows}
-use Rattle.register_report.specs.ImportRows.{IsRowItem, IsRowOf, Item, Row, date_field, header}
+use Rattle.register_report.specs.ImportRows.{AreRowItems, BeginsWithHeader, HasRowItems, HasRows, IsRowItem, IsRowOf}
+use Rattle.register_report.specs.ImportRows.{Item, RowTexts, date_field, header}
 use Rattle.register_report.proofs.HeaderLemmas.{same_tail}
 use Rattle.register_report.proofs.RowsLemmas.{none_after, one_item, rows_split}
 
@@ -64,7 +64,7 @@ field_or_none : {A : Type 0} {text : A → List ℕ} {P : A → Type 0} → IsEx
     → Decided (Writes text P field)
 field_or_none {A} {text} {P} exact field = by (exact.has field)
   where
-    by : (o : Option A) × StandsFor (IsTextOf P text) field o → Decided (Writes text P field)
+    by : (o : Option A) × IsReadAs (IsTextOf P text) field o → Decided (Writes text P field)
     by (None, none) = inr (λ it. none it.0 (it.1, it.2))
     by (Some x, is) = inl (x, is.0, is.1)
 
@@ -151,11 +151,11 @@ record RowParts (moment : ℕ) (caller : List ℕ) (number : ℕ) (u v w x y z :
   pub purpose : Writes as_it_is IsPurpose z
 
 module _ (moment : ℕ) (caller : List ℕ) (number : ℕ) where
-  abbrev HasItem : Row → Type 0
+  abbrev HasItem : RowTexts → Type 0
   HasItem fields = (item : Item) × IsRowItem moment caller number fields item
 
   module _ (u v w x y z : List ℕ) where
-    abbrev the_row : Row
+    abbrev the_row : RowTexts
     the_row = u ∷ v ∷ w ∷ x ∷ y ∷ z ∷ []
 
     parts_in : Decided (RowParts moment caller number u v w x y z)
@@ -199,43 +199,37 @@ module _ (moment : ℕ) (caller : List ℕ) (number : ℕ) where
         }
 
     of_parts : RowParts moment caller number u v w x y z → HasItem the_row
-    of_parts parts = (
-      Some (record {
-        moment = moment;
-        caller = caller;
-        number = number;
-        command =
-            Register parts.kind.0 parts.owner.0 parts.activation.0 parts.protect_stop.0
-            parts.deactivation.0 parts.purpose.0;
-      }),
-      record {
-        given = record {
+    of_parts parts =
+        let given : Registration = record {
           kind = parts.kind.0;
           owner = parts.owner.0;
           activation = parts.activation.0;
           protect_stop = parts.protect_stop.0;
           deactivation = parts.deactivation.0;
           purpose = parts.purpose.0;
-        };
-        is = refl;
-        in_range = record {
-          moment = parts.may.moment_is;
-          caller = parts.may.caller_is;
-          number = parts.may.number_is;
-          command = (
-            parts.owner.1,
-            parts.activation.1,
-            parts.protect_stop.1,
-            parts.deactivation.1,
-            parts.purpose.1,
-          );
-        };
-        fields_are =
-            let a = parts.kind.2 in let b = parts.owner.2 in let c = parts.activation.2 in
-            let d = parts.protect_stop.2 in let e = parts.deactivation.2 in
-            let f = parts.purpose.2 in cc;
-      },
-    )
+        } in (
+          Some (record { moment = moment; caller = caller; number = number; command = Register given }),
+          record {
+            given = given;
+            is = refl;
+            in_range = record {
+              moment = parts.may.moment_is;
+              caller = parts.may.caller_is;
+              number = parts.may.number_is;
+              command = (
+                parts.owner.1,
+                parts.activation.1,
+                parts.protect_stop.1,
+                parts.deactivation.1,
+                parts.purpose.1,
+              );
+            };
+            fields_are =
+                let a = parts.kind.2 in let b = parts.owner.2 in let c = parts.activation.2 in
+                let d = parts.protect_stop.2 in let e = parts.deactivation.2 in
+                let f = parts.purpose.2 in cc;
+          },
+        )
 
     fields_of_row : HasItem the_row
     fields_of_row = elim parts_in [
@@ -243,7 +237,7 @@ module _ (moment : ℕ) (caller : List ℕ) (number : ℕ) where
       | inr none ↦ (None, λ q of. none (parts_of q of))
     ]
 
-  item_of : (fields : Row) → HasItem fields
+  item_of : (fields : RowTexts) → HasItem fields
   item_of (u ∷ v ∷ w ∷ x ∷ y ∷ z ∷ []) = fields_of_row u v w x y z
   item_of [] = (None, λ q of. let same = of.fields_are in absurd cc)
   item_of (u ∷ []) = (None, λ q of. let same = of.fields_are in absurd cc)
@@ -253,7 +247,7 @@ module _ (moment : ℕ) (caller : List ℕ) (number : ℕ) where
   item_of (u ∷ v ∷ w ∷ x ∷ y ∷ []) = (None, λ q of. let same = of.fields_are in absurd cc)
   item_of (u ∷ v ∷ w ∷ x ∷ y ∷ z ∷ t ∷ more) = (None, λ q of. let same = of.fields_are in absurd cc)
 
-items_of : (moment : ℕ) (caller : List ℕ) (number : ℕ) (rows : List Row)
+items_of : (moment : ℕ) (caller : List ℕ) (number : ℕ) (rows : List RowTexts)
     → (items : List Item) × AreRowItems moment caller number rows items
 items_of moment caller number [] = ([], tt)
 items_of moment caller number (row ∷ rows) =
@@ -267,7 +261,7 @@ items_of moment caller number (row ∷ rows) =
 record Leaves (bytes : List ℕ) (read : Read) : Type 0 where
   fewer_or_none : (length read.2 < length bytes) ⊎ ((read.1 ≡ states.StartRecord) × (read.2 ≡ []))
 
-leaves : (cfg : Config) (s : State) (fields : Row) (field bytes : List ℕ) (read : Read)
+leaves : (cfg : Config) (s : State) (fields : RowTexts) (field bytes : List ℕ) (read : Read)
     → next_record cfg s fields field bytes ≡ Some read → Leaves bytes read
 unfolding next_record
 leaves cfg s fields field [] read e = at_end (ends_at_end s) e
@@ -305,7 +299,7 @@ leaves cfg s fields field (byte ∷ bytes) read e =
         ]
 
 abbrev HasRecords : State → List ℕ → Type 0
-HasRecords s bytes = (rows : List Row) × AreRecords default_config s bytes rows
+HasRecords s bytes = (rows : List RowTexts) × AreRecords default_config s bytes rows
 
 -- the records after one that leaves fewer bytes, and so all of them
 with_first : (s : State) (bytes : List ℕ)
@@ -332,7 +326,7 @@ records_of (suc most) s bytes le =
 
 -- ---- the input
 
-rows_in : (bytes : List ℕ) → BeginsWithHeader bytes → (rows : List Row) × HasRows bytes rows
+rows_in : (bytes : List ℕ) → BeginsWithHeader bytes → (rows : List RowTexts) × HasRows bytes rows
 unfolding Reached
 rows_in bytes begins =
     let p = begins.reached in
@@ -347,16 +341,16 @@ table_in moment caller first bytes begins =
     let items = items_of moment caller first rows.0 in
     (items.0, record { rows = rows.0; has = rows.1; each = items.1 })
 
-pub same_rows : (bytes : List ℕ) (rows others : List Row) → HasRows bytes rows
+pub same_rows : (bytes : List ℕ) (rows others : List RowTexts) → HasRows bytes rows
     → HasRows bytes others → rows ≡ others
 same_rows bytes rows others a b =
     let split = rows_split default_config states.StartRecord a.0 (strip_bom bytes) a.1
     (header ∷ rows) (header ∷ others) a.2 b in
     let none = none_after a.0 a.1 split.more a.3 split.after in
     let tail = same_tail header header others (rows ++ split.more) split.parts in
-    sym (tail ∙ ap (λ (more : List Row). rows ++ more) none ∙ append-nil rows)
+    sym (tail ∙ ap (λ (more : List RowTexts). rows ++ more) none ∙ append-nil rows)
 
-same_items : (moment : ℕ) (caller : List ℕ) (number : ℕ) (rows : List Row)
+same_items : (moment : ℕ) (caller : List ℕ) (number : ℕ) (rows : List RowTexts)
     → (items others : List Item) → AreRowItems moment caller number rows items
     → AreRowItems moment caller number rows others → items ≡ others
 same_items moment caller number [] [] [] a b = refl
@@ -375,4 +369,4 @@ pub same_table : (moment : ℕ) (caller : List ℕ) (first : ℕ) (bytes : List 
 same_table moment caller first bytes items others a b =
     let rows = same_rows bytes a.rows b.rows a.has b.has in
     same_items moment caller first b.rows items others
-    (subst (λ (all : List Row). AreRowItems moment caller first all items) rows a.each) b.each
+    (subst (λ (all : List RowTexts). AreRowItems moment caller first all items) rows a.each) b.each

@@ -1,6 +1,5 @@
 -- A table that was written, or a prefix of it: its head, its lines, its foot.
-use Rattle.std.proofs.Common.{◌≡◌, ◌≢◌, ℕ, List, [], ◌++◌, true, false, Option}
-use Rattle.std.proofs.Common.{Result, Ok, Err, OnOk, refl, ap}
+use Rattle.std.proofs.Common.{◌≡◌, ◌≢◌, ℕ, List, [], ◌++◌, true, false, Option, Result, Ok, Err, OnOk, refl, ap}
 use Rattle.std.specs.Prelude.{IsErrAnd}
 use Rattle.sqlite_trees.specs.declared.store.Store.{Ghosts}
 use Rattle.streams.specs.declared.watched.Watched.{Watched}

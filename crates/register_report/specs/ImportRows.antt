@@ -10,14 +10,14 @@ use Rattle.csv.specs.declared.parser.State.{State}
 use Rattle.csv.specs.declared.parser.State.TheVariants as states
 use Rattle.moment_core.specs.MomentText.{moment_text}
 use Rattle.period_core.specs.KeyType.{key_type_text}
-use Rattle.register_requests.specs.Subject.{Registration}
+use Rattle.register_requests.specs.declared.request.Registration.{Registration}
 use Rattle.register_requests.specs.declared.request.Request.{Request}
 use Rattle.register_requests.specs.declared.request.Command.TheVariants.{Register}
 use Rattle.register_requests.specs.Request.{IsRequest}
 
 -- a row's fields
-abbrev pub Row : Type 0
-Row = List (List ℕ)
+abbrev pub RowTexts : Type 0
+RowTexts = List (List ℕ)
 
 -- the registration that a row asks for, or none where it asks for none
 abbrev pub Item : Type 0
@@ -28,7 +28,7 @@ abbrev pub max_rows : ℕ
 max_rows = 1_000_000
 
 -- the header row
-abbrev pub header : Row
+abbrev pub header : RowTexts
 header =
     codes "type" ∷ codes "owner" ∷ codes "activation" ∷ codes "protect_stop" ∷ codes
     "deactivation" ∷ codes "purpose" ∷ []
@@ -42,7 +42,7 @@ date_field None = []
 date_field (Some date) = moment_text date
 
 -- the row asks for this registration, at this moment, of this caller and under this number
-pub record IsRowOf (moment : ℕ) (caller : List ℕ) (number : ℕ) (fields : Row)
+pub record IsRowOf (moment : ℕ) (caller : List ℕ) (number : ℕ) (fields : RowTexts)
     (q : Request) : Type 0 where
   pub given : Registration
   pub is :
@@ -50,9 +50,7 @@ pub record IsRowOf (moment : ℕ) (caller : List ℕ) (number : ℕ) (fields : R
         moment = moment;
         caller = caller;
         number = number;
-        command =
-            Register given.kind given.owner given.activation given.protect_stop
-            given.deactivation given.purpose;
+        command = Register given;
       }
   pub in_range : IsRequest q
   pub fields_are :
@@ -61,13 +59,13 @@ pub record IsRowOf (moment : ℕ) (caller : List ℕ) (number : ℕ) (fields : R
 
 -- what the row stands for: the registration that it asks for, or none where it asks for no
 -- registration
-abbrev pub IsRowItem : ℕ → List ℕ → ℕ → Row → Item → Type 0
+abbrev pub IsRowItem : ℕ → List ℕ → ℕ → RowTexts → Item → Type 0
 IsRowItem moment caller number fields None = (q : Request) → IsRowOf moment caller number fields q
     → ⊥
 IsRowItem moment caller number fields (Some q) = IsRowOf moment caller number fields q
 
 -- each item is what its row stands for, the first under this number and each other under the next
-abbrev pub AreRowItems : ℕ → List ℕ → ℕ → List Row → List Item → Type 0
+abbrev pub AreRowItems : ℕ → List ℕ → ℕ → List RowTexts → List Item → Type 0
 AreRowItems moment caller number [] [] = Unit {0}
 AreRowItems moment caller number (row ∷ rows) (item ∷ items) =
     IsRowItem moment caller number row item × AreRowItems moment caller (number + 1) rows items
@@ -75,13 +73,13 @@ AreRowItems moment caller number [] (item ∷ items) = ⊥
 AreRowItems moment caller number (row ∷ rows) [] = ⊥
 
 -- each of these rows is UTF-8
-abbrev pub AreTexts : List Row → Type 0
+abbrev pub AreTexts : List RowTexts → Type 0
 AreTexts rows = AllByRecursion AllText rows
 
 -- ---- the input
 
 -- the input's first records are these
-pub record BeginsWith (bytes : List ℕ) (records : List Row) : Type 0 where
+pub record BeginsWith (bytes : List ℕ) (records : List RowTexts) : Type 0 where
   pub state : State
   pub left : List ℕ
   pub reached : Reached default_config states.StartRecord (strip_bom bytes) records state left
@@ -91,13 +89,13 @@ abbrev pub BeginsWithHeader : List ℕ → Type 0
 BeginsWithHeader bytes = BeginsWith bytes (header ∷ [])
 
 -- the input's records are the header row and these rows
-abbrev pub HasRows : List ℕ → List Row → Type 0
+abbrev pub HasRows : List ℕ → List RowTexts → Type 0
 HasRows bytes rows = AreRecords default_config states.StartRecord (strip_bom bytes) (header ∷ rows)
 
 -- the input has its header row, and rows after it that stand for these items, the first under this
 -- number
 pub record HasRowItems (moment : ℕ) (caller : List ℕ) (first : ℕ) (bytes : List ℕ)
     (items : List Item) : Type 0 where
-  pub rows : List Row
+  pub rows : List RowTexts
   pub has : HasRows bytes rows
   pub each : AreRowItems moment caller first rows items

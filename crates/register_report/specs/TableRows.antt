@@ -9,7 +9,7 @@ use Rattle.register_desk.specs.declared.end.End.{End}
 use Rattle.register_desk.specs.declared.end.End.TheVariants.{Memory, Store, Broken, ReadFault, WriteFault, BadHeader}
 use Rattle.register_requests.specs.Number.{max_request_number}
 use Rattle.register_report.specs.declared.importing.Rows.{Rows}
-use Rattle.register_report.specs.ImportRows.{AreRowItems, AreTexts, Item, Row, max_rows}
+use Rattle.register_report.specs.ImportRows.{AreRowItems, AreTexts, Item, RowTexts, max_rows}
 
 -- the table takes each field as it stands, in records of any length, and may be read
 pub record IsPlainTable {R : Type 0} (table : Reader R) : Type 0 where
@@ -27,7 +27,7 @@ module _ {R : Type 0} (remaining : R → Option (List ℕ)) where
   -- ---- reading
 
   -- these rows were read, where the bytes are known
-  abbrev pub ReadRows : Reader R → Reader R → List Row → Type 0
+  abbrev pub ReadRows : Reader R → Reader R → List RowTexts → Type 0
   ReadRows start table rows =
       (xs : List ℕ) → source_of remaining start ≡ Some xs
       → (y : List ℕ) × (source_of remaining table ≡ Some y)
@@ -37,7 +37,7 @@ module _ {R : Type 0} (remaining : R → Option (List ℕ)) where
   abbrev pub IsUnread : Reader R → Reader R → Bool → End → Type 0
   IsUnread start table reader_failed Memory = Unit {0}
   IsUnread start table reader_failed ReadFault =
-      (reader_failed ≡ true) ⊎ ((fields : Row) × TookRecord remaining start table fields × ¬ (AllText fields))
+      (reader_failed ≡ true) ⊎ ((fields : RowTexts) × TookRecord remaining start table fields × ¬ (AllText fields))
   IsUnread start table reader_failed Store = ⊥
   IsUnread start table reader_failed Broken = ⊥
   IsUnread start table reader_failed WriteFault = ⊥
@@ -47,7 +47,7 @@ module _ {R : Type 0} (remaining : R → Option (List ℕ)) where
 
   -- these items came, each of its row
   pub record RowsCame (from to : Rows × Reader R) (items : List Item) : Type 0 where
-    pub rows : List Row
+    pub rows : List RowTexts
     pub each : AreRowItems from.0.moment from.0.caller from.0.number rows items
     pub texts : AreTexts rows
     pub read : ReadRows from.1 to.1 rows
@@ -61,11 +61,11 @@ module _ {R : Type 0} (remaining : R → Option (List ℕ)) where
   -- no further row came
   pub record RowsEnd (from to : Rows × Reader R) (rest : ℕ) : Type 0 where
     pub none_left : rest ≡ 0
-    pub fields : Row
+    pub fields : RowTexts
     pub at_end : ReadRecord remaining from.1 to.1 false fields
 
   -- no further row was read, or it was one too many
   abbrev pub RowsFail : Rows × Reader R → Rows × Reader R → End → Type 0
   RowsFail from to end =
       IsUnread from.1 to.1 to.0.reader_failed end
-      ⊎ ((end ≡ ReadFault) × (from.0.came ≡ max_rows) × ((fields : Row) × TookRecord remaining from.1 to.1 fields))
+      ⊎ ((end ≡ ReadFault) × (from.0.came ≡ max_rows) × ((fields : RowTexts) × TookRecord remaining from.1 to.1 fields))

@@ -1,6 +1,5 @@
 -- What is written of a text, and what of a table whose rows are given one at a time.
-use Rattle.std.specs.Prelude.{◌≡◌, ℕ, List}
-use Rattle.std.specs.Prelude.{Option}
+use Rattle.std.specs.Prelude.{◌≡◌, ℕ, List, Option}
 use Rattle.std.specs.Io.KnownBytes.{Appends}
 use Rattle.sqlite_trees.specs.declared.store.Store.{Ghosts}
 use Rattle.register_desk.specs.declared.desk.Desk.{Desk}
@@ -27,9 +26,10 @@ IsEndOfWriting ReadFault = ⊥
 IsEndOfWriting WriteFault = Unit {0}
 IsEndOfWriting BadHeader = ⊥
 
-abbrev pub EndsAs : Finish → Type 0
-EndsAs (AtEnd rest) = rest ≡ 0
-EndsAs (Ended end) = IsEndOfWriting end
+-- How a call that writes a text ends: at its end with nothing left, or by an end that reads no input.
+abbrev pub EndsText : Finish → Type 0
+EndsText (AtEnd rest) = rest ≡ 0
+EndsText (Ended end) = IsEndOfWriting end
 
 -- What such a call leaves of its desk: nothing changes, not even where the database refused a row,
 -- and a broken desk is told as such.

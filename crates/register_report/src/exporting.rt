@@ -1,7 +1,7 @@
 //! The export of all keys, and the report on those that are due for rotation.
 ghost use Rattle.std.specs.Prelude.{◌≡◌, false, List, IfErr};
 ghost use Rattle.register_report.specs.Within.TextWriter.{IsExport, IsReport, PutsAll, finish_of};
-ghost use Rattle.register_report.specs.TextWriter.{EndsAs, LeavesAlone, WritesText};
+ghost use Rattle.register_report.specs.TextWriter.{EndsText, LeavesAlone, WritesText};
 ghost use Rattle.register_desk.specs.Run.{LeavesWriter};
 ghost use Rattle.register_desk.specs.Register.{StandsFor};
 ghost use Rattle.register_desk.specs.Desk.{IsClean};
@@ -43,7 +43,7 @@ fn put_export<W: Write, S: Alter>(
     ensures puts { PutsAll W.contents S.Store writer.old writer.new written.old written.new
         desk.old desk.new IsExport result }
     ensures alone { LeavesAlone S.Store desk.old desk.new (finish_of result) }
-    ensures end { EndsAs (finish_of result) }
+    ensures end { EndsText (finish_of result) }
 {
     let mut rows = desk.keys()?;
     put_table(alloc, &KeyTable::Export, &mut rows, writer, written)
@@ -62,7 +62,7 @@ fn put_rotation_report<W: Write, S: Alter>(
     ensures puts { PutsAll W.contents S.Store writer.old writer.new written.old written.new
         desk.old desk.new (IsReport days) result }
     ensures alone { LeavesAlone S.Store desk.old desk.new (finish_of result) }
-    ensures end { EndsAs (finish_of result) }
+    ensures end { EndsText (finish_of result) }
 {
     let latest = desk.latest();
     let until = horizon(latest, days);
@@ -98,7 +98,7 @@ pub fn export<W: Write, S: Alter>(
         (W.contents writer.old.inner) (W.contents writer.new.inner) }
     ensures alone { LeavesAlone S.Store desk.old desk.new result.end }
     ensures writer { LeavesWriter W.contents writer.old writer.new result }
-    ensures ends { EndsAs result.end }
+    ensures ends { EndsText result.end }
     ensures uncounted { (result.read ≡ 0) × (result.replies ≡ 0) }
 {
     writer.reset_turn_counts();
@@ -130,7 +130,7 @@ pub fn rotation<W: Write, S: Alter>(
     ensures uncounted { (result.read ≡ 0) × (result.replies ≡ 0) }
     ensures alone { LeavesAlone S.Store desk.old desk.new result.end }
     ensures writer { LeavesWriter W.contents writer.old writer.new result }
-    ensures ends { EndsAs result.end }
+    ensures ends { EndsText result.end }
 {
     writer.reset_turn_counts();
     let mut written: u64 = 0;

@@ -9,11 +9,11 @@ ghost use Rattle.register_report.specs.Within.RecordFields.{texts};
 use csv::StringRecord;
 use moment_core::Moment;
 use period_core::KeyType;
-use register_core::{Command, Name, Purpose, Request, RequestNumber};
+use register_core::{Command, Name, Purpose, Registration, Request, RequestNumber};
 
 /// The six fields of a record.
 #[derive(Clone, Copy)]
-struct Fields<'a> {
+struct RowFields<'a> {
     kind: &'a [u8],
     owner: &'a [u8],
     activation: &'a [u8],
@@ -34,14 +34,14 @@ fn field_at(row: &StringRecord, place: usize) -> &[u8]
 }
 
 /// The fields of a record, if it has six.
-fn fields_of_row(row: &StringRecord) -> Option<Fields<'_>>
+fn fields_of_row(row: &StringRecord) -> Option<RowFields<'_>>
     ensures found { IfSome result (λ fields. fields_of row.now ≡ texts fields) }
     ensures none { IfNone result (length (fields_of row.now) ≢ 6) }
 {
     if row.len() != 6 {
         return None;
     }
-    Some(Fields {
+    Some(RowFields {
         kind: field_at(row, 0),
         owner: field_at(row, 1),
         activation: field_at(row, 2),
@@ -52,7 +52,7 @@ fn fields_of_row(row: &StringRecord) -> Option<Fields<'_>>
 }
 
 /// Whether these are the fields of the header row.
-fn are_header_fields(fields: &Fields<'_>) -> bool
+fn are_header_fields(fields: &RowFields<'_>) -> bool
     ensures { (result ≡ true) ↔ (texts fields.now ≡ header) }
 {
     fields.kind == b"type".as_slice()
@@ -91,7 +91,7 @@ fn registration_request(
     moment: Moment,
     caller: Name,
     number: u64,
-    fields: &Fields<'_>,
+    fields: &RowFields<'_>,
 ) -> Option<Request>
     ensures { IsRowItem moment caller number (texts fields.now) result }
 {
@@ -106,14 +106,14 @@ fn registration_request(
         moment,
         caller,
         number,
-        command: Command::Register {
+        command: Command::Register(Registration {
             kind,
             owner,
             activation,
             protect_stop,
             deactivation,
             purpose,
-        },
+        }),
     })
 }
 

@@ -8,13 +8,14 @@ ghost use Rattle.register_requests.specs.Number.{IsNumber};
 ghost use Rattle.register_desk.specs.Run.{LeavesDesk, LeavesWriter, max_reads};
 ghost use Rattle.register_desk.specs.Desk.{IsClean};
 ghost use Rattle.register_desk.specs.Register.{StandsFor};
-ghost use Rattle.register_desk.specs.Lives.{LivesSome};
+ghost use Rattle.register_desk.specs.Lives.{DeskLives};
 ghost use Rattle.streams.specs.Watched.{IsFaulted};
 ghost use Rattle.register_report.specs.declared.importing.TheConstants.{MAX_ROWS};
-ghost use Rattle.register_report.specs.Import.{CountsRows, DoesNothing, ImportsTable, StopsAtRecord};
+ghost use Rattle.register_report.specs.Import.{CountsRows, DoesNothing, EndsImporting};
+ghost use Rattle.register_report.specs.Import.{ImportsTable, StopsAtRecord};
 ghost use Rattle.register_report.specs.ImportRows.{header};
 ghost use Rattle.register_report.specs.TableRows.{AreRowsReady, IsPlainTable, IsUnread};
-ghost use Rattle.register_report.specs.Within.TableRows.{KeepsRows, LacksHeader, ReadsOn};
+ghost use Rattle.register_report.specs.Within.TableRows.{KeepsRows, LacksHeader, ReadsRecord};
 ghost use Rattle.register_report.specs.TableRows.{RowsCame, RowsEnd, RowsFail};
 
 use crate::import_row::{is_header, row_item};
@@ -52,10 +53,11 @@ impl Rows {
         ensures reads { IfOk result (λ found.
             ReadRecord R.remaining table.old table.new found (fields_of self.new.row)) }
         ensures text { OnOk result (AllText (fields_of self.new.row)) }
-        ensures on { OnOk result (ReadsOn table.old table.new) }
+        ensures on { OnOk result (ReadsRecord table.old table.new) }
         ensures sound { OnOk result (self.new.reader_failed ≡ self.old.reader_failed) }
         ensures kept { KeepsRows self.old self.new }
-        ensures end { IfErr result (IsUnread R.remaining table.old table.new self.new.reader_failed) }
+        ensures end { IfErr result
+            (IsUnread R.remaining table.old table.new self.new.reader_failed) }
     {
         match table.read_record(&mut self.row) {
             Ok(found) => Ok(found),
@@ -74,10 +76,11 @@ impl Rows {
     fn read_header<R: Read>(&mut self, table: &mut Reader<R>) -> Result<(), End>
         requires { IsPlainTable table.old }
         ensures reads { OnOk result (ReadRecord R.remaining table.old table.new true header) }
-        ensures on { OnOk result (ReadsOn table.old table.new) }
+        ensures on { OnOk result (ReadsRecord table.old table.new) }
         ensures sound { OnOk result (self.new.reader_failed ≡ self.old.reader_failed) }
         ensures kept { KeepsRows self.old self.new }
-        ensures end { IfErr result (LacksHeader R.remaining table.old table.new self.new.reader_failed) }
+        ensures end { IfErr result
+            (LacksHeader R.remaining table.old table.new self.new.reader_failed) }
     {
         if self.read_record(table)? && is_header(&self.row) {
             Ok(())
@@ -154,7 +157,7 @@ fn import_table<R: Read + Drop, W: Write, S: Alter>(
         ImportsTable S.Store W.contents rows.old.moment rows.old.caller rows.old.number bytes result
         writer.old writer.new desk.old desk.new }
     ensures lives { (h : List Request) → StandsFor S.Store desk.old h → IsClean S.Store desk.new →
-        LivesSome S.Store h result.end result.replies
+        DeskLives S.Store h result.end result.replies
         (W.contents writer.old.inner) (W.contents writer.new.inner) desk.old desk.new }
     ensures counts { CountsRows result }
     ensures cause { result.end ≡ Finish.Ended End.ReadFault → (rows.new.reader_failed ≡ true)
@@ -212,16 +215,10 @@ pub fn import<R: Read, W: Write, S: Alter>(
     // Whatever the reader tells of its bytes, there are items that it was a run over, as many as
     // were answered or one more, and a stop leaves the register after that life.
     ensures lives { (h : List Request) → StandsFor S.Store desk.old h → IsClean S.Store desk.new →
-        LivesSome S.Store h result.end result.replies
+        DeskLives S.Store h result.end result.replies
         (W.contents writer.old.inner) (W.contents writer.new.inner) desk.old desk.new }
-    ensures counts { CountsRows result }
-    // 35 has its cause in the reader, in a record, or in a row too many.
-    ensures cause { result.end ≡ Finish.Ended End.ReadFault
-        → IsFaulted reader.new.failed max_reads reader.new.turns
-        ⊎ ((bytes : List ℕ) → R.remaining reader.old.inner ≡ Some bytes →
-        StopsAtRecord bytes result.replies) }
-    ensures bad_header { result.end ≡ Finish.Ended End.BadHeader →
-        DoesNothing desk.old desk.new writer.old writer.new result }
+    ensures ends { EndsImporting (R.remaining reader.old.inner) reader.new writer.old writer.new
+        desk.old desk.new result }
     ensures writer { LeavesWriter W.contents writer.old writer.new result }
     ensures desk { LeavesDesk desk.old desk.new result.end }
     ensures clean { IsClean S.Store desk.new → IsClean S.Store desk.old }

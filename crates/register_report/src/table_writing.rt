@@ -14,7 +14,7 @@ use std::alloc::{AllocError, Global};
 use std::io::Write;
 
 /// The text, where there was memory for it.
-fn text_or_end(text: Result<Vec<u8>, AllocError>) -> Result<Vec<u8>, End>
+fn bytes_or_end(text: Result<Vec<u8>, AllocError>) -> Result<Vec<u8>, End>
     ensures text { IfOk result (λ formed. text ≡ Ok formed) }
     ensures end { IfErr result (λ end. end ≡ End.Memory) }
 {
@@ -61,7 +61,7 @@ fn put_row_if_listed<W: Write>(
     if !table.has_line_for(row) {
         return Ok(false);
     }
-    let line = text_or_end(table.line_text(alloc, row))?;
+    let line = bytes_or_end(table.line_text(alloc, row))?;
     put_text(writer, written, &line)?;
     Ok(true)
 }
@@ -103,9 +103,9 @@ pub(crate) fn put_table<W: Write, S: Alter>(
     ensures table { PutsTable W.contents S.Store writer.old writer.new written.old written.new
         rows.old rows.new table.now result }
 {
-    let head = text_or_end(table.head_text(alloc))?;
+    let head = bytes_or_end(table.head_text(alloc))?;
     put_text(writer, written, &head)?;
     let count = put_and_count_listed_rows(alloc, table, rows, writer, written)?;
-    let foot = text_or_end(table.foot_text(alloc, count))?;
+    let foot = bytes_or_end(table.foot_text(alloc, count))?;
     put_text(writer, written, &foot)
 }

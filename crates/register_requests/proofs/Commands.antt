@@ -1,18 +1,16 @@
 -- A command is its kind and its fields.
-use Rattle.std.proofs.Common.{◌≡◌, Some, None}
+use Rattle.std.proofs.Common.{◌≡◌, ℕ, List, ◌++◌, Some, None, ap, ◌∙◌, arith}
 use Rattle.register_requests.specs.declared.command_fields.CommandKind.{CommandKind}
 use Rattle.register_requests.specs.declared.command_fields.CommandKind.TheVariants as kinds
 use Rattle.register_requests.specs.declared.request.Command.{Command}
 use Rattle.register_requests.specs.declared.command_fields.Fields.{Fields}
 use Rattle.register_requests.specs.declared.command_fields.Fields.TheVariants.{Nothing, Key, KeyAndName, KeyAndOwner}
-use Rattle.register_requests.specs.declared.command_fields.Fields.TheVariants.{KeyAndNeed}
-use Rattle.register_requests.specs.declared.command_fields.Fields.TheVariants.{TypeAndPeriod, Registration, DateEdits}
-use Rattle.register_requests.specs.declared.command_fields.Fields.TheVariants.{Revocation}
-use Rattle.register_requests.specs.CommandKind.{command_shape}
-use Rattle.register_requests.specs.CommandRule.{kind_of}
-use Rattle.register_requests.specs.Fields.{fields_of, command_with}
-use Rattle.register_requests.specs.Within.Fields.{shape_of}
-use Rattle.std.proofs.Common.{arith}
+use Rattle.register_requests.specs.declared.command_fields.Fields.TheVariants.{KeyAndNeed, TypeAndPeriod, Registration}
+use Rattle.register_requests.specs.declared.command_fields.Fields.TheVariants.{DateEdits, Revocation}
+use Rattle.register_requests.specs.CommandKind.{command_kind_text, command_shape, kind_of}
+use Rattle.register_requests.specs.Request.{IsCommand, arguments_text, command_text}
+use Rattle.register_requests.specs.Fields.{command_with, fields_of, shape_of}
+use Rattle.register_requests.specs.Within.Fields.{command_of}
 
 -- The last row of each has every other command.
 
@@ -25,6 +23,17 @@ has_shape c = grind arith
 
 pub same_command : (p q : Command) → kind_of p ≡ kind_of q → fields_of p ≡ fields_of q → p ≡ q
 same_command p q kinds fields = grind arith
+
+-- its word, and what stands after it
+pub text_is : (c : Command) → command_text c ≡ command_kind_text (kind_of c) ++ arguments_text (command_of (fields_of c))
+text_is c = grind arith
+
+-- what is said of its ranges is said of its fields'
+pub in_range_of : (c : Command) → IsCommand c → IsCommand (command_of (fields_of c))
+in_range_of c is = grind arith
+
+pub is_command : (c : Command) → IsCommand (command_of (fields_of c)) → IsCommand c
+is_command c is = grind arith
 
 -- ---- the way back
 
@@ -41,7 +50,7 @@ made (KeyAndName key name) kinds.AddCustodian c e = record { kind_is = cc; field
 made (KeyAndOwner key owner) kinds.Assign c e = record { kind_is = cc; fields_are = cc }
 made (KeyAndNeed key need) kinds.SetQuorum c e = record { kind_is = cc; fields_are = cc }
 made (TypeAndPeriod kind period) kinds.SetPeriod c e = record { kind_is = cc; fields_are = cc }
-made (Registration kind owner a p d purpose) kinds.Register c e = record { kind_is = cc; fields_are = cc }
+made (Registration new) kinds.Register c e = record { kind_is = cc; fields_are = cc }
 made (DateEdits key a p d) kinds.SetDates c e = record { kind_is = cc; fields_are = cc }
 made (Revocation key reason occurrence) kinds.Revoke c e = record { kind_is = cc; fields_are = cc }
 made fields kind c e = record { kind_is = cc; fields_are = cc }

@@ -1,7 +1,6 @@
 -- The texts of the fields: none has a space in it but that of a purpose, and each is of one value.
-use Rattle.std.proofs.Common.{◌≡◌, ◌≢◌, ℕ, suc, ◌<◌, ◌≤◌, ◌^◌, nat_le, Bool, true, false, ◌&&◌, ◌↔◌, inl, inr}
-use Rattle.std.proofs.Common.{List, [], ◌∷◌, length, Option, Some, None, IfSome, IfNone}
-use Rattle.std.proofs.Common.{refl, sym, ap, subst, ◌∙◌, arith}
+use Rattle.std.proofs.Common.{◌≡◌, ◌≢◌, ℕ, suc, ◌<◌, ◌≤◌, ◌^◌, nat_le, Bool, true, false, ◌&&◌, ◌↔◌, inl, inr, List, []}
+use Rattle.std.proofs.Common.{◌∷◌, length, Option, Some, None, IfSome, IfNone, refl, sym, ap, subst, ◌∙◌, arith}
 use Rattle.std.specs.Prelude.{◌⊎◌, decimal, find, codes, not, slice_index, ◌-◌}
 use Rattle.std.specs.List.{All, list_all}
 use Rattle.std.specs.Fmt.{digits}
@@ -25,14 +24,12 @@ use Rattle.register_requests.specs.declared.command_fields.CommandKind.TheVarian
 use Rattle.register_requests.specs.declared.request.Edit.{Edit}
 use Rattle.register_requests.specs.declared.request.Edit.TheVariants.{Keep, Clear, Set}
 use Rattle.register_requests.specs.CommandKind.{command_kind_text}
-use Rattle.register_requests.specs.Name.{IsName, is_name_byte, max_name_length}
+use Rattle.register_requests.specs.Name.{IsName, is_name_byte}
 use Rattle.register_requests.specs.Number.{IsNumber, max_request_number}
-use Rattle.register_requests.specs.Purpose.{IsPurpose, is_purpose_byte, max_purpose_length}
-use Rattle.register_requests.specs.Quorum.{IsQuorum, min_approvals, max_approvals}
-use Rattle.register_requests.specs.Request.{IsDate, IsKeyNumber, IsEdit, StandsFor, date_text, edit_text}
-use Rattle.register_requests.specs.Request.{max_key_number}
-use Rattle.register_requests.specs.Within.FieldText.{Writes, IsAny, itself, IsShort, reason_text}
-use Rattle.register_requests.specs.Within.FieldText.{is_space, HasNoSpace}
+use Rattle.register_requests.specs.Purpose.{IsPurpose, is_purpose_byte}
+use Rattle.register_requests.specs.Quorum.{IsQuorum, min_approvals}
+use Rattle.register_requests.specs.Request.{IsDate, IsKeyNumber, IsEdit, IsReadAs, date_text, edit_text, max_key_number}
+use Rattle.register_requests.specs.Within.FieldText.{Writes, IsAny, itself, IsShort, reason_text, is_space, HasNoSpace}
 use Rattle.register_requests.proofs.Texts.{IsExact, IsFieldText}
 
 -- ---- numbers
@@ -74,7 +71,7 @@ module _ (P : ℕ → Type 0) (least most : ℕ) (small : most < 2 ^ 64)
       one field m n x y = decimal_injective m n (number_small m x.0) (number_small n y.0) (sym x.1 ∙ y.1)
 
       by : (field : List ℕ) → (check : Bool) → is_number least most field ≡ check
-          → (o : Option ℕ) × StandsFor (Writes P decimal) field o
+          → (o : Option ℕ) × IsReadAs (Writes P decimal) field o
       by field true e =
           let is = number_is least most field e in
           (Some (digits_value 10 field), ((range _).1 (is.0, is.1), is.2))
@@ -96,7 +93,7 @@ pub request_numbers : IsFieldText (Writes IsNumber decimal)
 request_numbers = number_field IsNumber 1 max_request_number (omega arith) (λ n. grind arith)
 
 pub quorums : IsFieldText (Writes IsQuorum decimal)
-quorums = number_field IsQuorum min_approvals max_approvals (omega arith) (λ n. grind arith)
+quorums = number_field IsQuorum min_approvals 5 (omega arith) (λ n. grind arith)
 
 pub shorts : IsFieldText (Writes IsShort decimal)
 shorts = number_field IsShort 0 65535 (omega arith) (λ n. (λ is. (omega arith, omega arith), λ is. omega arith))
@@ -125,8 +122,8 @@ is_text field text = by (bytes_eq field text) refl
     by false e = inr (λ same. absurd (cc (sym e ∙ (bytes_eq-Decides field text).1 same)))
 
 -- no date is in a field that is neither its sign nor a moment's
-no_date : (field : List ℕ) → (field ≡ codes "-" → ⊥) → StandsFor (Writes IsMoment decimal) field None
-    → StandsFor (Writes IsDate date_text) field None
+no_date : (field : List ℕ) → (field ≡ codes "-" → ⊥) → IsReadAs (Writes IsMoment decimal) field None
+    → IsReadAs (Writes IsDate date_text) field None
 no_date field other none = λ date is. grind arith
 
 one_date : (field : List ℕ) (a b : Option ℕ) → Writes IsDate date_text field a → Writes IsDate date_text field b → a ≡ b
@@ -135,11 +132,11 @@ one_date field None (Some n) p q = absurd (dash_no_moment n q.0 (sym p.1 ∙ q.1
 one_date field (Some m) None p q = absurd (dash_no_moment m p.0 (sym q.1 ∙ p.1))
 one_date field (Some m) (Some n) p q = ap (λ (k : ℕ). Some k) (one_moment m n p.0 q.0 (sym p.1 ∙ q.1))
 
-date_has : (field : List ℕ) → (o : Option (Option ℕ)) × StandsFor (Writes IsDate date_text) field o
+date_has : (field : List ℕ) → (o : Option (Option ℕ)) × IsReadAs (Writes IsDate date_text) field o
 date_has field = by (is_text field (codes "-")) (moments.exact.has field)
   where
-    by : (field ≡ codes "-") ⊎ (field ≡ codes "-" → ⊥) → (o : Option ℕ) × StandsFor (Writes IsMoment decimal) field o
-        → (o : Option (Option ℕ)) × StandsFor (Writes IsDate date_text) field o
+    by : (field ≡ codes "-") ⊎ (field ≡ codes "-" → ⊥) → (o : Option ℕ) × IsReadAs (Writes IsMoment decimal) field o
+        → (o : Option (Option ℕ)) × IsReadAs (Writes IsDate date_text) field o
     by (inl same) found = (Some None, (tt, same))
     by (inr other) (Some m, found) = (Some (Some m), found)
     by (inr other) (None, none) = (None, no_date field other none)
@@ -151,18 +148,18 @@ pub dates : IsFieldText (Writes IsDate date_text)
 dates = record { exact = record { one = one_date; has = date_has }; solid = date_solid }
 
 no_edit : (field : List ℕ) → (field ≡ codes "=" → ⊥) → (field ≡ codes "-" → ⊥)
-    → StandsFor (Writes IsMoment decimal) field None → StandsFor (Writes IsEdit edit_text) field None
+    → IsReadAs (Writes IsMoment decimal) field None → IsReadAs (Writes IsEdit edit_text) field None
 no_edit field other another none = λ edit is. grind arith
 
 one_edit : (field : List ℕ) (a b : Edit) → Writes IsEdit edit_text field a → Writes IsEdit edit_text field b → a ≡ b
 one_edit field a b p q = grind (arith, dash_no_moment, equals_no_moment, one_moment)
 
-edit_has : (field : List ℕ) → (o : Option Edit) × StandsFor (Writes IsEdit edit_text) field o
+edit_has : (field : List ℕ) → (o : Option Edit) × IsReadAs (Writes IsEdit edit_text) field o
 edit_has field = by (is_text field (codes "=")) (is_text field (codes "-")) (moments.exact.has field)
   where
     by : (field ≡ codes "=") ⊎ (field ≡ codes "=" → ⊥) → (field ≡ codes "-") ⊎ (field ≡ codes "-" → ⊥)
-        → (o : Option ℕ) × StandsFor (Writes IsMoment decimal) field o
-        → (o : Option Edit) × StandsFor (Writes IsEdit edit_text) field o
+        → (o : Option ℕ) × IsReadAs (Writes IsMoment decimal) field o
+        → (o : Option Edit) × IsReadAs (Writes IsEdit edit_text) field o
     by (inl same) dash found = (Some Keep, (tt, same))
     by (inr other) (inl same) found = (Some Clear, (tt, same))
     by (inr other) (inr another) (Some m, found) = (Some (Set m), found)
@@ -199,7 +196,7 @@ named_field {A} text values again solid = record {
     one field x y p q = some_is x y (sym (found field x p.1) ∙ found field y q.1)
 
     by : (field : List ℕ) (o : Option A) → find (λ y. bytes_eq (text y) field) values ≡ o
-        → (o : Option A) × StandsFor (Writes IsAny text) field o
+        → (o : Option A) × IsReadAs (Writes IsAny text) field o
     by field (Some x) e =
         let passes = find_passes (λ (y : A). bytes_eq (text y) field) values x e in
         (Some x, (tt, sym ((bytes_eq-Decides (text x) field).0 passes)))
@@ -273,12 +270,12 @@ own_text P test sure again = record {
 }
   where
     by : (bytes : List ℕ) (check : Bool) → test bytes ≡ check
-        → (o : Option (List ℕ)) × StandsFor (Writes P itself) bytes o
+        → (o : Option (List ℕ)) × IsReadAs (Writes P itself) bytes o
     by bytes true e = (Some bytes, (sure bytes e, refl))
     by bytes false e = (None, λ x is. absurd (cc (sym e ∙ again bytes (subst P (sym is.1) is.0))))
 
 is_name : List ℕ → Bool
-is_name bytes = nat_le 1 (length bytes) && nat_le (length bytes) max_name_length && list_all is_name_byte bytes
+is_name bytes = nat_le 1 (length bytes) && nat_le (length bytes) 64 && list_all is_name_byte bytes
 
 names_exact : IsExact (Writes IsName itself)
 unfolding is_name
@@ -292,7 +289,7 @@ names = record {
 
 is_purpose : List ℕ → Bool
 is_purpose bytes =
-    nat_le 1 (length bytes) && nat_le (length bytes) max_purpose_length && is_utf8 bytes
+    nat_le 1 (length bytes) && nat_le (length bytes) 200 && is_utf8 bytes
     && list_all is_purpose_byte bytes && not (is_space (slice_index bytes 0))
     && not (is_space (slice_index bytes (length bytes - 1)))
 
@@ -304,6 +301,6 @@ purposes = own_text IsPurpose is_purpose (λ bytes e. grind (arith, IsUtf8-from_
 -- ---- what a function finds is what its field stands for
 
 pub any_stands : {A : Type 0} (text : A → List ℕ) (field : List ℕ) (o : Option A)
-    → IfSome o (λ x. field ≡ text x) → IfNone o ((x : A) → field ≢ text x) → StandsFor (Writes IsAny text) field o
+    → IfSome o (λ x. field ≡ text x) → IfNone o ((x : A) → field ≢ text x) → IsReadAs (Writes IsAny text) field o
 any_stands text field (Some x) found none = (tt, found)
 any_stands text field None found none = λ x is. none x is.1

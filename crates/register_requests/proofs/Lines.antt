@@ -1,8 +1,7 @@
 -- Fields of a command, commands and requests: no bytes are the text of two, and it is decided of which they are.
 use Rattle.std.proofs.Common.{◌≡◌, ℕ, nat_le, ◌≤◌, Bool, true, false, List, [], ◌∷◌, ◌++◌, length, drop, append_assoc}
-use Rattle.std.proofs.Common.{Option, Some, None, refl, sym, ap, subst, ◌∙◌, arith}
+use Rattle.std.proofs.Common.{Option, Some, None, refl, sym, ap, subst, ◌∙◌, arith, inl, inr, ◌&&◌, ◌↔◌, IsSome, IfSome}
 use Rattle.std.specs.Prelude.{codes, decimal, ◌⊎◌}
-use Rattle.std.proofs.Common.{inl, inr, ◌&&◌, ◌↔◌, IsSome, IfSome}
 use Rattle.std.proofs.lemmas.Bool.{and_parts, leb-true, leb-false}
 use Rattle.std.proofs.lemmas.List.{append-nil}
 use Rattle.period_core.specs.KeyType.{key_type_text}
@@ -16,29 +15,27 @@ use Rattle.register_requests.specs.declared.request.Command.{Command}
 use Rattle.register_requests.specs.declared.command_fields.CommandKind.{CommandKind}
 use Rattle.register_requests.specs.declared.command_fields.Fields.{Fields}
 use Rattle.register_requests.specs.declared.command_fields.Fields.TheVariants.{Nothing, Key, KeyAndName, KeyAndOwner}
-use Rattle.register_requests.specs.declared.command_fields.Fields.TheVariants.{KeyAndNeed}
-use Rattle.register_requests.specs.declared.command_fields.Fields.TheVariants.{TypeAndPeriod, Registration, DateEdits}
-use Rattle.register_requests.specs.declared.command_fields.Fields.TheVariants.{Revocation}
+use Rattle.register_requests.specs.declared.command_fields.Fields.TheVariants.{KeyAndNeed, TypeAndPeriod, Registration}
+use Rattle.register_requests.specs.declared.command_fields.Fields.TheVariants.{DateEdits, Revocation}
 use Rattle.register_requests.specs.declared.command_fields.Shape.{Shape}
 use Rattle.register_requests.specs.declared.command_fields.Shape.TheVariants as shapes
-use Rattle.register_requests.specs.CommandKind.{command_kind_text, command_shape}
-use Rattle.register_requests.specs.CommandRule.{kind_of}
-use Rattle.register_requests.specs.Fields.{fields_of, command_with}
+use Rattle.register_requests.specs.CommandKind.{command_kind_text, command_shape, kind_of}
+use Rattle.register_requests.specs.Fields.{command_with, fields_of, shape_of}
+use Rattle.register_requests.specs.Within.Fields.{command_of}
 use Rattle.register_requests.specs.CommandText.{IsCommandText}
 use Rattle.register_requests.specs.Name.{IsName}
 use Rattle.register_requests.specs.Number.{IsNumber}
 use Rattle.register_requests.specs.Purpose.{IsPurpose}
 use Rattle.register_requests.specs.Quorum.{IsQuorum}
 use Rattle.moment_core.specs.Moment.{IsMoment}
-use Rattle.register_requests.specs.Request.{IsDate, IsEdit, IsKeyNumber, IsLineOf, IsItem, IsRequest, StandsFor}
-use Rattle.register_requests.specs.Request.{date_text, edit_text, fields_text, command_text, request_text}
-use Rattle.register_requests.specs.Request.{max_line_length}
-use Rattle.register_requests.specs.Within.Fields.{shape_of}
+use Rattle.register_requests.specs.Request.{IsDate, IsEdit, IsKeyNumber, IsLineOf, IsItem, IsRequest, IsReadAs}
+use Rattle.register_requests.specs.Request.{arguments_text, command_text, date_text, edit_text, request_text}
 use Rattle.register_requests.specs.Within.FieldText.{Writes, IsAny, itself, IsShort, reason_text, period_text}
 use Rattle.register_requests.specs.Within.FieldText.{HasNoSpace, AreSplit, AreFieldsOf, after_word}
 use Rattle.register_requests.proofs.Texts.{IsExact, IsFieldText, Makes, made_stands, made_exact, Only, only_none}
 use Rattle.register_requests.proofs.Texts.{only_not, only_exact, split_exact, one_split, split_word}
-use Rattle.register_requests.proofs.Commands.{made, some_made, has_shape, same_command as same_parts}
+use Rattle.register_requests.proofs.Commands.{made, some_made, has_shape, same_command as same_parts, text_is}
+use Rattle.register_requests.proofs.Commands.{in_range_of, is_command}
 use Rattle.register_requests.proofs.FieldTexts.{moments, key_numbers, request_numbers, quorums, shorts, dates, edits}
 use Rattle.register_requests.proofs.FieldTexts.{key_types, reasons, command_kinds, names, purposes}
 
@@ -130,14 +127,14 @@ period = record { there = period_there; back = period_back }
 
 pub new_period : (bytes : List ℕ) (a b : ℕ) → IsShorts bytes (a, b) → (o : Option Period)
     → (IsSome o ↔ IsPeriod (of_months a b)) → IfSome o (λ p. p ≡ of_months a b)
-    → StandsFor (Writes IsPeriod period_text) bytes o
+    → IsReadAs (Writes IsPeriod period_text) bytes o
 new_period bytes a b is (Some p) in_range value = rw value (period_there bytes (a, b) (is, in_range.0 refl))
 new_period bytes a b is None in_range value =
     let other = λ (holds : IsInPeriod (a, b)). absurd (let some = in_range.1 holds in cc) in
     made_stands period bytes None (only_not IsShorts IsInPeriod shorts_exact bytes (a, b) is other)
 
-pub no_months : (bytes : List ℕ) → StandsFor IsShorts bytes None
-    → StandsFor (Writes IsPeriod period_text) bytes None
+pub no_months : (bytes : List ℕ) → IsReadAs IsShorts bytes None
+    → IsReadAs (Writes IsPeriod period_text) bytes None
 no_months bytes none = made_stands period bytes None (only_none IsShorts IsInPeriod bytes none)
 
 periods : IsExact (Writes IsPeriod period_text)
@@ -234,7 +231,14 @@ Registered = KeyType × (List ℕ × (Option ℕ × (Option ℕ × (Option ℕ �
 
 abbrev pub registered : Registered → Fields
 registered (kind, (owner, (activation, (protect_stop, (deactivation, purpose))))) =
-    Registration kind owner activation protect_stop deactivation purpose
+    Registration (record {
+      kind = kind;
+      owner = owner;
+      activation = activation;
+      protect_stop = protect_stop;
+      deactivation = deactivation;
+      purpose = purpose;
+    })
 
 abbrev IsRegistered : List ℕ → Registered → Type 0
 IsRegistered =
@@ -246,14 +250,19 @@ IsRegistered =
 
 register_back : (bytes : List ℕ) (f : Fields) → AreAfter shapes.Registration bytes f
     → (x : Registered) × IsRegistered bytes x × (f ≡ registered x)
-register_back bytes (Registration k o a p d u) is =
-    let in_range = is.in_range in (
-      (k, (o, (a, (p, (d, u))))),
-      subst (λ (b : List ℕ). IsRegistered b (k, (o, (a, (p, (d, u))))))
+register_back bytes (Registration new) is =
+    let (owner, activation, protect_stop, deactivation, purpose) = is.in_range in
+    let x : Registered = (
+      new.kind,
+      (new.owner, (new.activation, (new.protect_stop, (new.deactivation, new.purpose)))),
+    ) in (
+      x,
+      subst (λ (b : List ℕ). IsRegistered b x)
           (there_after _ _ bytes is.text
-          (joined_register (key_type_text k) o (date_text a) (date_text p) (date_text d) u))
-          (wrote key_types k _ tt (wrote names o _ in_range.0 (wrote dates a _ in_range.1 (wrote dates p _ in_range.2
-          (wrote dates d _ in_range.3 (in_range.4, refl)))))),
+          (joined_register (key_type_text new.kind) new.owner (date_text new.activation) (date_text new.protect_stop)
+          (date_text new.deactivation) new.purpose))
+          (wrote key_types new.kind _ tt (wrote names new.owner _ owner (wrote dates new.activation _ activation
+          (wrote dates new.protect_stop _ protect_stop (wrote dates new.deactivation _ deactivation (purpose, refl)))))),
       refl,
     )
 register_back bytes f is = absurd (let other = is.shape_is in cc)
@@ -335,12 +344,12 @@ pub revocation : Makes (Only IsRevoked HasCause) revoked (AreAfter shapes.Revoca
 revocation = record { there = λ bytes x is. grind (arith, spelled, joined_revoke); back = revoke_back }
 
 pub no_cause : (bytes : List ℕ) (x : Revoked) → IsRevoked bytes x → (HasCause x → ⊥)
-    → StandsFor (AreAfter shapes.Revocation) bytes None
+    → IsReadAs (AreAfter shapes.Revocation) bytes None
 no_cause bytes x is other =
     made_stands revocation bytes None (only_not IsRevoked HasCause revoked_exact bytes x is other)
 
-pub no_revocation : (bytes : List ℕ) → StandsFor IsRevoked bytes None
-    → StandsFor (AreAfter shapes.Revocation) bytes None
+pub no_revocation : (bytes : List ℕ) → IsReadAs IsRevoked bytes None
+    → IsReadAs (AreAfter shapes.Revocation) bytes None
 no_revocation bytes none = made_stands revocation bytes None (only_none IsRevoked HasCause bytes none)
 
 -- no space stands after a word that has no fields
@@ -371,7 +380,7 @@ shaped shapes.DateEdits =
 shaped shapes.Revocation = made_exact revocation (only_exact _ _ revoked_exact cause_or_not)
 
 -- fields whose text is empty
-only_nothing : (f : Fields) → [] ≡ fields_text f → f ≡ Nothing
+only_nothing : (f : Fields) → [] ≡ arguments_text (command_of f) → f ≡ Nothing
 only_nothing Nothing e = refl
 only_nothing f e = absurd cc
 
@@ -384,7 +393,7 @@ no_fields : (shape : Shape) → (shape ≡ shapes.Nothing → ⊥) → (f : Fiel
 no_fields shape other f is = other (sym is.shape_is ∙ ap shape_of (only_nothing f is.text))
 
 fields_has : (shape : Shape) (after : Option (List ℕ))
-    → (o : Option Fields) × StandsFor (AreFieldsOf shape) (after_word after) o
+    → (o : Option Fields) × IsReadAs (AreFieldsOf shape) (after_word after) o
 fields_has shape (Some bytes) = (shaped shape).has bytes
 fields_has shapes.Nothing None = (Some Nothing, record { in_range = tt; shape_is = refl; text = refl })
 fields_has shape None = (None, no_fields shape (λ e. cc))
@@ -392,9 +401,9 @@ fields_has shape None = (None, no_fields shape (λ e. cc))
 -- ---- commands
 
 -- the text of fields stands after a word
-fields_begin : (f : Fields) → (after : Option (List ℕ)) × (after_word after ≡ fields_text f)
+fields_begin : (f : Fields) → (after : Option (List ℕ)) × (after_word after ≡ arguments_text (command_of f))
 fields_begin Nothing = (None, refl)
-fields_begin f = (Some (drop 1 (fields_text f)), refl)
+fields_begin f = (Some (drop 1 (arguments_text (command_of f))), refl)
 
 -- a text with a space in it has one
 no_space_in : (xs rest : List ℕ) → HasNoSpace (before xs rest) → ⊥
@@ -420,67 +429,67 @@ module _ (bytes word : List ℕ) (after : Option (List ℕ)) (solid : HasNoSpace
     (whole : bytes ≡ word ++ after_word after) where
   -- so the parts of a command that they are the text of are these
   parts : (q : Command) → IsCommandText bytes q
-      → (word ≡ command_kind_text (kind_of q)) × (after_word after ≡ fields_text (fields_of q))
+      → (word ≡ command_kind_text (kind_of q)) × (after_word after ≡ arguments_text (command_of (fields_of q)))
   parts q is =
       let fields = fields_begin (fields_of q) in
       let split = one_after after fields.0 word (command_kind_text (kind_of q)) solid (kind_solid (kind_of q))
-      (sym whole ∙ is.1 ∙ ap (λ (text : List ℕ). command_kind_text (kind_of q) ++ text) (sym fields.1)) in
+      (sym whole ∙ is.1 ∙ text_is q ∙ ap (λ (text : List ℕ). command_kind_text (kind_of q) ++ text) (sym fields.1)) in
       (split.0, split.1 ∙ fields.1)
 
-  pub no_kind : StandsFor (Writes IsAny command_kind_text) word None → StandsFor IsCommandText bytes None
+  pub no_kind : IsReadAs (Writes IsAny command_kind_text) word None → IsReadAs IsCommandText bytes None
   no_kind none = λ q is. none (kind_of q) (tt, (parts q is).0)
 
   pub no_fields_of : (kind : CommandKind) → word ≡ command_kind_text kind
-      → StandsFor (AreFieldsOf (command_shape kind)) (after_word after) None → StandsFor IsCommandText bytes None
+      → IsReadAs (AreFieldsOf (command_shape kind)) (after_word after) None → IsReadAs IsCommandText bytes None
   no_fields_of kind e none = λ q is.
       let of = parts q is in
       let same = command_kinds.exact.one word (kind_of q) kind (tt, of.0) (tt, e) in
       none (fields_of q) (record {
-        in_range = is.0;
+        in_range = in_range_of q is.0;
         shape_is = has_shape q ∙ ap command_shape same;
         text = of.1;
       })
 
   pub command_made : (kind : CommandKind) → word ≡ command_kind_text kind → (f : Fields)
       → AreFieldsOf (command_shape kind) (after_word after) f → (o : Option Command) → o ≡ command_with kind f
-      → StandsFor IsCommandText bytes o
+      → IsReadAs IsCommandText bytes o
   command_made kind e f is None made_none = absurd (some_made f kind is.shape_is (sym made_none))
   command_made kind e f is (Some q) made_some =
       let of = made f kind q (sym made_some) in
-      (rw of.fields_are is.in_range, cc (is.text, whole, of.kind_is, of.fields_are, e))
+      (is_command q (rw of.fields_are is.in_range), cc (text_is q, is.text, whole, of.kind_is, of.fields_are, e))
 
 -- No bytes are the text of two commands.
 pub same_command : (bytes : List ℕ) (p q : Command) → IsCommandText bytes p → IsCommandText bytes q → p ≡ q
 same_command bytes p q is other =
     let after = fields_begin (fields_of p) in
-    let whole = is.1 ∙ ap (λ (text : List ℕ). command_kind_text (kind_of p) ++ text) (sym after.1) in
+    let whole = is.1 ∙ text_is p ∙ ap (λ (text : List ℕ). command_kind_text (kind_of p) ++ text) (sym after.1) in
     let of = parts bytes (command_kind_text (kind_of p)) after.0 (kind_solid (kind_of p)) whole q other in
     let kind = command_kinds.exact.one (command_kind_text (kind_of p)) (kind_of p) (kind_of q) (tt, refl) (tt, of.0) in
     let fields = fields_one (command_shape (kind_of p)) after.0 (fields_of p) (fields_of q)
-    (record { in_range = is.0; shape_is = has_shape p; text = after.1 })
-    (record { in_range = other.0; shape_is = has_shape q ∙ ap command_shape (sym kind); text = of.1 }) in
+    (record { in_range = in_range_of p is.0; shape_is = has_shape p; text = after.1 })
+    (record { in_range = in_range_of q other.0; shape_is = has_shape q ∙ ap command_shape (sym kind); text = of.1 }) in
     same_parts p q kind fields
 
-command_has : (bytes : List ℕ) → (o : Option Command) × StandsFor IsCommandText bytes o
+command_has : (bytes : List ℕ) → (o : Option Command) × IsReadAs IsCommandText bytes o
 command_has bytes = by (split_word bytes)
   where
     with_kind : (word : List ℕ) (after : Option (List ℕ)) → HasNoSpace word → bytes ≡ word ++ after_word after
         → (kind : CommandKind) → word ≡ command_kind_text kind
-        → (o : Option Fields) × StandsFor (AreFieldsOf (command_shape kind)) (after_word after) o
-        → (o : Option Command) × StandsFor IsCommandText bytes o
+        → (o : Option Fields) × IsReadAs (AreFieldsOf (command_shape kind)) (after_word after) o
+        → (o : Option Command) × IsReadAs IsCommandText bytes o
     with_kind word after solid whole kind e (None, none) = (None, no_fields_of bytes word after solid whole kind e none)
     with_kind word after solid whole kind e (Some f, is) =
         (command_with kind f, command_made bytes word after solid whole kind e f is (command_with kind f) refl)
 
     with_word : (word : List ℕ) (after : Option (List ℕ)) → HasNoSpace word → bytes ≡ word ++ after_word after
-        → (o : Option CommandKind) × StandsFor (Writes IsAny command_kind_text) word o
-        → (o : Option Command) × StandsFor IsCommandText bytes o
+        → (o : Option CommandKind) × IsReadAs (Writes IsAny command_kind_text) word o
+        → (o : Option Command) × IsReadAs IsCommandText bytes o
     with_word word after solid whole (None, none) = (None, no_kind bytes word after solid whole none)
     with_word word after solid whole (Some kind, is) =
         with_kind word after solid whole kind is.1 (fields_has (command_shape kind) after)
 
     by : (word : List ℕ) × (after : Option (List ℕ)) × HasNoSpace word × (bytes ≡ word ++ after_word after)
-        → (o : Option Command) × StandsFor IsCommandText bytes o
+        → (o : Option Command) × IsReadAs IsCommandText bytes o
     by split = with_word split.0 split.1 split.2 split.3 (command_kinds.exact.has split.0)
 
 commands : IsExact IsCommandText
@@ -523,21 +532,21 @@ requests =
     (split_exact moments.exact (split_exact names.exact (split_exact request_numbers.exact commands)))
 
 -- a line that is not too long stands for the request whose text it is
-pub within_stands : (line : List ℕ) → length line ≤ max_line_length → (o : Option Request)
-    → StandsFor (Writes IsRequest request_text) line o → IsItem line o
+pub within_stands : (line : List ℕ) → length line ≤ 1024 → (o : Option Request)
+    → IsReadAs (Writes IsRequest request_text) line o → IsItem line o
 within_stands line within None none = λ q is. none q (is.request, is.text)
 within_stands line within (Some q) is = record { request = is.0; within = within; text = is.1 }
 
 -- Each line stands for an item.
 pub item_has : (line : List ℕ) → (o : Option Request) × IsItem line o
-item_has line = by (nat_le (length line) max_line_length) refl (requests.has line)
+item_has line = by (nat_le (length line) 1024) refl (requests.has line)
   where
-    by : (check : Bool) → nat_le (length line) max_line_length ≡ check
-        → (o : Option Request) × StandsFor (Writes IsRequest request_text) line o → (o : Option Request) × IsItem line o
+    by : (check : Bool) → nat_le (length line) 1024 ≡ check
+        → (o : Option Request) × IsReadAs (Writes IsRequest request_text) line o → (o : Option Request) × IsItem line o
     by true e found = (found.0, within_stands line (leb-true _ _ e) found.0 found.1)
     by false e found = (
       None,
-      λ q is. let long = leb-false (length line) max_line_length e in
+      λ q is. let long = leb-false (length line) 1024 e in
           absurd (omega (arith, long, is.within)),
     )
 

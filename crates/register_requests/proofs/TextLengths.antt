@@ -4,13 +4,12 @@ use Rattle.std.specs.Prelude.{decimal}
 use Rattle.std.proofs.lemmas.Fmt.{length-decimal-le}
 use Rattle.std.proofs.lemmas.List.{length-append}
 use Rattle.moment_core.specs.Moment.{IsMoment}
-use Rattle.register_requests.specs.declared.command_fields.Fields.{Fields}
-use Rattle.register_requests.specs.declared.command_fields.Fields.TheVariants.{Registration}
 use Rattle.register_requests.specs.declared.request.Command.{Command}
+use Rattle.register_requests.specs.declared.request.Command.TheVariants.{Register}
 use Rattle.register_requests.specs.declared.request.Edit.{Edit}
 use Rattle.register_requests.specs.CommandText.{max_command_length}
-use Rattle.register_requests.specs.Request.{AreFieldsInRange, IsCommand, IsDate, IsEdit, IsKeyNumber}
-use Rattle.register_requests.specs.Request.{command_text, date_text, edit_text, fields_text}
+use Rattle.register_requests.specs.Request.{IsCommand, IsDate, IsEdit, IsKeyNumber}
+use Rattle.register_requests.specs.Request.{arguments_text, command_text, date_text, edit_text}
 
 moment_short : (t : ℕ) → IsMoment t → length (decimal t) ≤ 12
 moment_short t is = length-decimal-le 12 t (omega arith) (omega (arith, is)) (omega (arith, is))
@@ -27,13 +26,13 @@ key_short key is = length-decimal-le 10 key (omega arith) (omega (arith, is.1)) 
 months_short : (months : ℕ) → months ≤ 1200 → length (decimal months) ≤ 4
 months_short months few = length-decimal-le 4 months (omega arith) (omega arith) (omega arith)
 
--- how long the fields of a command are at most
-abbrev room : Fields → ℕ
-room (Registration kind owner activation protect_stop deactivation purpose) = 328
-room fields = 320
+-- how long what stands after the word is at most
+abbrev room : Command → ℕ
+room (Register new) = 328
+room c = 320
 
-fields_short : (fields : Fields) → AreFieldsInRange fields → length (fields_text fields) ≤ room fields
-fields_short fields is = grind (arith, length-append, key_short, months_short, date_short, edit_short)
+arguments_short : (c : Command) → IsCommand c → length (arguments_text c) ≤ room c
+arguments_short c is = grind (arith, length-append, key_short, months_short, date_short, edit_short)
 
 pub text_short : (c : Command) → IsCommand c → length (command_text c) ≤ max_command_length
-text_short c is = grind (arith, fields_short)
+text_short c is = grind (arith, arguments_short)

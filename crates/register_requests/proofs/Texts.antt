@@ -1,13 +1,12 @@
 -- Texts of values, one after another with a space between: no bytes are the text of two values, and it is decided of
 -- which they are.
-use Rattle.std.proofs.Common.{◌≡◌, ℕ, ◌+◌, Bool, true, false, List, [], ◌∷◌, ◌++◌, length, take, drop, one-add}
-use Rattle.std.proofs.Common.{Option, Some, None, refl, sym, ap, subst, ◌∙◌, arith}
+use Rattle.std.proofs.Common.{◌≡◌, ℕ, ◌+◌, Bool, true, false, List, [], ◌∷◌, ◌++◌, length, take, drop, one-add, Option}
+use Rattle.std.proofs.Common.{Some, None, refl, sym, ap, subst, ◌∙◌, arith, inl, inr}
 use Rattle.std.specs.Prelude.{option_map, not, position, ◌⊎◌}
-use Rattle.std.proofs.Common.{inl, inr}
 use Rattle.std.specs.List.{list_all, prefix_len}
 use Rattle.std.proofs.lemmas.List.{append-nil, length-append, take_all}
 use Rattle.std.proofs.lemmas.List.Sums.{split_at_first, passes_at_first}
-use Rattle.register_requests.specs.Request.{StandsFor}
+use Rattle.register_requests.specs.Request.{IsReadAs}
 use Rattle.register_requests.specs.Within.FieldText.{IsItself, is_space, HasNoSpace, AreSplit, after_word}
 
 -- ---- texts
@@ -16,7 +15,7 @@ pub record IsExact {A : Type 0} (IsText : List ℕ → A → Type 0) : Type 0 wh
   -- no bytes are the text of two values
   pub one : (bytes : List ℕ) (x y : A) → IsText bytes x → IsText bytes y → x ≡ y
   -- what the bytes stand for
-  pub has : (bytes : List ℕ) → (o : Option A) × StandsFor IsText bytes o
+  pub has : (bytes : List ℕ) → (o : Option A) × IsReadAs IsText bytes o
 
 -- and no text has a space in it
 pub record IsFieldText {A : Type 0} (IsText : List ℕ → A → Type 0) : Type 0 where
@@ -31,8 +30,8 @@ pub record Makes {A B : Type 0} (IsText : List ℕ → A → Type 0) (made : A �
 
 module _ {A B : Type 0} {IsText : List ℕ → A → Type 0} {made : A → B} {IsOther : List ℕ → B → Type 0}
     (makes : Makes IsText made IsOther) where
-  pub made_stands : (bytes : List ℕ) (o : Option A) → StandsFor IsText bytes o
-      → StandsFor IsOther bytes (option_map made o)
+  pub made_stands : (bytes : List ℕ) (o : Option A) → IsReadAs IsText bytes o
+      → IsReadAs IsOther bytes (option_map made o)
   made_stands bytes (Some x) is = makes.there bytes x is
   made_stands bytes None none = λ y is. let of = makes.back bytes y is in none of.0 of.1
 
@@ -51,11 +50,11 @@ abbrev pub Only : {A : Type 0} → (List ℕ → A → Type 0) → (A → Type 0
 Only IsText P bytes x = IsText bytes x × P x
 
 module _ {A : Type 0} (IsText : List ℕ → A → Type 0) (P : A → Type 0) where
-  pub only_none : (bytes : List ℕ) → StandsFor IsText bytes None → StandsFor (Only IsText P) bytes None
+  pub only_none : (bytes : List ℕ) → IsReadAs IsText bytes None → IsReadAs (Only IsText P) bytes None
   only_none bytes none = λ x is. none x is.0
 
   pub only_not : IsExact IsText → (bytes : List ℕ) (x : A) → IsText bytes x → (P x → ⊥)
-      → StandsFor (Only IsText P) bytes None
+      → IsReadAs (Only IsText P) bytes None
   only_not exact bytes x is other = λ y of. other (subst P (exact.one bytes y x of.0 is) of.1)
 
   pub only_exact : IsExact IsText → ((x : A) → P x ⊎ (P x → ⊥)) → IsExact (Only IsText P)
@@ -65,12 +64,12 @@ module _ {A : Type 0} (IsText : List ℕ → A → Type 0) (P : A → Type 0) wh
   }
     where
       of : (bytes : List ℕ) (x : A) → IsText bytes x → P x ⊎ (P x → ⊥)
-          → (o : Option A) × StandsFor (Only IsText P) bytes o
+          → (o : Option A) × IsReadAs (Only IsText P) bytes o
       of bytes x is (inl holds) = (Some x, (is, holds))
       of bytes x is (inr other) = (None, only_not exact bytes x is other)
 
-      by : (bytes : List ℕ) → (o : Option A) × StandsFor IsText bytes o
-          → (o : Option A) × StandsFor (Only IsText P) bytes o
+      by : (bytes : List ℕ) → (o : Option A) × IsReadAs IsText bytes o
+          → (o : Option A) × IsReadAs (Only IsText P) bytes o
       by bytes (None, none) = (None, only_none bytes none)
       by bytes (Some x, is) = of bytes x is (decide x)
 
@@ -116,22 +115,22 @@ space_at field rest solid = grind (arith, prefix_len-append, length-append)
 
 -- or there is none
 pub no_field : (bytes : List ℕ) → None ≡ position is_space bytes
-    → StandsFor (AreSplit IsItself IsItself) bytes None
+    → IsReadAs (AreSplit IsItself IsItself) bytes None
 no_field bytes e = λ x is.
     let some = space_at is.field is.rest is.solid in
     absurd (cc (e ∙ ap (position is_space) is.split ∙ some))
 
 -- what stands before the first space, and what stands after it
-first_field : (bytes : List ℕ) → (o : Option (List ℕ × List ℕ)) × StandsFor (AreSplit IsItself IsItself) bytes o
+first_field : (bytes : List ℕ) → (o : Option (List ℕ × List ℕ)) × IsReadAs (AreSplit IsItself IsItself) bytes o
 first_field bytes = by (position is_space bytes) refl
   where
     by : (o : Option ℕ) → o ≡ position is_space bytes
-        → (o : Option (List ℕ × List ℕ)) × StandsFor (AreSplit IsItself IsItself) bytes o
+        → (o : Option (List ℕ × List ℕ)) × IsReadAs (AreSplit IsItself IsItself) bytes o
     by None e = (None, no_field bytes e)
     by (Some i) e = (Some (take i bytes, drop (i + 1) bytes), split_there bytes i e)
 
 -- bytes with no field before a space have no space
-pub no_space : (bytes : List ℕ) → StandsFor (AreSplit IsItself IsItself) bytes None → HasNoSpace bytes
+pub no_space : (bytes : List ℕ) → IsReadAs (AreSplit IsItself IsItself) bytes None → HasNoSpace bytes
 no_space bytes none = by (position is_space bytes) refl
   where
     by : (o : Option ℕ) → o ≡ position is_space bytes → HasNoSpace bytes
@@ -143,7 +142,7 @@ pub split_word : (bytes : List ℕ)
     → (word : List ℕ) × (after : Option (List ℕ)) × HasNoSpace word × (bytes ≡ word ++ after_word after)
 split_word bytes = by (first_field bytes)
   where
-    by : (o : Option (List ℕ × List ℕ)) × StandsFor (AreSplit IsItself IsItself) bytes o
+    by : (o : Option (List ℕ × List ℕ)) × IsReadAs (AreSplit IsItself IsItself) bytes o
         → (word : List ℕ) × (after : Option (List ℕ)) × HasNoSpace word × (bytes ≡ word ++ after_word after)
     by (None, none) = (bytes, None, no_space bytes none, sym (append-nil bytes))
     by (Some x, first) = (
@@ -156,7 +155,7 @@ split_word bytes = by (first_field bytes)
 -- ---- two texts with a space between
 
 module _ {A B : Type 0} (IsFirst : List ℕ → A → Type 0) (IsSecond : List ℕ → B → Type 0) (bytes : List ℕ) where
-  pub split_none : StandsFor (AreSplit IsItself IsItself) bytes None → StandsFor (AreSplit IsFirst IsSecond) bytes None
+  pub split_none : IsReadAs (AreSplit IsItself IsItself) bytes None → IsReadAs (AreSplit IsFirst IsSecond) bytes None
   split_none none = λ x is. none (is.field, is.rest) (record {
     field = is.field;
     rest = is.rest;
@@ -174,10 +173,10 @@ module _ {A B : Type 0} (IsFirst : List ℕ → A → Type 0) (IsSecond : List �
         one_split is.field split.field is.rest split.rest is.solid split.solid (sym is.split ∙ split.split) in
         (same.0 ∙ split.first.1, same.1 ∙ split.second.1)
 
-    pub first_none : StandsFor IsFirst field None → StandsFor (AreSplit IsFirst IsSecond) bytes None
+    pub first_none : IsReadAs IsFirst field None → IsReadAs (AreSplit IsFirst IsSecond) bytes None
     first_none none = λ x is. none x.0 (subst (λ (b : List ℕ). IsFirst b x.0) (one_field x is).0 is.first)
 
-    pub second_none : StandsFor IsSecond rest None → StandsFor (AreSplit IsFirst IsSecond) bytes None
+    pub second_none : IsReadAs IsSecond rest None → IsReadAs (AreSplit IsFirst IsSecond) bytes None
     second_none none = λ x is. none x.1 (subst (λ (b : List ℕ). IsSecond b x.1) (one_field x is).1 is.second)
 
     pub both : (x : A) (y : B) → IsFirst field x → IsSecond rest y → AreSplit IsFirst IsSecond bytes (x, y)
@@ -190,8 +189,8 @@ module _ {A B : Type 0} (IsFirst : List ℕ → A → Type 0) (IsSecond : List �
       second = second;
     }
 
-    both_has : (o : Option A) × StandsFor IsFirst field o → (o : Option B) × StandsFor IsSecond rest o
-        → (o : Option (A × B)) × StandsFor (AreSplit IsFirst IsSecond) bytes o
+    both_has : (o : Option A) × IsReadAs IsFirst field o → (o : Option B) × IsReadAs IsSecond rest o
+        → (o : Option (A × B)) × IsReadAs (AreSplit IsFirst IsSecond) bytes o
     both_has (None, none) second = (None, first_none none)
     both_has (Some x, first) (None, none) = (None, second_none none)
     both_has (Some x, first) (Some y, second) = (Some (x, y), both x y first second)
@@ -210,8 +209,8 @@ split_exact {A} {B} {IsFirst} {IsSecond} first second = record {
         let of_second = second.one q.rest b d (subst (λ (t : List ℕ). IsSecond t b) split.1 p.second) q.second in
         cc (of_first, of_second)
 
-    by : (bytes : List ℕ) → (o : Option (List ℕ × List ℕ)) × StandsFor (AreSplit IsItself IsItself) bytes o
-        → (o : Option (A × B)) × StandsFor (AreSplit IsFirst IsSecond) bytes o
+    by : (bytes : List ℕ) → (o : Option (List ℕ × List ℕ)) × IsReadAs (AreSplit IsItself IsItself) bytes o
+        → (o : Option (A × B)) × IsReadAs (AreSplit IsFirst IsSecond) bytes o
     by bytes (None, none) = (None, split_none IsFirst IsSecond bytes none)
     by bytes (Some x, split) =
         both_has IsFirst IsSecond bytes x.0 x.1 split (first.has x.0) (second.has x.1)

@@ -1,49 +1,68 @@
--- The kinds of commands. Their words, and the versions that know them, are this register's own.
-use Rattle.std.specs.Prelude.{ℕ, List, codes}
+-- The kinds of commands: what the reader of a command knows of it by its word alone.
+use Rattle.std.specs.Prelude.{ℕ, List, [], None}
+use Rattle.lifecycle_core.specs.declared.reason.Reason.TheVariants.{Unspecified}
+use Rattle.period_core.specs.declared.key_type.KeyType.TheVariants.{DataEncryption}
+use Rattle.period_core.specs.Period.{of_months}
 use Rattle.register_requests.specs.declared.command_fields.CommandKind.{CommandKind}
 use Rattle.register_requests.specs.declared.command_fields.CommandKind.TheVariants as kinds
 use Rattle.register_requests.specs.declared.command_fields.Shape.{Shape}
-use Rattle.register_requests.specs.declared.command_fields.Shape.TheVariants.{Nothing, Key, KeyAndName}
-use Rattle.register_requests.specs.declared.command_fields.Shape.TheVariants.{KeyAndOwner, KeyAndNeed}
-use Rattle.register_requests.specs.declared.command_fields.Shape.TheVariants.{TypeAndPeriod, Registration, DateEdits}
-use Rattle.register_requests.specs.declared.command_fields.Shape.TheVariants.{Revocation}
+use Rattle.register_requests.specs.declared.request.Command.{Command}
+use Rattle.register_requests.specs.declared.request.Command.TheVariants.{Register, Activate, SetDates, Revoke, Assign}
+use Rattle.register_requests.specs.declared.request.Command.TheVariants.{AddCustodian, RemoveCustodian, Approve}
+use Rattle.register_requests.specs.declared.request.Command.TheVariants.{Withdraw, Destroy, Advance}
+use Rattle.register_requests.specs.declared.request.Command.TheVariants.{SetQuorum, SetPeriod}
+use Rattle.register_requests.specs.declared.request.Edit.TheVariants.{Keep}
 use Rattle.register_requests.specs.declared.version.Version.{Version}
-use Rattle.register_requests.specs.declared.version.Version.TheVariants.{First, Second}
+use Rattle.register_requests.specs.CommandRule.{rule}
+use Rattle.register_requests.specs.Fields.{fields_of, shape_of}
 
--- what the commands of a kind look like: their word, and the shape of the fields after it; and the first version of the
--- register that knows them
-pub record Form : Type 0 where
-  pub word : List ℕ
-  pub shape : Shape
-  pub since : Version
+-- the kind of a command, which is the command without its fields
+abbrev pub kind_of : Command → CommandKind
+kind_of (Register new) = kinds.Register
+kind_of (Activate key) = kinds.Activate
+kind_of (SetDates key activation protect_stop deactivation) = kinds.SetDates
+kind_of (Revoke key reason occurrence) = kinds.Revoke
+kind_of (Assign key owner) = kinds.Assign
+kind_of (AddCustodian key name) = kinds.AddCustodian
+kind_of (RemoveCustodian key name) = kinds.RemoveCustodian
+kind_of (Approve key) = kinds.Approve
+kind_of (Withdraw key) = kinds.Withdraw
+kind_of (Destroy key) = kinds.Destroy
+kind_of Advance = kinds.Advance
+kind_of (SetQuorum key need) = kinds.SetQuorum
+kind_of (SetPeriod kind period) = kinds.SetPeriod
 
-abbrev pub word_shape_and_version : CommandKind → Form
--- its life and its dates
-word_shape_and_version kinds.Register = record { word = codes "register"; shape = Registration; since = First }
-word_shape_and_version kinds.Activate = record { word = codes "activate"; shape = Key; since = First }
-word_shape_and_version kinds.SetDates = record { word = codes "set"; shape = DateEdits; since = First }
-word_shape_and_version kinds.Revoke = record { word = codes "revoke"; shape = Revocation; since = First }
--- its custody, up to its destruction
-word_shape_and_version kinds.Assign = record { word = codes "assign"; shape = KeyAndOwner; since = First }
-word_shape_and_version kinds.AddCustodian = record { word = codes "add-custodian"; shape = KeyAndName; since = First }
-word_shape_and_version kinds.RemoveCustodian =
-    record { word = codes "remove-custodian"; shape = KeyAndName; since = First }
-word_shape_and_version kinds.Approve = record { word = codes "approve"; shape = Key; since = First }
-word_shape_and_version kinds.Withdraw = record { word = codes "withdraw"; shape = Key; since = First }
-word_shape_and_version kinds.Destroy = record { word = codes "destroy"; shape = Key; since = First }
--- time, and what is set
-word_shape_and_version kinds.Advance = record { word = codes "advance"; shape = Nothing; since = First }
-word_shape_and_version kinds.SetQuorum = record { word = codes "set-quorum"; shape = KeyAndNeed; since = Second }
-word_shape_and_version kinds.SetPeriod = record { word = codes "set-period"; shape = TypeAndPeriod; since = Second }
+-- a command of the kind: its fields do not matter
+abbrev pub any_of : CommandKind → Command
+any_of kinds.Register = Register (record {
+  kind = DataEncryption;
+  owner = [];
+  activation = None;
+  protect_stop = None;
+  deactivation = None;
+  purpose = [];
+})
+any_of kinds.Activate = Activate 1
+any_of kinds.SetDates = SetDates 1 Keep Keep Keep
+any_of kinds.Revoke = Revoke 1 Unspecified None
+any_of kinds.Assign = Assign 1 []
+any_of kinds.AddCustodian = AddCustodian 1 []
+any_of kinds.RemoveCustodian = RemoveCustodian 1 []
+any_of kinds.Approve = Approve 1
+any_of kinds.Withdraw = Withdraw 1
+any_of kinds.Destroy = Destroy 1
+any_of kinds.Advance = Advance
+any_of kinds.SetQuorum = SetQuorum 1 2
+any_of kinds.SetPeriod = SetPeriod DataEncryption (of_months 1 0)
 
--- the word of a kind
+-- the word with which the texts of the kind's commands begin
 abbrev pub command_kind_text : CommandKind → List ℕ
-command_kind_text kind = (word_shape_and_version kind).word
+command_kind_text kind = (rule (any_of kind)).word
 
--- the shape of its commands' fields
-abbrev pub command_shape : CommandKind → Shape
-command_shape kind = (word_shape_and_version kind).shape
-
--- the first version that knows the kind
+-- the first version of the register that knows the kind
 abbrev pub first_version : CommandKind → Version
-first_version kind = (word_shape_and_version kind).since
+first_version kind = (rule (any_of kind)).since
+
+-- what the fields of the kind's commands are
+abbrev pub command_shape : CommandKind → Shape
+command_shape kind = shape_of (fields_of (any_of kind))

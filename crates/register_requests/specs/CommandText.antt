@@ -1,7 +1,7 @@
 -- The text of a command alone: what stands at the end of a request's line.
 use Rattle.std.specs.Prelude.{◌≡◌, ℕ, List, Option}
 use Rattle.register_requests.specs.declared.request.Command.{Command}
-use Rattle.register_requests.specs.Request.{IsCommand, StandsFor, command_text}
+use Rattle.register_requests.specs.Request.{IsCommand, IsReadAs, command_text}
 
 -- how many bytes the text of a command has at most
 abbrev pub max_command_length : ℕ
@@ -13,4 +13,4 @@ IsCommandText bytes command = IsCommand command × (bytes ≡ command_text comma
 
 -- what the bytes stand for: the command whose text they are, or none where they are the text of no command
 abbrev pub IsCommandItem : List ℕ → Option Command → Type 0
-IsCommandItem bytes item = StandsFor IsCommandText bytes item
+IsCommandItem bytes item = IsReadAs IsCommandText bytes item

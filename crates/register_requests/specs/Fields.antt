@@ -1,22 +1,22 @@
--- The fields of a command: what stands after its word. A command is its kind and its fields.
+-- The fields of a command, as its reader has them before it makes the command of them and of its kind.
 use Rattle.std.specs.Prelude.{Option, None, Some}
 use Rattle.register_requests.specs.declared.command_fields.CommandKind.{CommandKind}
 use Rattle.register_requests.specs.declared.command_fields.CommandKind.TheVariants as kinds
 use Rattle.register_requests.specs.declared.request.Command.{Command}
 use Rattle.register_requests.specs.declared.request.Command.TheVariants.{Register, Activate, SetDates, Revoke, Assign}
 use Rattle.register_requests.specs.declared.request.Command.TheVariants.{AddCustodian, RemoveCustodian, Approve}
-use Rattle.register_requests.specs.declared.request.Command.TheVariants.{Withdraw}
-use Rattle.register_requests.specs.declared.request.Command.TheVariants.{Destroy, Advance, SetQuorum, SetPeriod}
+use Rattle.register_requests.specs.declared.request.Command.TheVariants.{Withdraw, Destroy, Advance, SetQuorum}
+use Rattle.register_requests.specs.declared.request.Command.TheVariants.{SetPeriod}
 use Rattle.register_requests.specs.declared.command_fields.Fields.{Fields}
 use Rattle.register_requests.specs.declared.command_fields.Fields.TheVariants.{Nothing, Key, KeyAndName, KeyAndOwner}
-use Rattle.register_requests.specs.declared.command_fields.Fields.TheVariants.{KeyAndNeed}
-use Rattle.register_requests.specs.declared.command_fields.Fields.TheVariants.{TypeAndPeriod, Registration, DateEdits}
-use Rattle.register_requests.specs.declared.command_fields.Fields.TheVariants.{Revocation}
+use Rattle.register_requests.specs.declared.command_fields.Fields.TheVariants.{KeyAndNeed, TypeAndPeriod, Registration}
+use Rattle.register_requests.specs.declared.command_fields.Fields.TheVariants.{DateEdits, Revocation}
+use Rattle.register_requests.specs.declared.command_fields.Shape.{Shape}
+use Rattle.register_requests.specs.declared.command_fields.Shape.TheVariants as shapes
 
 -- the fields of a command
 abbrev pub fields_of : Command → Fields
-fields_of (Register kind owner activation protect_stop deactivation purpose) =
-    Registration kind owner activation protect_stop deactivation purpose
+fields_of (Register new) = Registration new
 fields_of (Activate key) = Key key
 fields_of (SetDates key activation protect_stop deactivation) = DateEdits key activation protect_stop deactivation
 fields_of (Revoke key reason occurrence) = Revocation key reason occurrence
@@ -32,8 +32,7 @@ fields_of (SetPeriod kind period) = TypeAndPeriod kind period
 
 -- the command of this kind with these fields, if the kind has such fields
 abbrev pub command_with : CommandKind → Fields → Option Command
-command_with kinds.Register (Registration kind owner activation protect_stop deactivation purpose) =
-    Some (Register kind owner activation protect_stop deactivation purpose)
+command_with kinds.Register (Registration new) = Some (Register new)
 command_with kinds.Activate (Key key) = Some (Activate key)
 command_with kinds.SetDates (DateEdits key activation protect_stop deactivation) =
     Some (SetDates key activation protect_stop deactivation)
@@ -48,3 +47,15 @@ command_with kinds.Advance Nothing = Some Advance
 command_with kinds.SetQuorum (KeyAndNeed key need) = Some (SetQuorum key need)
 command_with kinds.SetPeriod (TypeAndPeriod kind period) = Some (SetPeriod kind period)
 command_with kind fields = None
+
+-- what the fields are
+abbrev pub shape_of : Fields → Shape
+shape_of Nothing = shapes.Nothing
+shape_of (Key key) = shapes.Key
+shape_of (KeyAndName key name) = shapes.KeyAndName
+shape_of (KeyAndOwner key owner) = shapes.KeyAndOwner
+shape_of (KeyAndNeed key need) = shapes.KeyAndNeed
+shape_of (TypeAndPeriod kind period) = shapes.TypeAndPeriod
+shape_of (Registration new) = shapes.Registration
+shape_of (DateEdits key activation protect_stop deactivation) = shapes.DateEdits
+shape_of (Revocation key reason occurrence) = shapes.Revocation

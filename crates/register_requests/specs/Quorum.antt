@@ -1,13 +1,10 @@
 -- How many approvals, of different custodians, the destruction of a key needs. The range is this register's own.
 use Rattle.std.specs.Prelude.{ℕ, ◌≤◌}
 
--- at the least, and where the key's owner has set nothing
+-- the fewest approvals that the destruction of a key may need, which it needs where its owner has set no number (own)
 abbrev pub min_approvals : ℕ
 min_approvals = 2
 
--- at the most
-abbrev pub max_approvals : ℕ
-max_approvals = 5
-
+-- a number of approvals that the destruction of a key may need: 2 to 5 (own)
 abbrev pub IsQuorum : ℕ → Type 0
-IsQuorum n = (min_approvals ≤ n) × (n ≤ max_approvals)
+IsQuorum n = (min_approvals ≤ n) × (n ≤ 5)

@@ -1,6 +1,6 @@
 -- Requests in their ranges, and the one line of each. All of it is this register's own.
-use Rattle.std.specs.Prelude.{◌≡◌, Bool, true, false, ◌&&◌, nat_lt, ℕ, ◌≤◌, List, [], ◌++◌, length, codes, decimal}
-use Rattle.std.specs.Prelude.{Option, None, Some}
+use Rattle.std.specs.Prelude.{IfSome, ◌≡◌, Bool, true, false, ◌&&◌, nat_lt, ℕ, ◌≤◌, List, [], ◌++◌, length, codes}
+use Rattle.std.specs.Prelude.{decimal, Option, None, Some}
 use Rattle.moment_core.specs.Moment.{IsMoment}
 use Rattle.register_requests.specs.Name.{IsName}
 use Rattle.register_requests.specs.Number.{IsNumber}
@@ -10,29 +10,21 @@ use Rattle.period_core.specs.KeyType.{key_type_text}
 use Rattle.period_core.specs.Period.{IsPeriod}
 use Rattle.register_requests.specs.declared.request.Request.{Request}
 use Rattle.register_requests.specs.declared.request.Command.{Command}
-use Rattle.register_requests.specs.declared.command_fields.Fields.{Fields}
-use Rattle.register_requests.specs.declared.command_fields.Fields.TheVariants.{Nothing, Key, KeyAndName, KeyAndOwner}
-use Rattle.register_requests.specs.declared.command_fields.Fields.TheVariants.{KeyAndNeed}
-use Rattle.register_requests.specs.declared.command_fields.Fields.TheVariants.{TypeAndPeriod, Registration, DateEdits}
-use Rattle.register_requests.specs.declared.command_fields.Fields.TheVariants.{Revocation}
-use Rattle.register_requests.specs.Fields.{fields_of}
+use Rattle.register_requests.specs.declared.request.Command.TheVariants.{Register, Activate, SetDates, Revoke, Assign}
+use Rattle.register_requests.specs.declared.request.Command.TheVariants.{AddCustodian, RemoveCustodian, Approve}
+use Rattle.register_requests.specs.declared.request.Command.TheVariants.{Withdraw, Destroy, Advance, SetQuorum}
+use Rattle.register_requests.specs.declared.request.Command.TheVariants.{SetPeriod}
 use Rattle.register_requests.specs.declared.request.Edit.{Edit}
 use Rattle.register_requests.specs.declared.request.Edit.TheVariants.{Keep, Clear, Set}
 use Rattle.lifecycle_core.specs.Reason.{reason_code, is_compromise}
-use Rattle.register_requests.specs.CommandKind.{command_kind_text}
-use Rattle.register_requests.specs.CommandRule.{kind_of}
+use Rattle.register_requests.specs.CommandRule.{rule}
 use Rattle.register_requests.specs.Subject.{named}
-
--- how many bytes a request line has at most
-abbrev pub max_line_length : ℕ
-max_line_length = 1024
 
 -- ---- ranges
 
 -- a date that is given is a moment
 abbrev pub IsDate : Option ℕ → Type 0
-IsDate None = Unit {0}
-IsDate (Some date) = IsMoment date
+IsDate date = IfSome date IsMoment
 
 -- the greatest number that a request can name a key by
 abbrev pub max_key_number : ℕ
@@ -48,51 +40,43 @@ IsEdit Keep = Unit {0}
 IsEdit Clear = Unit {0}
 IsEdit (Set date) = IsMoment date
 
--- the fields of a command are in their ranges
-abbrev pub AreFieldsInRange : Fields → Type 0
-AreFieldsInRange Nothing = Unit {0}
-AreFieldsInRange (Key key) = IsKeyNumber key
-AreFieldsInRange (KeyAndName key name) = IsKeyNumber key × IsName name
-AreFieldsInRange (KeyAndOwner key owner) = IsKeyNumber key × IsName owner
-AreFieldsInRange (KeyAndNeed key need) = IsKeyNumber key × IsQuorum need
-AreFieldsInRange (TypeAndPeriod kind period) = IsPeriod period
-AreFieldsInRange (Registration kind owner activation protect_stop deactivation purpose) =
-    IsName owner × IsDate activation × IsDate protect_stop × IsDate deactivation × IsPurpose purpose
-AreFieldsInRange (DateEdits key activation protect_stop deactivation) =
-    IsKeyNumber key × IsEdit activation × IsEdit protect_stop × IsEdit deactivation
-AreFieldsInRange (Revocation key reason occurrence) =
-    IsKeyNumber key × IsDate occurrence × (is_compromise reason ≡ false → occurrence ≡ None)
-
+-- Each argument of the command is in its range, and a revocation gives an occurrence only where its reason is a
+-- compromise. Own.
 abbrev pub IsCommand : Command → Type 0
-IsCommand c = AreFieldsInRange (fields_of c)
+IsCommand (Register new) =
+    IsName new.owner × IsDate new.activation × IsDate new.protect_stop × IsDate new.deactivation × IsPurpose new.purpose
+IsCommand (Activate key) = IsKeyNumber key
+IsCommand (SetDates key activation protect_stop deactivation) =
+    IsKeyNumber key × IsEdit activation × IsEdit protect_stop × IsEdit deactivation
+IsCommand (Revoke key reason occurrence) =
+    IsKeyNumber key × IsDate occurrence × (is_compromise reason ≡ false → occurrence ≡ None)
+IsCommand (Assign key owner) = IsKeyNumber key × IsName owner
+IsCommand (AddCustodian key name) = IsKeyNumber key × IsName name
+IsCommand (RemoveCustodian key name) = IsKeyNumber key × IsName name
+IsCommand (Approve key) = IsKeyNumber key
+IsCommand (Withdraw key) = IsKeyNumber key
+IsCommand (Destroy key) = IsKeyNumber key
+IsCommand Advance = Unit {0}
+IsCommand (SetQuorum key need) = IsKeyNumber key × IsQuorum need
+IsCommand (SetPeriod kind period) = IsPeriod period
 
+-- A request's moment, caller, number and command are in their ranges (own).
 pub record IsRequest (q : Request) : Type 0 where
   pub moment : IsMoment q.moment
   pub caller : IsName q.caller
   pub number : IsNumber q.number
   pub command : IsCommand q.command
 
--- What the types of a command's parts leave open of these ranges. A key that is named has a number from 1 on,
+-- a key that is named has a number from 1 on
 abbrev pub is_numbered : Option ℕ → Bool
 is_numbered None = true
 is_numbered (Some key) = nat_lt 0 key
 
--- and an occurrence is given only with a compromise.
-abbrev pub has_occurrence_only_with_compromise : Fields → Bool
-has_occurrence_only_with_compromise (Revocation key reason (Some occurrence)) = is_compromise reason
-has_occurrence_only_with_compromise (Revocation key reason None) = true
-has_occurrence_only_with_compromise Nothing = true
-has_occurrence_only_with_compromise (Key key) = true
-has_occurrence_only_with_compromise (KeyAndName key name) = true
-has_occurrence_only_with_compromise (KeyAndOwner key owner) = true
-has_occurrence_only_with_compromise (KeyAndNeed key need) = true
-has_occurrence_only_with_compromise (TypeAndPeriod kind period) = true
-has_occurrence_only_with_compromise (Registration kind owner activation protect_stop deactivation purpose) = true
-has_occurrence_only_with_compromise (DateEdits key activation protect_stop deactivation) = true
-
--- what the types leave open of the command is in its range
+-- What the types of a command's parts leave open of these ranges: a key that is named has a number from 1 on, and an
+-- occurrence is given only with a compromise.
 abbrev pub is_in_range : Command → Bool
-is_in_range c = is_numbered (named c) && has_occurrence_only_with_compromise (fields_of c)
+is_in_range (Revoke key reason (Some occurrence)) = nat_lt 0 key && is_compromise reason
+is_in_range c = is_numbered (named c)
 
 -- ---- texts
 
@@ -107,43 +91,50 @@ edit_text Keep = codes "="
 edit_text Clear = codes "-"
 edit_text (Set date) = decimal date
 
--- what stands after a command's word: its fields, each with a space before it
-abbrev pub fields_text : Fields → List ℕ
-fields_text Nothing = []
-fields_text (Key key) = codes " " ++ decimal key
-fields_text (KeyAndName key name) = codes " " ++ decimal key ++ codes " " ++ name
-fields_text (KeyAndOwner key owner) = codes " " ++ decimal key ++ codes " " ++ owner
-fields_text (KeyAndNeed key need) = codes " " ++ decimal key ++ codes " " ++ decimal need
-fields_text (TypeAndPeriod kind period) =
-    codes " " ++ key_type_text kind ++ codes " " ++ decimal period.originator ++ codes " " ++ decimal period.recipient
-fields_text (Registration kind owner activation protect_stop deactivation purpose) =
-    codes " " ++ key_type_text kind ++ codes " " ++ owner ++ codes " " ++ date_text activation
-    ++ codes " " ++ date_text protect_stop ++ codes " " ++ date_text deactivation ++ codes " " ++ purpose
-fields_text (DateEdits key activation protect_stop deactivation) =
+-- The arguments of a command as a request line has them, in order, each after one space. A purpose comes last, since it
+-- may hold spaces. Own.
+abbrev pub arguments_text : Command → List ℕ
+arguments_text (Register new) =
+    codes " " ++ key_type_text new.kind ++ codes " " ++ new.owner ++ codes " " ++ date_text new.activation
+    ++ codes " " ++ date_text new.protect_stop ++ codes " " ++ date_text new.deactivation ++ codes " " ++ new.purpose
+arguments_text (Activate key) = codes " " ++ decimal key
+arguments_text (SetDates key activation protect_stop deactivation) =
     codes " " ++ decimal key ++ codes " " ++ edit_text activation ++ codes " " ++ edit_text protect_stop
     ++ codes " " ++ edit_text deactivation
-fields_text (Revocation key reason occurrence) =
+arguments_text (Revoke key reason occurrence) =
     codes " " ++ decimal key ++ codes " " ++ decimal (reason_code reason) ++ codes " " ++ date_text occurrence
+arguments_text (Assign key owner) = codes " " ++ decimal key ++ codes " " ++ owner
+arguments_text (AddCustodian key name) = codes " " ++ decimal key ++ codes " " ++ name
+arguments_text (RemoveCustodian key name) = codes " " ++ decimal key ++ codes " " ++ name
+arguments_text (Approve key) = codes " " ++ decimal key
+arguments_text (Withdraw key) = codes " " ++ decimal key
+arguments_text (Destroy key) = codes " " ++ decimal key
+arguments_text Advance = []
+arguments_text (SetQuorum key need) = codes " " ++ decimal key ++ codes " " ++ decimal need
+arguments_text (SetPeriod kind period) =
+    codes " " ++ key_type_text kind ++ codes " " ++ decimal period.originator ++ codes " " ++ decimal period.recipient
 
--- the word of a command's kind, and its fields after it
+-- the word of a command, and what stands after it
 abbrev pub command_text : Command → List ℕ
-command_text c = command_kind_text (kind_of c) ++ fields_text (fields_of c)
+command_text c = (rule c).word ++ arguments_text c
 
+-- the one text of a request: its moment, caller, number and command, with a space between
 abbrev pub request_text : Request → List ℕ
 request_text q =
     decimal q.moment ++ codes " " ++ q.caller ++ codes " " ++ decimal q.number ++ codes " " ++ command_text q.command
 
--- the bytes, which have no LF after them, are the line of the request
+-- The bytes, without the LF that ends the line, are the text of a request whose values are in their ranges; they are at
+-- most 1024. Own.
 pub record IsLineOf (bytes : List ℕ) (q : Request) : Type 0 where
   pub request : IsRequest q
-  pub within : length bytes ≤ max_line_length
+  pub within : length bytes ≤ 1024
   pub text : bytes ≡ request_text q
 
 -- what the bytes stand for: the value whose text they are, or none where they are the text of no value
-abbrev pub StandsFor : {A : Type 0} → (List ℕ → A → Type 0) → List ℕ → Option A → Type 0
-StandsFor {A} IsText bytes None = (x : A) → IsText bytes x → ⊥
-StandsFor IsText bytes (Some x) = IsText bytes x
+abbrev pub IsReadAs : {A : Type 0} → (List ℕ → A → Type 0) → List ℕ → Option A → Type 0
+IsReadAs {A} IsText bytes None = (x : A) → IsText bytes x → ⊥
+IsReadAs IsText bytes (Some x) = IsText bytes x
 
 -- what the line stands for: the request whose line it is, or none where it is the line of no request
 abbrev pub IsItem : List ℕ → Option Request → Type 0
-IsItem bytes item = StandsFor IsLineOf bytes item
+IsItem bytes item = IsReadAs IsLineOf bytes item

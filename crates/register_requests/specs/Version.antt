@@ -1,8 +1,7 @@
 -- The versions of the register, and what they differ in beside their tables.
-use Rattle.std.specs.Prelude.{ℕ, Bool, true, false}
+use Rattle.std.specs.Prelude.{ℕ, nat_le, Bool, true}
 use Rattle.register_requests.specs.declared.request.Command.{Command}
-use Rattle.register_requests.specs.CommandKind.{first_version}
-use Rattle.register_requests.specs.CommandRule.{kind_of}
+use Rattle.register_requests.specs.CommandRule.{rule}
 use Rattle.register_requests.specs.declared.version.Version.{Version}
 use Rattle.register_requests.specs.declared.version.Version.TheVariants.{First, Second}
 
@@ -16,18 +15,10 @@ abbrev pub custodians_of : Version → ℕ
 custodians_of First = 8
 custodians_of Second = 16
 
-abbrev pub is_first : Version → Bool
-is_first First = true
-is_first Second = false
-
--- the command is one of the first version
-abbrev pub is_of_first : Command → Bool
-is_of_first c = is_first (first_version (kind_of c))
-
--- which commands a version knows: this program's version knows them all
+-- a version knows the commands of its own and of those before it, so this program's knows them all
 abbrev pub knows : Version → Command → Bool
-knows First = is_of_first
-knows Second = λ _. true
+knows First c = nat_le (version_number (rule c).since) (version_number First)
+knows Second c = true
 
 -- the version of this program
 abbrev pub current : Version

@@ -1,5 +1,5 @@
 -- What functions within the crate say of one another: no public contract stands on it.
 pub mod Text
-pub mod Fields
 pub mod Subject
 pub mod FieldText
+pub mod Fields

@@ -1,10 +1,10 @@
 //! The kinds of commands, each with its word and the shape of its fields; and these fields. A
 //! command is its kind and its fields, and what is read off the fields has no row for a command.
 ghost use Rattle.std.specs.Prelude.{◌≡◌};
-ghost use Rattle.register_requests.specs.Fields.{fields_of, command_with};
+ghost use Rattle.register_requests.specs.Fields.{command_with};
 
-use crate::request::{Command, Edit};
-use crate::values::{Name, Purpose, Quorum};
+use crate::request::{Command, Edit, Registration};
+use crate::values::{Name, Quorum};
 use crate::version::Version;
 use lifecycle_core::Reason;
 use moment_core::Moment;
@@ -33,7 +33,7 @@ pub enum CommandKind {
 
 /// What the commands of a kind look like.
 #[derive(Clone, Copy)]
-struct Form {
+struct CommandForm {
     word: &'static str,
     /// That of the fields after the word.
     shape: Shape,
@@ -44,7 +44,7 @@ struct Form {
 impl CommandKind {
     ghost use Rattle.std.specs.Prelude.{◌≢◌, ◌≤◌, IfSome, IfNone, All, length};
     ghost use Rattle.register_requests.specs.declared.command_fields.CommandKind.{CommandKind};
-    ghost use Rattle.register_requests.specs.CommandKind.{word_shape_and_version, command_kind_text, command_shape};
+    ghost use Rattle.register_requests.specs.CommandKind.{command_kind_text, command_shape};
     ghost use Rattle.register_requests.specs.CommandKind.{first_version};
 
     /// Each kind once.
@@ -66,27 +66,27 @@ impl CommandKind {
 
     /// The one table of all kinds.
     #[rattlefmt::skip]
-    fn word_shape_and_version(self) -> Form
-        ensures word { result.word.now ≡ (word_shape_and_version self).word }
+    fn word_shape_and_version(self) -> CommandForm
+        ensures word { result.word.now ≡ command_kind_text self }
         ensures short { length result.word.now ≤ MAX_WORD_LENGTH }
-        ensures shape { result.shape ≡ (word_shape_and_version self).shape }
-        ensures since { result.since ≡ (word_shape_and_version self).since }
+        ensures shape { result.shape ≡ command_shape self }
+        ensures since { result.since ≡ first_version self }
     {
         use Version::{First, Second};
         match self {
-            CommandKind::Register => Form { word: "register", shape: Shape::Registration, since: First },
-            CommandKind::Activate => Form { word: "activate", shape: Shape::Key, since: First },
-            CommandKind::SetDates => Form { word: "set", shape: Shape::DateEdits, since: First },
-            CommandKind::Revoke => Form { word: "revoke", shape: Shape::Revocation, since: First },
-            CommandKind::Assign => Form { word: "assign", shape: Shape::KeyAndOwner, since: First },
-            CommandKind::AddCustodian => Form { word: "add-custodian", shape: Shape::KeyAndName, since: First },
-            CommandKind::RemoveCustodian => Form { word: "remove-custodian", shape: Shape::KeyAndName, since: First },
-            CommandKind::Approve => Form { word: "approve", shape: Shape::Key, since: First },
-            CommandKind::Withdraw => Form { word: "withdraw", shape: Shape::Key, since: First },
-            CommandKind::Destroy => Form { word: "destroy", shape: Shape::Key, since: First },
-            CommandKind::Advance => Form { word: "advance", shape: Shape::Nothing, since: First },
-            CommandKind::SetQuorum => Form { word: "set-quorum", shape: Shape::KeyAndNeed, since: Second },
-            CommandKind::SetPeriod => Form { word: "set-period", shape: Shape::TypeAndPeriod, since: Second },
+            CommandKind::Register => CommandForm { word: "register", shape: Shape::Registration, since: First },
+            CommandKind::Activate => CommandForm { word: "activate", shape: Shape::Key, since: First },
+            CommandKind::SetDates => CommandForm { word: "set", shape: Shape::DateEdits, since: First },
+            CommandKind::Revoke => CommandForm { word: "revoke", shape: Shape::Revocation, since: First },
+            CommandKind::Assign => CommandForm { word: "assign", shape: Shape::KeyAndOwner, since: First },
+            CommandKind::AddCustodian => CommandForm { word: "add-custodian", shape: Shape::KeyAndName, since: First },
+            CommandKind::RemoveCustodian => CommandForm { word: "remove-custodian", shape: Shape::KeyAndName, since: First },
+            CommandKind::Approve => CommandForm { word: "approve", shape: Shape::Key, since: First },
+            CommandKind::Withdraw => CommandForm { word: "withdraw", shape: Shape::Key, since: First },
+            CommandKind::Destroy => CommandForm { word: "destroy", shape: Shape::Key, since: First },
+            CommandKind::Advance => CommandForm { word: "advance", shape: Shape::Nothing, since: First },
+            CommandKind::SetQuorum => CommandForm { word: "set-quorum", shape: Shape::KeyAndNeed, since: Second },
+            CommandKind::SetPeriod => CommandForm { word: "set-period", shape: Shape::TypeAndPeriod, since: Second },
         }
     }
 
@@ -171,14 +171,7 @@ pub enum Fields {
         kind: KeyType,
         period: Period,
     },
-    Registration {
-        kind: KeyType,
-        owner: Name,
-        activation: Option<Moment>,
-        protect_stop: Option<Moment>,
-        deactivation: Option<Moment>,
-        purpose: Purpose,
-    },
+    Registration(Registration),
     DateEdits {
         key: u32,
         activation: Edit,
@@ -192,51 +185,6 @@ pub enum Fields {
     },
 }
 
-impl Fields {
-    ghost use Rattle.register_requests.specs.Subject.{subject_by, named_by};
-    ghost use Rattle.register_requests.specs.Request.{has_occurrence_only_with_compromise};
-
-    /// The number of the key that they name, if they name one.
-    fn key(&self) -> Option<u32>
-        ensures { result ≡ named_by (subject_by self.now) }
-    {
-        match *self {
-            Fields::Nothing | Fields::Registration { .. } | Fields::TypeAndPeriod { .. } => None,
-            Fields::Key { key }
-            | Fields::KeyAndName { key, .. }
-            | Fields::KeyAndOwner { key, .. }
-            | Fields::KeyAndNeed { key, .. }
-            | Fields::DateEdits { key, .. }
-            | Fields::Revocation { key, .. } => Some(key),
-        }
-    }
-
-    /// An occurrence is given only with a reason that is a compromise.
-    fn has_occurrence_only_with_compromise(&self) -> bool
-        ensures { result ≡ has_occurrence_only_with_compromise self.now }
-    {
-        match *self {
-            Fields::Revocation {
-                reason,
-                occurrence: Some(_),
-                ..
-            } => reason.is_compromise(),
-            Fields::Revocation {
-                occurrence: None,
-                ..
-            }
-            | Fields::Nothing
-            | Fields::Key { .. }
-            | Fields::KeyAndName { .. }
-            | Fields::KeyAndOwner { .. }
-            | Fields::KeyAndNeed { .. }
-            | Fields::TypeAndPeriod { .. }
-            | Fields::Registration { .. }
-            | Fields::DateEdits { .. } => true,
-        }
-    }
-}
-
 impl Command {
     ghost use Rattle.register_requests.specs.Request.{is_in_range};
     ghost use Rattle.register_requests.specs.Subject.{named};
@@ -245,7 +193,19 @@ impl Command {
     pub fn key(&self) -> Option<u32>
         ensures { result ≡ named self.now }
     {
-        self.fields().key()
+        match *self {
+            Command::Register(_) | Command::Advance | Command::SetPeriod { .. } => None,
+            Command::Activate { key }
+            | Command::SetDates { key, .. }
+            | Command::Revoke { key, .. }
+            | Command::Assign { key, .. }
+            | Command::AddCustodian { key, .. }
+            | Command::RemoveCustodian { key, .. }
+            | Command::Approve { key }
+            | Command::Withdraw { key }
+            | Command::Destroy { key }
+            | Command::SetQuorum { key, .. } => Some(key),
+        }
     }
 
     /// Whether the command is in its ranges, as that of each line is: a key that it names has a
@@ -254,37 +214,13 @@ impl Command {
     pub fn is_in_range(&self) -> bool
         ensures { result ≡ is_in_range self.now }
     {
-        let fields = self.fields();
-        let is_numbered = match fields.key() {
-            Some(key) => key > 0,
-            None => true,
-        };
-        is_numbered && fields.has_occurrence_only_with_compromise()
-    }
-
-    /// What stands after the command's word.
-    #[rattlefmt::skip]
-    pub fn fields(&self) -> Fields
-        ensures { result ≡ fields_of self.now }
-    {
         match *self {
-            Command::Register { kind, owner, activation, protect_stop, deactivation, purpose } => {
-                Fields::Registration { kind, owner, activation, protect_stop, deactivation, purpose }
-            }
-            Command::Activate { key } => Fields::Key { key },
-            Command::SetDates { key, activation, protect_stop, deactivation } => {
-                Fields::DateEdits { key, activation, protect_stop, deactivation }
-            }
-            Command::Revoke { key, reason, occurrence } => Fields::Revocation { key, reason, occurrence },
-            Command::Assign { key, owner } => Fields::KeyAndOwner { key, owner },
-            Command::AddCustodian { key, name } => Fields::KeyAndName { key, name },
-            Command::RemoveCustodian { key, name } => Fields::KeyAndName { key, name },
-            Command::Approve { key } => Fields::Key { key },
-            Command::Withdraw { key } => Fields::Key { key },
-            Command::Destroy { key } => Fields::Key { key },
-            Command::Advance => Fields::Nothing,
-            Command::SetQuorum { key, need } => Fields::KeyAndNeed { key, need },
-            Command::SetPeriod { kind, period } => Fields::TypeAndPeriod { kind, period },
+            Command::Revoke {
+                key,
+                reason,
+                occurrence: Some(_),
+            } => key > 0 && reason.is_compromise(),
+            _ => self.key().is_none_or(|key| key > 0),
         }
     }
 
@@ -295,9 +231,7 @@ impl Command {
     {
         use CommandKind as Kind;
         match (kind, *fields) {
-            (Kind::Register, Fields::Registration { kind, owner, activation, protect_stop, deactivation, purpose }) => {
-                Some(Command::Register { kind, owner, activation, protect_stop, deactivation, purpose })
-            }
+            (Kind::Register, Fields::Registration(new)) => Some(Command::Register(new)),
             (Kind::Activate, Fields::Key { key }) => Some(Command::Activate { key }),
             (Kind::SetDates, Fields::DateEdits { key, activation, protect_stop, deactivation }) => {
                 Some(Command::SetDates { key, activation, protect_stop, deactivation })

@@ -3,12 +3,12 @@
 ghost use Rattle.std.specs.Prelude.{◌≡◌, ◌+◌, ◌≤◌, ◌++◌, codes, decimal, length};
 ghost use Rattle.arrayvec.specs.ArrayString.{array_string_len};
 ghost use Rattle.period_core.specs.KeyType.{key_type_text};
-ghost use Rattle.register_requests.specs.declared.command_fields.Fields.TheVariants.{DateEdits};
-ghost use Rattle.register_requests.specs.declared.command_fields.Fields.TheVariants.{TypeAndPeriod};
-ghost use Rattle.register_requests.specs.declared.command_fields.Fields.TheVariants.{Revocation};
-ghost use Rattle.register_requests.specs.Request.{fields_text, command_text, date_text, edit_text};
+ghost use Rattle.register_requests.specs.declared.request.Command.TheVariants.{SetDates, SetPeriod};
+ghost use Rattle.register_requests.specs.declared.request.Command.TheVariants.{Revoke};
+ghost use Rattle.register_requests.specs.Request.{arguments_text, command_text};
+ghost use Rattle.register_requests.specs.Request.{date_text, edit_text};
 
-use crate::command_fields::{Fields, MAX_WORD_LENGTH};
+use crate::command_fields::MAX_WORD_LENGTH;
 use crate::request::{Command, Edit};
 use crate::values::{Name, Purpose, Quorum};
 use arrayvec::ArrayString;
@@ -99,7 +99,7 @@ fn put_spaced_type_and_period(
     period: Period,
 )
     requires { array_string_len text.old ≤ MAX_WORD_LENGTH }
-    ensures { text.new.bytes ≡ text.old.bytes ++ fields_text (TypeAndPeriod kind period) }
+    ensures { text.new.bytes ≡ text.old.bytes ++ arguments_text (SetPeriod kind period) }
 {
     text.push_str(" ");
     text.push_str(kind.text());
@@ -136,7 +136,7 @@ fn put_spaced_date_edits(
 )
     requires { array_string_len text.old ≤ MAX_WORD_LENGTH }
     ensures { text.new.bytes ≡ text.old.bytes ++
-        fields_text (DateEdits key activation protect_stop deactivation) }
+        arguments_text (SetDates key activation protect_stop deactivation) }
 {
     put_spaced_key_number(text, key);
     put_spaced_edit(text, activation);
@@ -152,7 +152,7 @@ fn put_spaced_revocation(
     occurrence: Option<Moment>,
 )
     requires { array_string_len text.old ≤ MAX_WORD_LENGTH }
-    ensures { text.new.bytes ≡ text.old.bytes ++ fields_text (Revocation key reason occurrence) }
+    ensures { text.new.bytes ≡ text.old.bytes ++ arguments_text (Revoke key reason occurrence) }
 {
     put_spaced_key_number(text, key);
     text.push_str(" ");
@@ -160,43 +160,40 @@ fn put_spaced_revocation(
     put_spaced_date(text, occurrence);
 }
 
-/// Appends the fields, each with a space before it.
-fn put_spaced_fields(text: &mut ArrayString<MAX_COMMAND_LENGTH>, fields: &Fields)
+/// Appends what the command names after its word, each with a space before it.
+fn put_spaced_arguments(text: &mut ArrayString<MAX_COMMAND_LENGTH>, command: &Command)
     requires { array_string_len text.old ≤ MAX_WORD_LENGTH }
-    ensures { text.new.bytes ≡ text.old.bytes ++ fields_text fields.now }
+    ensures { text.new.bytes ≡ text.old.bytes ++ arguments_text command.now }
 {
-    match *fields {
-        Fields::Nothing => {}
-        Fields::Key { key } => put_spaced_key_number(text, key),
-        Fields::KeyAndName { key, ref name }
-        | Fields::KeyAndOwner {
+    match *command {
+        Command::Advance => {}
+        Command::Activate { key }
+        | Command::Approve { key }
+        | Command::Withdraw { key }
+        | Command::Destroy { key } => put_spaced_key_number(text, key),
+        Command::Assign {
             key,
             owner: ref name,
-        } => put_spaced_key_and_name(text, key, name),
-        Fields::KeyAndNeed { key, need } => put_spaced_key_and_need(text, key, need),
-        Fields::TypeAndPeriod { kind, period } => put_spaced_type_and_period(text, kind, period),
-        Fields::Registration {
-            kind,
-            ref owner,
+        }
+        | Command::AddCustodian { key, ref name }
+        | Command::RemoveCustodian { key, ref name } => put_spaced_key_and_name(text, key, name),
+        Command::SetQuorum { key, need } => put_spaced_key_and_need(text, key, need),
+        Command::SetPeriod { kind, period } => put_spaced_type_and_period(text, kind, period),
+        Command::Register(ref new) => {
+            put_spaced_type_and_owner(text, new.kind, &new.owner);
+            put_spaced_date(text, new.activation);
+            put_spaced_date(text, new.protect_stop);
+            put_spaced_date(text, new.deactivation);
+            text.push_str(" ");
+            text.push_str(new.purpose.text());
+        }
+        Command::SetDates {
+            key,
             activation,
             protect_stop,
             deactivation,
-            ref purpose,
-        } => {
-            put_spaced_type_and_owner(text, kind, owner);
-            put_spaced_date(text, activation);
-            put_spaced_date(text, protect_stop);
-            put_spaced_date(text, deactivation);
-            text.push_str(" ");
-            text.push_str(purpose.text());
-        }
-        Fields::DateEdits {
-            key,
-            ref activation,
-            ref protect_stop,
-            ref deactivation,
-        } => put_spaced_date_edits(text, key, *activation, *protect_stop, *deactivation),
-        Fields::Revocation {
+        } => put_spaced_date_edits(text, key, activation, protect_stop, deactivation),
+        Command::Revoke {
             key,
             reason,
             occurrence,
@@ -210,6 +207,6 @@ pub fn command_text(command: &Command) -> CommandText
 {
     let mut text = ArrayString::new();
     text.push_str(command.kind().text());
-    put_spaced_fields(&mut text, &command.fields());
+    put_spaced_arguments(&mut text, command);
     text
 }

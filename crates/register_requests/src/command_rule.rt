@@ -69,21 +69,22 @@ static ACTIVE: [State; 1] = [State::Active];
 static DATED_BY_HAND: [State; 2] = [State::PreActive, State::Active];
 
 impl Command {
-    ghost use Rattle.register_requests.specs.CommandRule.{rule, kind_of};
+    ghost use Rattle.register_requests.specs.CommandKind.{kind_of};
+    ghost use Rattle.register_requests.specs.CommandRule.{rule, looks_at};
 
     /// The command's rule.
     #[rattlefmt::skip]
     pub fn rule(&self) -> Rule
-        ensures kind { result.kind ≡ (rule self.now).kind }
+        ensures kind { result.kind ≡ kind_of self.now }
         ensures giver { result.giver ≡ (rule self.now).giver }
         ensures states { result.states.now ≡ (rule self.now).states }
-        ensures looks_at { result.looks_at ≡ (rule self.now).looks_at }
+        ensures looks_at { result.looks_at ≡ looks_at self.now }
     {
         use CommandKind as Kind;
         use Giver::{Anybody, Custodian, Office, Owner};
         use KeyPart::{Custody, CustodyAndNeed, Row};
         match *self {
-            Command::Register { .. } => {
+            Command::Register(_) => {
                 Rule { kind: Kind::Register, giver: Anybody, states: &State::ALL, looks_at: Row }
             }
             Command::Activate { .. } => {

@@ -11,7 +11,7 @@ ghost use Rattle.register_requests.specs.Name.{IsName};
 ghost use Rattle.register_requests.specs.Number.{IsNumber};
 ghost use Rattle.register_requests.specs.Purpose.{IsPurpose};
 ghost use Rattle.register_requests.specs.Quorum.{IsQuorum};
-ghost use Rattle.register_requests.specs.Request.{IsDate, IsEdit, IsKeyNumber, StandsFor};
+ghost use Rattle.register_requests.specs.Request.{IsDate, IsEdit, IsKeyNumber, IsReadAs};
 ghost use Rattle.register_requests.specs.Request.{date_text, edit_text};
 ghost use Rattle.register_requests.specs.Within.FieldText.{Writes, IsAny, itself, IsItself};
 ghost use Rattle.register_requests.specs.Within.FieldText.{IsShort, reason_text, period_text};
@@ -35,7 +35,7 @@ fn first_space(bytes: &[u8]) -> Option<usize>
 
 /// The field before the first space, and what stands after that space.
 pub(crate) fn split_first_field(bytes: &[u8]) -> Option<(&[u8], &[u8])>
-    ensures { StandsFor (AreSplit IsItself IsItself) bytes.now
+    ensures { IsReadAs (AreSplit IsItself IsItself) bytes.now
         (option_map (λ split. (split.0.now, split.1.now)) result) }
 {
     let end = first_space(bytes)?;
@@ -48,7 +48,7 @@ pub(crate) trait FromBytes: Copy {
 
     /// The value whose text the bytes are, or `None` where they are the text of none.
     fn from_bytes(bytes: &[u8]) -> Option<Self>
-        ensures { StandsFor is_text bytes.now result };
+        ensures { IsReadAs is_text bytes.now result };
 }
 
 // The texts of both with a space between, where the first has none.

@@ -21,7 +21,7 @@ pub use command_fields::{CommandKind, Fields, MAX_WORD_LENGTH, Shape};
 pub use command_format::{CommandText, MAX_COMMAND_LENGTH, command_text, put_number};
 pub use command_rule::{Giver, KeyPart, OFFICE, Rule};
 pub use field_values::{read_decimal, read_key_number, read_request_number};
-pub use request::{Command, Edit, Request};
+pub use request::{Command, Edit, Registration, Request};
 pub use request_line::{MAX_LINE_LENGTH, read_request};
 pub use request_reading::read_command;
 pub use values::{

@@ -15,18 +15,22 @@ pub enum Edit {
     Set(Moment),
 }
 
+/// What a registration gives its key.
+#[derive(Clone, Copy)]
+pub struct Registration {
+    pub kind: KeyType,
+    pub owner: Name,
+    pub activation: Option<Moment>,
+    pub protect_stop: Option<Moment>,
+    pub deactivation: Option<Moment>,
+    pub purpose: Purpose,
+}
+
 /// What a request asks for. Keys are named by their numbers, from 1.
 #[derive(Clone, Copy)]
 pub enum Command {
     /// A new key, with its dates as given.
-    Register {
-        kind: KeyType,
-        owner: Name,
-        activation: Option<Moment>,
-        protect_stop: Option<Moment>,
-        deactivation: Option<Moment>,
-        purpose: Purpose,
-    },
+    Register(Registration),
     /// The key is activated at the request's moment.
     Activate {
         key: u32,

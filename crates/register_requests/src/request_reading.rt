@@ -1,36 +1,36 @@
 //! Reads the command at the end of a line, and the whole request.
 ghost use Rattle.std.specs.Prelude.{◌≡◌, ◌++◌, codes, option_map};
 ghost use Rattle.register_requests.specs.CommandText.{IsCommandItem, IsCommandText};
-ghost use Rattle.register_requests.specs.Request.{IsRequest, StandsFor, request_text};
+ghost use Rattle.register_requests.specs.Request.{IsRequest, IsReadAs, request_text};
 ghost use Rattle.register_requests.specs.Within.FieldText.{Writes, HasNoSpace};
 ghost use Rattle.register_requests.specs.Within.FieldText.{AreFieldsOf, after_word};
 ghost use Rattle.register_requests.specs.declared.command_fields.Shape.TheVariants as shapes;
 
 use crate::command_fields::{CommandKind, Fields, Shape};
 use crate::field_values::{FromBytes, read_key_number, split_first_field};
-use crate::request::{Command, Request};
+use crate::request::{Command, Registration, Request};
 use lifecycle_core::Reason;
 use moment_core::Moment;
 
 /// The fields of a registration.
-fn registration_fields_of(bytes: &[u8]) -> Option<Fields>
-    ensures { StandsFor (AreFieldsOf shapes.Registration) (codes " " ++ bytes.now) result }
+fn read_registration(bytes: &[u8]) -> Option<Fields>
+    ensures { IsReadAs (AreFieldsOf shapes.Registration) (codes " " ++ bytes.now) result }
 {
     let (kind, (owner, (activation, (protect_stop, (deactivation, purpose))))) =
         FromBytes::from_bytes(bytes)?;
-    Some(Fields::Registration {
+    Some(Fields::Registration(Registration {
         kind,
         owner,
         activation,
         protect_stop,
         deactivation,
         purpose,
-    })
+    }))
 }
 
 /// The fields of a change of dates.
-fn date_edit_fields_of(bytes: &[u8]) -> Option<Fields>
-    ensures { StandsFor (AreFieldsOf shapes.DateEdits) (codes " " ++ bytes.now) result }
+fn read_date_edits(bytes: &[u8]) -> Option<Fields>
+    ensures { IsReadAs (AreFieldsOf shapes.DateEdits) (codes " " ++ bytes.now) result }
 {
     let (key, (activation, (protect_stop, deactivation))) = FromBytes::from_bytes(bytes)?;
     Some(Fields::DateEdits {
@@ -42,8 +42,8 @@ fn date_edit_fields_of(bytes: &[u8]) -> Option<Fields>
 }
 
 /// The fields of a revocation, which has an occurrence with a compromise alone.
-fn revocation_fields_of(bytes: &[u8]) -> Option<Fields>
-    ensures { StandsFor (AreFieldsOf shapes.Revocation) (codes " " ++ bytes.now) result }
+fn read_revocation(bytes: &[u8]) -> Option<Fields>
+    ensures { IsReadAs (AreFieldsOf shapes.Revocation) (codes " " ++ bytes.now) result }
 {
     let (key, (reason, occurrence)) = <(u32, (Reason, Option<Moment>))>::from_bytes(bytes)?;
     if occurrence.is_some() && !reason.is_compromise() {
@@ -57,8 +57,8 @@ fn revocation_fields_of(bytes: &[u8]) -> Option<Fields>
 }
 
 /// The fields of this shape, which stand after the space after a word.
-fn fields_of_shape(shape: Shape, bytes: &[u8]) -> Option<Fields>
-    ensures { StandsFor (AreFieldsOf shape) (codes " " ++ bytes.now) result }
+fn read_fields(shape: Shape, bytes: &[u8]) -> Option<Fields>
+    ensures { IsReadAs (AreFieldsOf shape) (codes " " ++ bytes.now) result }
 {
     match shape {
         Shape::Nothing => None,
@@ -79,19 +79,19 @@ fn fields_of_shape(shape: Shape, bytes: &[u8]) -> Option<Fields>
             let (kind, period) = FromBytes::from_bytes(bytes)?;
             Some(Fields::TypeAndPeriod { kind, period })
         }
-        Shape::Registration => registration_fields_of(bytes),
-        Shape::DateEdits => date_edit_fields_of(bytes),
-        Shape::Revocation => revocation_fields_of(bytes),
+        Shape::Registration => read_registration(bytes),
+        Shape::DateEdits => read_date_edits(bytes),
+        Shape::Revocation => read_revocation(bytes),
     }
 }
 
 /// The fields of this shape after a word, which has a space after it or stands alone.
 fn fields_after_word(shape: Shape, after: Option<&[u8]>) -> Option<Fields>
-    ensures { StandsFor (AreFieldsOf shape)
+    ensures { IsReadAs (AreFieldsOf shape)
         (after_word (option_map (λ bytes. bytes.now) after.entry)) result }
 {
     match (after, shape) {
-        (Some(bytes), _) => fields_of_shape(shape, bytes),
+        (Some(bytes), _) => read_fields(shape, bytes),
         (None, Shape::Nothing) => Some(Fields::Nothing),
         (None, _) => None,
     }

@@ -9,12 +9,12 @@ use Rattle.register_store.specs.declared.error.StoreError.{StoreError}
 use Rattle.register_store.specs.declared.error.StoreError.TheVariants.{Memory, NoRegister}
 use Rattle.register_store.specs.Tables.{Tables}
 use Rattle.register_store.specs.TableReads.{ReadsBy, seen}
-use Rattle.register_store.specs.Within.TableReads.{AnswersBy, FindsOne, IsRowOf, ShowsNone}
+use Rattle.register_store.specs.Within.TableReads.{AnswersBy, FindsOne, IsShownBy, ShowsNone}
 
 -- the result is what the answer's row shows; it is no want of memory, and no register's row is refused
 pub record Tells {A : Type 0} (IsOne : A → Type 0) (ShowsOne : Row → A → Type 0) (answer : Result Row Error)
     (result : Result (Option A) StoreError) : Type 0 where
-  pub row : IfOk result (IsRowOf ShowsOne answer)
+  pub row : IfOk result (IsShownBy ShowsOne answer)
   pub failed : IfErr result (λ error. error ≢ Memory)
   pub registered : IfErr result (λ error. error ≡ NoRegister → ShowsNone IsOne ShowsOne answer)
 

@@ -31,13 +31,13 @@ use Rattle.sqlite_schema.specs.declared.schema.Keys.{Keys}
 use Rattle.sqlite_schema.specs.declared.schema.Reference.{Reference}
 use Rattle.sqlite_syntax.specs.declared.statement.Parsed.{Parsed}
 use Rattle.sqlite_tied.specs.Compute.{everything}
-use Rattle.sql_steps.specs.Steps.{Change, StepsBy}
+use Rattle.sql_steps.specs.Steps.{DatabaseChange, StepsBy}
 use Rattle.sql_steps.proofs.Stepping.{stays, steps_as, steps_then}
 use Rattle.register_store.specs.Beside.{HasMetaApart, KeepsOthers, LacksMeta, is_meta}
 use Rattle.register_store.specs.Within.Beside.{Adds, AddsUncounted, InsertsMeta, IsMadeAs, IsUncounted, UpdatesMeta}
 use Rattle.register_store.specs.Within.Beside.{WritesMeta}
 use Rattle.register_store.specs.Within.Schema.{index_text}
-use Rattle.register_store.specs.Within.Tables.{create_text}
+use Rattle.register_store.specs.Tables.{create_statement}
 use Rattle.register_store.specs.declared.key_index.KeyIndex.{KeyIndex}
 use Rattle.register_store.specs.declared.key_index.KeyIndex.TheVariants.{Activation, Deactivation, ProtectStop}
 use Rattle.register_store.specs.declared.table.TableName.{TableName}
@@ -85,7 +85,7 @@ unfolding everything
 counting_as name = search (arith, unreferring)
 
 -- a CREATE TABLE adds its table
-pub table_adds : (name : TableName) (old new : State) (count : ℕ) → Executes (create_text name) [] old new (Ok count)
+pub table_adds : (name : TableName) (old new : State) (count : ℕ) → Executes (create_statement name) [] old new (Ok count)
     → Adds (IsMadeAs name) old.now new.now
 table_adds name =
     let w = whole_is name in search (arith, adds_by_table, counting_is, counting_as, parsed, def_of, unplaced, made_as)
@@ -217,7 +217,7 @@ adds_other name off old new a = adds_weaker (IsMadeAs name) IsOther (other_made 
 
 -- ---- a step of which two things are known
 
-pub steps_both : {A B D E F G : Type 0} (First : A → Change) (Other : B → Change) (Next : D → Change)
+pub steps_both : {A B D E F G : Type 0} (First : A → DatabaseChange) (Other : B → DatabaseChange) (Next : D → DatabaseChange)
     (a b : State) (x : A)
     (y : B) (z : D) → ((old new : Database) → First x old new → Other y old new → Next z old new)
     → StepsBy {E = E} First a b (Ok x) → StepsBy {E = F} Other a b (Ok y) → StepsBy {E = G} Next a b (Ok z)

@@ -16,7 +16,7 @@ use Rattle.moment_core.specs.Moment.{IsMoment}
 use Rattle.register_store.specs.declared.table.TableName.TheVariants.{Meta}
 use Rattle.register_store.specs.Tables.{Layout, fresh, place_of, Counts}
 use Rattle.register_store.specs.Within.Tables.{meta, counts_row}
-use Rattle.register_store.specs.Schema.{schema_with, rows_of}
+use Rattle.register_store.specs.Schema.{schema_with, table_rows}
 use Rattle.register_store.specs.TableChanges.{Makes}
 use Rattle.register_store.specs.Within.TableChanges.{Always, with_counts}
 use Rattle.register_store.proofs.Actions.{idle, shows_all}
@@ -56,7 +56,7 @@ module _ (latest key_count : ℕ) where
   records in_range old new count h t holds always =
       let l = holds.schema.layout in
       let m = sets (schema_with l) (meta l) (classes l (placed t old.now holds) Meta) _ _ _ (sets_counts l) in
-      let ordered : IsTable (rows_of l Meta old.now) = subst IsTable (sym (holds.shown Meta)) (tt, tt) in
+      let ordered : IsTable (table_rows l Meta old.now) = subst IsTable (sym (holds.shown Meta)) (tt, tt) in
       let wrote = changing.changes counts_row (λ _. pos 1) (λ _. refl) (meta l) params passes shown (λ _. after)
       counts_text (schema_with l) (place_of Meta) refl
       m.is m.plain (idle l holds.schema.apart Meta refl 0) (λ db. shows_all db (l.tree Meta))

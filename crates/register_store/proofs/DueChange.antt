@@ -20,7 +20,7 @@ use Rattle.register_store.specs.Tables.{IsKey, key_row}
 use Rattle.register_store.specs.Schema.{Holds}
 use Rattle.register_store.specs.TableChanges.{Makes}
 use Rattle.register_store.specs.Within.TableChanges.{Always, in_state}
-use Rattle.register_store.specs.Within.Due.{is_due, moved_on, state_before, state_after, update_text, with_each}
+use Rattle.register_store.specs.Within.Due.{is_date_due, moved_on, state_before, state_after, update_text, with_each}
 use Rattle.sqlite_resolve.specs.Compile.{first}
 use Rattle.register_store.proofs.ColumnTerms.{key_kept}
 use Rattle.register_store.proofs.KeyChange.{IsUpdate, changed_where, changes_keys, image_of, passes_row}
@@ -51,7 +51,7 @@ module _ (at : ℕ) (moment : IsMoment at) where
 
   module _ (date : DueDate) where
     abbrev is_for : ℕ × Key → Bool
-    is_for p = is_due date at p.1
+    is_for p = is_date_due date at p.1
 
     in_any_place : (n : ℕ) (ks : List Key)
         → map (changed_where is_for (in_state (state_after date))) (enumerate_from n ks) ≡ map (moved_on date at) ks

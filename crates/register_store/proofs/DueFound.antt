@@ -29,10 +29,10 @@ use Rattle.register_core.specs.declared.key.Key.{Key}
 use Rattle.register_store.specs.declared.table.TableName.TheVariants.{Keys}
 use Rattle.register_store.specs.declared.key_scan.DueSearch.{DueSearch}
 use Rattle.register_store.specs.declared.key_scan.DueSearch.TheVariants.{LaterStop, Past, SameStop}
-use Rattle.register_store.specs.KeyScan.{IsAfter}
+use Rattle.register_store.specs.KeyScan.{IsAfterKey}
 use Rattle.register_store.specs.Within.TableReads.{ShowsAt}
 use Rattle.register_store.specs.Schema.{Holds, schema_with}
-use Rattle.register_store.specs.Within.DueSearch.{HasFirst, IsFirst, IsNumbered, cell_cursor, search_text, stop_cell}
+use Rattle.register_store.specs.Within.DueSearch.{HasFirst, IsFirstDue, IsNumbered, cell_cursor, search_text, stop_cell}
 use Rattle.register_store.specs.Tables.{Layout, Tables, key_row, numbered}
 use Rattle.register_store.specs.Within.Tables.{keys}
 use Rattle.register_store.proofs.Asked.{shown_of_table}
@@ -139,12 +139,12 @@ module _ (sql : List ℕ) (query : IsQuery sql) (passes : List Term) (search : I
 
     first_so : (t : Tables) (x y : ℕ × Key) → Has (numbered t.keys) x → Has (numbered t.keys) y
         → (stop_cell x < stop_cell y) ⊎ ((stop_cell x ≡ stop_cell y) × (x.0 ≤ y.0))
-        → (y ≡ x) ⊎ IsAfter (cell_cursor x) (cell_cursor y)
+        → (y ≡ x) ⊎ IsAfterKey (cell_cursor x) (cell_cursor y)
     first_so t x y here there it = grind (arith, cases_lt, one_number)
 
     module _ (check : ℕ × Key → Bool) (check_is : (x : ℕ × Key) → pick x ≡ check x) where
       row_is : (old new : State) (t : Tables) → Holds t old.now → (row : Cells) → QueriesRow sql params old new (Ok row)
-          → (x : ℕ × Key) × IsFirst check t x × (row ≡ cells_of x)
+          → (x : ℕ × Key) × IsFirstDue check t x × (row ≡ cells_of x)
       row_is old new t holds row h =
           let l = holds.schema.layout in
           let m = due_meant sql passes search l (placed t old.now holds) in
@@ -177,7 +177,7 @@ module _ (sql : List ℕ) (query : IsQuery sql) (passes : List Term) (search : I
           let none = subst (λ rs. passing (l.tree Keys) passes shown order params rs ≡ []) (holds.shown Keys) given in
           subst (λ rs. Has rs (key_row x)) none (goes_to (numbered t.keys) x there (check_is x ∙ is))
 
-      each : (t : Tables) (old : State) → Holds t old.now → (x : ℕ × Key) → IsFirst check t x
+      each : (t : Tables) (old : State) → Holds t old.now → (x : ℕ × Key) → IsFirstDue check t x
           → IsNumbered x × ShowsAt (cells_of x) x
       each t old holds x is =
           let at = at_number 1 t.keys x is.there in
@@ -192,5 +192,5 @@ module _ (sql : List ℕ) (query : IsQuery sql) (passes : List Term) (search : I
 
       pub due_read : ReadsRow IsNumbered ShowsAt sql params (HasFirst check)
       due_read =
-          answer_read IsNumbered ShowsAt cells_of sql query params (IsFirst check) (λ t. HasFirst check t None) row_is
+          answer_read IsNumbered ShowsAt cells_of sql query params (IsFirstDue check) (λ t. HasFirst check t None) row_is
           none_is each same (HasFirst check) (λ t x is. is) (λ t none. none)

@@ -13,7 +13,7 @@ use Rattle.register_store.specs.CheckedTables.{AreNewer, IsOdd, ShowsRows, check
 use Rattle.register_store.specs.Within.CheckedTables.{ChecksTable}
 use Rattle.register_store.specs.Stored.{HoldsStored, Part, Stored, with_part}
 use Rattle.register_store.specs.CheckedRows.{HasShown, RefusesEach}
-use Rattle.register_store.specs.Within.CheckedRows.{IsAny}
+use Rattle.register_store.specs.Within.CheckedRows.{IsAnything}
 use Rattle.register_store.specs.OpeningChecks.{MeetsCheck}
 use Rattle.register_store.proofs.Asked.{AnswersTo, IsWithin, ShowsOwn, checks_table}
 use Rattle.register_store.proofs.EachChecked.{odd_on}
@@ -43,11 +43,11 @@ module _ (name : TableName) {A : Type 0} (Shows : Row → A → Type 0) (P : A
     → Type 0) (t : Stored) (are : AreChecked name Shows P t)
     (old new : State) (survives : Survives old new (λ _. ⊥)) where
   abbrev Checked : Result (Unit {0}) CheckError → Type 0
-  Checked q = ChecksTable name t IsAny old new q
+  Checked q = ChecksTable name t IsAnything old new q
 
   pub entries_read : (HasCleanDisk new → ShowsAll (check_text name) (HasShown Shows P) old new) → Checked (Ok tt)
   entries_read all =
-      checks_table name t are.within are.own (newer_not t) IsAny (λ c d x like says. tt) are.one old new (Ok tt)
+      checks_table name t are.within are.own (newer_not t) IsAnything (λ c d x like says. tt) are.one old new (Ok tt)
       (λ clean.
       let it = all clean in
       let met = are.taken it.rows it.holds in
@@ -72,7 +72,7 @@ module _ (name : TableName) {A : Type 0} (Shows : Row → A → Type 0) (P : A
       → (HasCleanDisk new → error ≡ Refused → ShowsFirst (check_text name) (RefusesEach Shows P) old new)
       → (HasCleanDisk new → error ≡ Memory → IsUnchanged old new) → Checked (Err e)
   entries_fail error e is meaning refused memory =
-      checks_table name t are.within are.own (newer_not t) IsAny (λ c d x like says. tt) are.one old new (Err e)
+      checks_table name t are.within are.own (newer_not t) IsAnything (λ c d x like says. tt) are.one old new (Err e)
       (λ clean. tt)
       (search (arith, reason_of, odd))
       survives

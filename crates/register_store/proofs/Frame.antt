@@ -8,12 +8,12 @@ use Rattle.std.specs.Prelude.{List}
 use Rattle.register_store.specs.declared.table.TableName.{TableName}
 use Rattle.register_store.specs.Tables.{Layout, Tables, Content, with_content, IsInRange}
 use Rattle.register_store.specs.Within.Tables.{Shows}
-use Rattle.register_store.specs.Schema.{schema_with, Holds, rows_of}
+use Rattle.register_store.specs.Schema.{schema_with, Holds, table_rows}
 use Rattle.register_store.proofs.EachTable.{each, content_with}
 
 module _ (l : Layout) (written : ℕ → Type 0) (old new : Database) (kept : Kept (schema_with l) written old new) where
   -- a table that was not written has its rows
-  pub rows_kept : (name : TableName) → (written (l.tree name) → ⊥) → rows_of l name new ≡ rows_of l name old
+  pub rows_kept : (name : TableName) → (written (l.tree name) → ⊥) → table_rows l name new ≡ table_rows l name old
   rows_kept name free = search (arith, each, all_has)
 
 -- the tables with another content of this one
@@ -27,7 +27,7 @@ holds_with name c t old new rows holds wrote in_range shows =
       schema = record { layout = l; apart = holds.schema.apart; is = wrote.kept.schema_is };
       sound = wrote.kept.sound;
       in_range = λ other. content_with IsInRange name other c t in_range (λ apart. holds.in_range other);
-      shown = λ other. content_with (λ n held. Shows n held (rows_of l n new)) name other c t
+      shown = λ other. content_with (λ n held. Shows n held (table_rows l n new)) name other c t
           (subst (Shows name c) (sym wrote.rows_are) shows)
           (search arith);
     }

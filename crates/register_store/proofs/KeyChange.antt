@@ -26,9 +26,10 @@ use Rattle.register_core.specs.declared.key.Key.{Key}
 use Rattle.register_requests.specs.Name.{IsName}
 use Rattle.register_store.specs.declared.table.TableName.TheVariants.{Keys}
 use Rattle.register_store.specs.Columns.{joined}
-use Rattle.register_store.specs.Tables.{Layout, fresh, place_of, AreDates, IsKey, date_cell, key_row, numbered}
+use Rattle.register_core.specs.Dates.{AreDates}
+use Rattle.register_store.specs.Tables.{Layout, fresh, place_of, IsKey, date_cell, key_row, numbered}
 use Rattle.register_store.specs.Within.Tables.{keys}
-use Rattle.register_store.specs.Schema.{schema_with, Holds, rows_of}
+use Rattle.register_store.specs.Schema.{schema_with, Holds, table_rows}
 use Rattle.register_store.specs.TableChanges.{Makes, with_owner_and_row, where_number, with_key_at}
 use Rattle.register_store.specs.Within.TableChanges.{Always}
 use Rattle.register_store.proofs.Actions.{idle, shows_all}
@@ -89,7 +90,7 @@ module _ (sql : List ℕ) (passes shown : List Term) (parts : IsUpdate sql passe
     changes_keys image old new count h t holds always =
         let l = holds.schema.layout in
         let m = sets (schema_with l) (keys l) (classes l (placed t old.now holds) Keys) _ _ _ (parts l) in
-        let ordered : IsTable (rows_of l Keys old.now) = subst IsTable (sym (holds.shown Keys)) (is_table t.keys) in
+        let ordered : IsTable (table_rows l Keys old.now) = subst IsTable (sym (holds.shown Keys)) (is_table t.keys) in
         let wrote = changing.changes key_row (λ p. pos p.0) (λ _. refl) (keys l) params passes shown set sql
         (schema_with l) (place_of Keys) refl
         m.is m.plain (idle l holds.schema.apart Keys refl 0) (λ db. shows_all db (l.tree Keys)) image (λ p. refl) old

@@ -1,6 +1,5 @@
 -- What the statements do by which an entry is taken out of a table by its number, and by which one is put in.
-use Rattle.std.proofs.Common.{◌≢◌, ◌==◌, ℕ, [], ◌∷◌, ◌++◌, filter, not, Ok, sym, ap, refl}
-use Rattle.std.proofs.Common.{subst, Bool, Result, arith}
+use Rattle.std.proofs.Common.{◌≢◌, ◌==◌, ℕ, [], ◌∷◌, ◌++◌, filter, not, Ok, sym, ap, refl, subst, Bool, Result, arith}
 use Rattle.std.proofs.lemmas.Bool.{eq-eqb}
 use Rattle.sqlite.specs.Edit.{put_all}
 use Rattle.sqlite.specs.State.{State, Executes}

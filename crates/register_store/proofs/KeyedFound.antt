@@ -17,7 +17,7 @@ use Rattle.sql_steps.proofs.Members.{filter_permutation}
 use Rattle.sql_steps.proofs.SameRows.{map_has}
 use Rattle.sql_steps.proofs.Statements.{picked, is_picked}
 use Rattle.register_store.specs.Tables.{Tables}
-use Rattle.register_store.specs.Schema.{Holds, rows_of}
+use Rattle.register_store.specs.Schema.{Holds, table_rows}
 use Rattle.register_store.proofs.KeyedRows.{one_row}
 use Rattle.register_store.proofs.Readings.{IsSearch, search_by}
 use Rattle.register_store.proofs.AnswersRead.{ReadsRow}
@@ -48,10 +48,10 @@ module _ {A X : Type 0} {s : Setting A X} (set : IsSetting s) (n : ℕ) where
   row_shown r = eval_all (shown s) (number_params n ∷ r ∷ [])
 
   picks : (t : Tables) (old : State) (holds : Holds t old.now)
-      → IsPermutation (picked (number_params n) 0 has_number (shown s) (rows_of holds.schema.layout s.name old.now))
+      → IsPermutation (picked (number_params n) 0 has_number (shown s) (table_rows holds.schema.layout s.name old.now))
       (map s.cells (its_values t))
   picks t old holds =
-      let rows = rows_of holds.schema.layout s.name old.now in
+      let rows = table_rows holds.schema.layout s.name old.now in
       let passing : filter check (map (row s) (s.entries t)) ≡ map (row s) (filter is_its (s.entries t)) =
       filter-map check (row s) (s.entries t) ∙ ap (map (row s)) (filter_same (λ a. check (row s a)) is_its (s.entries t)
       (all_of (λ a. check (row s a) ≡ is_its a) (check_is s (shown s) n) (s.entries t))) in
@@ -93,7 +93,7 @@ module _ {A X : Type 0} {s : Setting A X} (set : IsSetting s) (n : ℕ) where
       let other = first_at (s.entries t) it.0 here.0 here.1 in
       let keys : s.number_of other.0 ≡ s.number_of it.0 = eqb-true _ _ other.3 ∙ sym (eqb-true _ _ here.1) in
       let one = one_row (row s) s.number_of (λ a. refl) (s.entries t)
-      (rows_of holds.schema.layout s.name old.now) (table_shown set t old.now holds) other.0 it.0 other.2 here.0 keys in
+      (table_rows holds.schema.layout s.name old.now) (table_shown set t old.now holds) other.0 it.0 other.2 here.0 keys in
       ap (option_map s.value_of) other.1 ∙ ap (λ y. Some y)
       (set.cells_same (s.value_of other.0) (s.value_of it.0) (ap (drop 2) one) ∙ sym it.2)
 

@@ -24,12 +24,12 @@ use Rattle.register_store.specs.declared.table.TableName.TheVariants.{Keys}
 use Rattle.register_requests.specs.declared.version.Version.{Version}
 use Rattle.register_store.specs.CheckedTables.{IsOdd, ShowsNumbered, ShowsRows, check_error, check_text, mark_of}
 use Rattle.register_store.specs.Within.CheckedTables.{ChecksTable}
-use Rattle.register_store.specs.Schema.{rows_of}
+use Rattle.register_store.specs.Schema.{table_rows}
 use Rattle.std.specs.Bool.{then_some}
 use Rattle.std.specs.Option.{ok_or}
 use Rattle.register_store.specs.Stored.{HoldsStored, Stored, mark}
 use Rattle.register_store.specs.Tables.{Counts, IsKey, key_row, numbered}
-use Rattle.register_store.specs.CheckedRows.{AreCounted, HasKeys, RefusesKeys}
+use Rattle.register_store.specs.CheckedRows.{AreCounted, HasCountedKeys, RefusesKeys}
 use Rattle.register_store.specs.Within.CheckedRows.{AreOwners, owners_where}
 use Rattle.register_store.specs.OpeningChecks.{IsSoundAt, owners_of}
 use Rattle.register_store.proofs.Actions.{shows_all}
@@ -72,7 +72,7 @@ ends n (k ∷ j ∷ keys) e =
 -- ---- one row after the other
 
 module _ (found : Found) (count : ℕ) (owners : List (List ℕ)) (rows : List Row) (row : Row)
-    (taken : HasKeys found count owners rows) where
+    (taken : HasCountedKeys found count owners rows) where
   more_are : (keys : List Key) → AreCounted found (rows ++ row ∷ []) keys → length keys ≡ suc count
   more_are keys are = search (arith, show_length, length_numbered, length-append)
 
@@ -95,7 +95,7 @@ module _ (found : Found) (count : ℕ) (owners : List (List ℕ)) (rows : List R
   -- the row of the next key
   pub keys_more : count < found.keys → (k : Key) → ShowsNumbered row (count + 1, k)
       → IsSoundAt found.version found.latest k → (more : List (List ℕ)) → more ≡ owners ++ k.owner ∷ []
-      → HasKeys found (count + 1) more (rows ++ row ∷ [])
+      → HasCountedKeys found (count + 1) more (rows ++ row ∷ [])
   keys_more room k shows sound more is =
       let counted = taken.counted in
       let next : count + 1 ≡ 1 + length taken.keys = omega (arith, counted) in
@@ -112,7 +112,7 @@ own_shown n (k ∷ keys) all = search (arith, shows_key, own_shown (n + 1) keys 
 pub own_keys : (t : Stored) (db : Db) (rows : List Row) (holds : HoldsStored t db)
     → AnswersTo holds.schema.layout Keys db rows → ShowsOwn Keys t rows
 own_keys t db rows holds sure =
-    let table : IsTable (rows_of holds.schema.layout Keys db) = grind (arith, is_table) in
+    let table : IsTable (table_rows holds.schema.layout Keys db) = grind (arith, is_table) in
     let is = in_order (holds.schema.layout.tree Keys) (shown_of_table Keys) (overlay db.trees []) rows
     (subst IsTable (sym (shows_all db.trees (holds.schema.layout.tree Keys))) table) sure
     ∙ ap (map (shown_of 0 (shown_of_table Keys))) (search (arith, shows_all)) in
@@ -136,7 +136,7 @@ one_keys rows c d x y =
 -- ---- what was read
 
 -- no row yet
-pub keys_begin : (found : Found) (owners : List (List ℕ)) → owners ≡ [] → HasKeys found 0 owners []
+pub keys_begin : (found : Found) (owners : List (List ℕ)) → owners ≡ [] → HasCountedKeys found 0 owners []
 keys_begin found owners none = search arith
 
 module _ (t : Stored) (found : Found) (told : mark_of found ≡ mark t) (old new : State)
@@ -156,7 +156,7 @@ module _ (t : Stored) (found : Found) (told : mark_of found ≡ mark t) (old new
 
   -- all of them
   pub keys_read : (count : ℕ) (owners : Vec (List ℕ))
-      → (HasCleanDisk new → ShowsAll (check_text Keys) (HasKeys found count owners.items) old new)
+      → (HasCleanDisk new → ShowsAll (check_text Keys) (HasCountedKeys found count owners.items) old new)
       → (HasCleanDisk new → count ≡ found.keys) → Checked (Ok owners)
   keys_read count owners all is =
       checks_table Keys t keys_within (own_keys t) (newer_not t) AreOwners
@@ -166,7 +166,7 @@ module _ (t : Stored) (found : Found) (told : mark_of found ≡ mark t) (old new
 
   -- fewer than are counted
   pub keys_fewer : (count : ℕ) (owners : List (List ℕ))
-      → (HasCleanDisk new → ShowsAll (check_text Keys) (HasKeys found count owners) old new)
+      → (HasCleanDisk new → ShowsAll (check_text Keys) (HasCountedKeys found count owners) old new)
       → (HasCleanDisk new → count ≢ found.keys) → Checked (Err NotARegister)
   keys_fewer count owners all off =
       checks_table Keys t keys_within (own_keys t) (newer_not t) AreOwners
@@ -188,8 +188,8 @@ module _ (t : Stored) (found : Found) (told : mark_of found ≡ mark t) (old new
 
   -- what is given of them
   module _ (seen : Found) (count : ℕ) (owners : Vec (List ℕ)) (all : HasCleanDisk new
-      → ShowsAll (check_text Keys) (λ rows. (seen ≡ found) × HasKeys found count owners.items rows) old new) where
-    taken : HasCleanDisk new → ShowsAll (check_text Keys) (HasKeys found count owners.items) old new
+      → ShowsAll (check_text Keys) (λ rows. (seen ≡ found) × HasCountedKeys found count owners.items rows) old new) where
+    taken : HasCleanDisk new → ShowsAll (check_text Keys) (HasCountedKeys found count owners.items) old new
     taken clean = let it = all clean in record { rows = it.rows; shown = it.shown; holds = it.holds.1; same = it.same }
 
     seen_is : HasCleanDisk new → seen.keys ≡ found.keys

@@ -38,8 +38,7 @@ use Rattle.sqlite_value.specs.declared.keys.Collation.{Collation}
 use Rattle.register_store.specs.declared.table.TableName.{TableName}
 use Rattle.register_requests.specs.declared.version.Version.{Version}
 use Rattle.register_requests.specs.Version.{current}
-use Rattle.register_store.specs.Tables.{Layout, AreApartIn, Tables, all_tables, place_of}
-use Rattle.register_store.specs.Tables.{table_count, table_of}
+use Rattle.register_store.specs.Tables.{Layout, AreApartIn, Tables, all_tables, place_of, table_count, table_of}
 use Rattle.register_store.specs.Schema.{Holds, HoldsIn, schema_in, schema_with}
 use Rattle.register_store.proofs.EachTable.{AreApart, each, in_version, low_in_version, placed_low, same_place}
 

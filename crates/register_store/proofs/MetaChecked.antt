@@ -21,7 +21,7 @@ use Rattle.register_requests.specs.Version.{version_number}
 use Rattle.register_store.specs.CheckedTables.{HasNewer, IsOdd, IsReasonAt, ShowsCounts, ShowsRows, check_error}
 use Rattle.register_store.specs.CheckedTables.{check_text}
 use Rattle.register_store.specs.Within.CheckedTables.{ChecksTable}
-use Rattle.register_store.specs.Schema.{rows_of}
+use Rattle.register_store.specs.Schema.{table_rows}
 use Rattle.register_store.specs.Stored.{HoldsStored, Stored, mark, with_part}
 use Rattle.register_store.specs.Tables.{Counts, counts_row_in, version}
 use Rattle.register_store.specs.OpeningChecks.{MeetsCheck}
@@ -43,7 +43,7 @@ meta_within t = in_both Meta (omega arith) t.version
 pub own_meta : (t : Stored) (db : Db) (rows : List Row) (holds : HoldsStored t db)
     → AnswersTo holds.schema.layout Meta db rows → ShowsOwn Meta t rows
 own_meta t db rows holds sure =
-    let table : IsTable (rows_of holds.schema.layout Meta db) = subst IsTable (sym (holds.shown Meta)) (tt, tt) in
+    let table : IsTable (table_rows holds.schema.layout Meta db) = subst IsTable (sym (holds.shown Meta)) (tt, tt) in
     let is : rows
     ≡ the_row t.version t.tables.counts ∷ [] = in_order (holds.schema.layout.tree Meta) (shown_of_table Meta)
     (overlay db.trees []) rows (subst IsTable (sym (shows_all db.trees (holds.schema.layout.tree Meta))) table)

@@ -34,7 +34,7 @@ use Rattle.register_store.specs.Within.Roles.{change_text, with_role_changed}
 use Rattle.register_store.specs.Tables.{to_custodian, place_of, table_of, Layout, Tables, ShowsEntries, IsNamed}
 use Rattle.register_store.specs.Tables.{IsInRange, content, name_cells}
 use Rattle.register_store.specs.Within.Tables.{custodian, approval, Shows}
-use Rattle.register_store.specs.Schema.{schema_with, Holds, rows_of}
+use Rattle.register_store.specs.Schema.{schema_with, Holds, table_rows}
 use Rattle.register_store.specs.TableChanges.{Makes}
 use Rattle.register_store.specs.Within.TableChanges.{Always, without_custodian, without_approval, without_approvals}
 use Rattle.register_store.specs.Within.TableChanges.{without_name}
@@ -72,7 +72,7 @@ module _ (sql : List ℕ) (params : Cells) (at : List Term) (parts : IsDelete sq
       (λ olds. idle l holds.schema.apart Approval refl 0 olds []) (λ db. shows_all db (l.tree Approval)) old new
       count h holds.schema.is shown.ordered shown.counted in
       let rows = shows_filtered name_cells (λ r. not (is_picked params 0 at ids_shown r)) (λ entry. not (q entry))
-      (λ r. ap not (past r)) (λ entry. ap not (each entry)) t.approvals (rows_of l Approval old.now) shown in
+      (λ r. ap not (past r)) (λ entry. ap not (each entry)) t.approvals (table_rows l Approval old.now) shown in
       holds_with Approval (left t).approvals t old.now new.now _ holds wrote
       (all-filter IsNamed (λ entry. not (q entry)) t.approvals (holds.in_range Approval)) rows
 
@@ -122,22 +122,22 @@ stands a b none e = search arith
 
 -- whoever approves is a custodian
 approver : (db : Database) (t : Tables) (holds : Holds t db) (r : Cells)
-    → Has (rows_of holds.schema.layout Approval db) r → (x : Cells) × Has (rows_of holds.schema.layout Custodian db) x
+    → Has (table_rows holds.schema.layout Approval db) r → (x : Cells) × Has (table_rows holds.schema.layout Custodian db) x
     × (drop 1 r ≡ drop 1 x)
 approver db t holds r h =
     let l = holds.schema.layout in
-    let a = entry_of name_cells t.approvals (rows_of l Approval db) (holds.shown Approval) r h in
+    let a = entry_of name_cells t.approvals (table_rows l Approval db) (holds.shown Approval) r h in
     let rules = subst (λ (s : Schema). Keeps ForeignKey s db.trees) holds.schema.is
     (holds.sound.obeys.rules ForeignKey) in
     let followed = all_has (λ (table : Table). AllByRecursion
     (λ row. passes ForeignKey (schema_with l) db.trees table row ≡ true) (db.trees table.tree))
     (schema_with l).tables (approval l) rules ((each Approval).listed l) in
     let passing = all_has (λ row. passes ForeignKey (schema_with l) db.trees (approval l) row ≡ true)
-    (rows_of l Approval db) r followed h in
+    (table_rows l Approval db) r followed h in
     let full : has_null places r ≡ false = null_past r ∙ ap (λ cells. has_null places (Null ∷ cells)) a.1 in
     let held = stands _ _ full (search (arith, places, parent_is)) in
-    let x = some_has (λ parent. agree plain places parent places r) (rows_of l Custodian db) held in
-    let b = entry_of name_cells t.custodians (rows_of l Custodian db) (holds.shown Custodian) x.0 x.1 in
+    let x = some_has (λ parent. agree plain places parent places r) (table_rows l Custodian db) held in
+    let b = entry_of name_cells t.custodians (table_rows l Custodian db) (holds.shown Custodian) x.0 x.1 in
     (x.0, x.1, sym (same_cells x.0 r b.0 a.0 b.1 a.1 x.2))
 
 module _ (key : ℕ) (name : List ℕ) where
@@ -154,23 +154,23 @@ module _ (key : ℕ) (name : List ℕ) where
   same_check r x same = past r ∙ ap (λ cells. passing (Null ∷ cells)) same ∙ sym (past x)
 
   module _ (db : Database) (t : Tables) (holds : Holds t db) where
-    from_custodian : (r : Cells) → Has (rows_of holds.schema.layout Approval db) r → passing r ≡ true
-        → (x : Cells) × Has (rows_of holds.schema.layout Custodian db) x × (passing x ≡ true)
+    from_custodian : (r : Cells) → Has (table_rows holds.schema.layout Approval db) r → passing r ≡ true
+        → (x : Cells) × Has (table_rows holds.schema.layout Custodian db) x × (passing x ≡ true)
         × (loses plain places (x, []) ≡ true) × (agree plain places r places x ≡ true)
     from_custodian r h is =
         let l = holds.schema.layout in
         let x = approver db t holds r h in
-        let a = entry_of name_cells t.approvals (rows_of l Approval db) (holds.shown Approval) r h in
+        let a = entry_of name_cells t.approvals (table_rows l Approval db) (holds.shown Approval) r h in
         let of_x = sym x.2 ∙ a.1 in
         (x.0, x.1, sym (same_check r x.0 x.2) ∙ is, loses_name x.0 a.0 of_x, agree_same r x.0 a.0 a.1 of_x)
 
-    of_custodian : (r x : Cells) → Has (rows_of holds.schema.layout Approval db) r
-        → Has (rows_of holds.schema.layout Custodian db) x → passing x ≡ true → agree plain places r places x ≡ true
+    of_custodian : (r x : Cells) → Has (table_rows holds.schema.layout Approval db) r
+        → Has (table_rows holds.schema.layout Custodian db) x → passing x ≡ true → agree plain places r places x ≡ true
         → passing r ≡ true
     of_custodian r x h k is agrees =
         let l = holds.schema.layout in
-        let a = entry_of name_cells t.approvals (rows_of l Approval db) (holds.shown Approval) r h in
-        let b = entry_of name_cells t.custodians (rows_of l Custodian db) (holds.shown Custodian) x k in
+        let a = entry_of name_cells t.approvals (table_rows l Approval db) (holds.shown Approval) r h in
+        let b = entry_of name_cells t.custodians (table_rows l Custodian db) (holds.shown Custodian) x k in
         same_check r x (same_cells r x a.0 b.0 a.1 b.1 agrees) ∙ is
 
   without : (entries : List KeyName) (rows : List Cells) → ShowsEntries name_cells entries rows
@@ -208,12 +208,12 @@ module _ (key : ℕ) (name : List ℕ) where
             (λ _. content_with IsInRange Custodian n left t
             (all-filter IsNamed (λ entry. not (is_key_name key name entry)) t.custodians (holds.in_range Custodian))
             (λ _. holds.in_range n));
-        shown = λ n. content_with (λ m held. Shows m held (rows_of l m new.now)) Approval n approving fewer
+        shown = λ n. content_with (λ m held. Shows m held (table_rows l m new.now)) Approval n approving fewer
             (subst (ShowsEntries name_cells approving) (sym did.children_are)
-            (without t.approvals (rows_of l Approval old.now) approvals))
-            (λ no_approval. content_with (λ m held. Shows m held (rows_of l m new.now)) Custodian n left t
+            (without t.approvals (table_rows l Approval old.now) approvals))
+            (λ no_approval. content_with (λ m held. Shows m held (table_rows l m new.now)) Custodian n left t
             (subst (ShowsEntries name_cells left) (sym did.parents_are)
-            (without t.custodians (rows_of l Custodian old.now) custodians))
+            (without t.custodians (table_rows l Custodian old.now) custodians))
             (λ no_custodian. subst (Shows n (content n t))
             (sym (other n (λ written. elim written [
               | inl e ↦ no_custodian (apart_all l holds.schema.apart n Custodian e)

@@ -33,7 +33,7 @@ use Rattle.register_store.specs.Within.Roles.{names_of, select_text}
 use Rattle.register_store.specs.TableReads.{HoldsWhereOpen, IsOpenStill, ReadsBy}
 use Rattle.register_store.specs.Within.TableReads.{AreNamesOf, HasNoName}
 use Rattle.register_store.specs.Tables.{Layout, Tables, table_of, IsNamed, ShowsEntries, name_cells}
-use Rattle.register_store.specs.Schema.{schema_with, Holds, rows_of}
+use Rattle.register_store.specs.Schema.{schema_with, Holds, table_rows}
 use Rattle.register_store.proofs.Actions.{shows_all}
 use Rattle.register_store.proofs.Meanings.{Asks, asks, classes, placed}
 use Rattle.register_store.proofs.EntryRows.{picks_entries}
@@ -100,7 +100,7 @@ module _ (sql : List ℕ) (table : TableName) (search_is : IsNameSearch sql tabl
       (key_is 0 name_shown key) (shown_past params) entries rows shows))
 
   module _ (entries_of : Tables → List KeyName) (shown : (t : Tables) (old : State) (holds : Holds t old.now)
-      → ShowsEntries name_cells (entries_of t) (rows_of holds.schema.layout table old.now))
+      → ShowsEntries name_cells (entries_of t) (table_rows holds.schema.layout table old.now))
       (in_range : (t : Tables) (old : State) → Holds t old.now → AllByRecursion IsNamed (entries_of t))
       (old new : State)
       (survives : Survives old new (CommitsShowing sql params old)) where
@@ -213,5 +213,5 @@ names_ranged role.Custodian t old holds = holds.in_range Custodian
 names_ranged role.Approver t old holds = holds.in_range Approval
 
 pub names_shown : (role : Role) (t : Tables) (old : State) (holds : Holds t old.now)
-    → ShowsEntries name_cells (names_of role t) (rows_of holds.schema.layout (table_at role) old.now)
+    → ShowsEntries name_cells (names_of role t) (table_rows holds.schema.layout (table_at role) old.now)
 names_shown role t old holds = search arith

@@ -26,9 +26,8 @@ use Rattle.register_store.specs.declared.table.TableName.TheVariants.{Meta, Keys
 use Rattle.register_store.specs.declared.table.TableName.TheVariants.{Quorum}
 use Rattle.register_requests.specs.declared.version.Version.TheVariants.{First}
 use Rattle.register_store.specs.Within.Migration.{MakesNext}
-use Rattle.register_store.specs.Schema.{rows_of, schema_below}
-use Rattle.register_store.specs.Tables.{AreApartBelow, Layout, place_of, table_count}
-use Rattle.register_store.specs.Within.Tables.{create_text}
+use Rattle.register_store.specs.Schema.{table_rows, schema_below}
+use Rattle.register_store.specs.Tables.{AreApartBelow, Layout, place_of, table_count, create_statement}
 use Rattle.register_store.proofs.EachTable.{unplaced, same_place}
 use Rattle.register_store.proofs.NextTexts.{makes_table, refused}
 use Rattle.register_store.proofs.TableTexts.{def_of, parsed, whole_is}
@@ -67,7 +66,7 @@ not_executed text old new count s e has is h = let known = sym h.1.is ∙ ap (λ
 
 -- where an index has the table's name the statement is refused, and else it makes the table
 creates : (name : TableName) → IsNew name → (l : Layout) (old new : State) (count : ℕ)
-    → Executes (create_text name) [] old new (Ok count) → old.now.schema ≡ before name l
+    → Executes (create_statement name) [] old new (Ok count) → old.now.schema ≡ before name l
     → Created (before name l) (unplaced name) old.now new.now × IsDatabase new.now
 creates name is l old new count h has = by (index_named (before name l) (def_of name).name) refl
   where
@@ -79,19 +78,19 @@ creates name is l old new count h has = by (index_named (before name l) (def_of 
     by None none =
         let free = is_free name is l in
         let it = whole_is name in
-        let known = makes_table (create_text name) (parsed name) (def_of name) (unplaced name) it.text s
+        let known = makes_table (create_statement name) (parsed name) (def_of name) (unplaced name) it.text s
         free.bare free.no_table free.no_view none in
-        let plain : IsPlain (understood s (create_text name)) = subst IsPlain (sym known) (refl, refl) in
-        let whole = ap (statement_of (create_text name)) known ∙ it.whole in
-        let w = runs_as (create_text name) [] old new s has MakeTable (ap command_of known) plain count h in (
-          makes s (unplaced name) (create_text name) (ap command_of known) whole plain (unplaced name) it.defined refl
+        let plain : IsPlain (understood s (create_statement name)) = subst IsPlain (sym known) (refl, refl) in
+        let whole = ap (statement_of (create_statement name)) known ∙ it.whole in
+        let w = runs_as (create_statement name) [] old new s has MakeTable (ap command_of known) plain count h in (
+          makes s (unplaced name) (create_statement name) (ap command_of known) whole plain (unplaced name) it.defined refl
               (uncounted name is l) old new count h has,
           w.sound,
         )
     by (Some n) some =
         let free = is_free name is l in
-        absurd (not_executed (create_text name) old new count s Exists has
-        (refused (create_text name) (parsed name) (def_of name) (unplaced name) (whole_is name).text s free.bare
+        absurd (not_executed (create_statement name) old new count s Exists has
+        (refused (create_statement name) (parsed name) (def_of name) (unplaced name) (whole_is name).text s free.bare
         free.no_table free.no_view n some) h)
 
 -- ---- trees
@@ -169,14 +168,14 @@ module _ (name : TableName) (is : IsNew name) (l : Layout) where
   -- the rows of the tables before it stay
   rows_stay : (old new : Database) → KeepsRows (before name l).tables old.trees new.trees → (other : TableName)
       → place_of other < place_of name → (place_of other ≡ place_of name → ⊥)
-      → rows_of (layout_with name l) other new ≡ rows_of l other old
+      → table_rows (layout_with name l) other new ≡ table_rows l other old
   rows_stay old new kept other low off = search (arith, listed, all_has)
 
 is_new : (name : TableName) → table_count First ≤ place_of name → IsNew name
 is_new name high = search arith
 
 pub makes_next : (name : TableName) → table_count First ≤ place_of name → (old new : State) (count : ℕ)
-    → Executes (create_text name) [] old new (Ok count) → MakesNext name old.now new.now
+    → Executes (create_statement name) [] old new (Ok count) → MakesNext name old.now new.now
 makes_next name high old new count h t has =
     let is = is_new name high in
     let l = has.layout in

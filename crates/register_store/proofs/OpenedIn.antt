@@ -16,7 +16,7 @@ use Rattle.register_store.specs.declared.found.Found.{Found}
 use Rattle.register_store.specs.CheckedTables.{BlamesNone, ChecksBy, Passes}
 use Rattle.register_store.specs.Creation.{FindsBy}
 use Rattle.register_store.specs.Migration.{HasNewTable, Migrates}
-use Rattle.register_store.specs.OpenedTables.{ChangesNothing, HasCommittedIn, IsRefusal, MigratesTo, OpensBy}
+use Rattle.register_store.specs.OpenedTables.{ChangesNoTable, HasCommittedIn, IsRefusal, MigratesTo, OpensBy}
 use Rattle.register_store.specs.OpenedTables.{migration_error}
 use Rattle.register_store.specs.Schema.{HoldsIn}
 use Rattle.register_store.specs.Stored.{HoldsStored, Stored}
@@ -174,7 +174,7 @@ first_fails a b d found first checks e did there (Err x) is = subst (λ x. Opens
         inr (search (arith, passes_before, version_of))
     why (Refused error) did there clean = tt
 
-    kept : (e : CreateError) → (e ≡ HasTables → FindsBy HasNewTable b d) → ChangesNothing (migration_error e)
+    kept : (e : CreateError) → (e ≡ HasTables → FindsBy HasNewTable b d) → ChangesNoTable (migration_error e)
         → Survives a d (λ _. ⊥)
     kept HasTables there nothing =
         survives_then a b d (λ _. ⊥) (λ _. ⊥) (λ _. ⊥) (λ clean db none. none) (λ clean db none. none) checks.survives

@@ -23,7 +23,7 @@ use Rattle.register_requests.specs.Request.{command_text}
 use Rattle.register_store.specs.declared.table.TableName.TheVariants.{Request}
 use Rattle.register_store.specs.Tables.{Layout, Tables, request_cells, state_cell, table_of}
 use Rattle.register_store.specs.Columns.{request_columns, select}
-use Rattle.register_store.specs.Schema.{schema_with, Holds, rows_of}
+use Rattle.register_store.specs.Schema.{schema_with, Holds, table_rows}
 use Rattle.register_store.specs.TableForms.{name_of}
 use Rattle.register_store.specs.TableReads.{HasRequest, ShowsRequest}
 use Rattle.register_store.proofs.ColumnTerms.{shown_from}
@@ -87,10 +87,10 @@ module _ (caller : List ℕ) (number : ℕ) where
   matching t = kept_under caller number t.requests
 
   picks : (t : Tables) (old : State) (holds : Holds t old.now)
-      → IsPermutation (picked params 0 under answer_shown (rows_of holds.schema.layout Request old.now))
+      → IsPermutation (picked params 0 under answer_shown (table_rows holds.schema.layout Request old.now))
       (map answer_cells (matching t))
   picks t old holds = picks_entries request_cells params 0 under answer_shown (is_under caller number) past under_is
-      shown_past t.requests (rows_of holds.schema.layout Request old.now) (holds.shown Request)
+      shown_past t.requests (table_rows holds.schema.layout Request old.now) (holds.shown Request)
 
   abbrev ShowsOne : Cells → KeptReply → Type 0
   ShowsOne = ShowsRequest caller number

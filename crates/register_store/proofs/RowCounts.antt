@@ -3,7 +3,7 @@ use Rattle.std.proofs.Common.{◌≡◌, ◌<◌, inl, inr, ℕ, List, [], Bool,
 use Rattle.std.proofs.Common.{arith}
 use Rattle.sqlite.specs.declared.error.Error.{Error}
 use Rattle.sqlite.specs.declared.error.Error.TheVariants.{SqlInputError}
-use Rattle.sqlite.specs.Effect.{Database}
+use Rattle.sqlite.specs.Effect.{Database, IsDatabase}
 use Rattle.sqlite.specs.Listing.{understood}
 use Rattle.sqlite.specs.Query.{Query}
 use Rattle.sqlite.specs.Schema.{Schema}
@@ -24,9 +24,9 @@ use Rattle.register_store.specs.declared.table.TableName.{TableName}
 use Rattle.register_store.specs.declared.table.TableName.TheVariants.{Meta}
 use Rattle.register_store.specs.Creation.{HasMeaning, HasTable, IsThere}
 use Rattle.register_store.specs.Within.Creation.{Answers, LacksFirst}
-use Rattle.register_store.specs.Schema.{HoldsIn, schema_in}
-use Rattle.register_store.specs.Tables.{Layout, Tables, all_tables, count_text, place_of, table_count, table_of}
-use Rattle.register_store.proofs.Meanings.{Asks, asks, classes_in, placed_as}
+use Rattle.register_store.specs.Schema.{IsRegisterIn, schema_in}
+use Rattle.register_store.specs.Tables.{Layout, all_tables, count_text, place_of, table_count, table_of}
+use Rattle.register_store.proofs.Meanings.{Asks, asks, classes_in, placed_of}
 
 select_of : (name : TableName) → IsSelect (count_text name)
 unfolding everything first
@@ -89,11 +89,11 @@ first_low version = search arith
 means_one : (schema : Schema) (sql : List ℕ) → IsPlain (understood schema sql) → HasMeaning schema sql
 means_one schema sql plain = search arith
 
-pub has_table : (version : Version) (t : Tables) (db : Database) → HoldsIn version t db → HasTable db.schema
-has_table version t db holds =
-    let l = holds.schema.layout in
+pub has_table : (version : Version) (db : Database) → IsRegisterIn version db.schema → IsDatabase db → HasTable db.schema
+has_table version db register sound =
+    let l = register.layout in
     let q = counts version l in
     let within = first_low version in
-    let meant = asks (schema_in version l) (table_of l Meta) (classes_in version l (placed_as version t db holds) Meta
-    within) (count_text Meta) q.0 q.1 q.2 in
-    (Meta, subst (IsThere Meta) (sym holds.schema.is) (means_one (schema_in version l) (count_text Meta) meant.plain))
+    let meant = asks (schema_in version l) (table_of l Meta) (classes_in version l
+    (placed_of version l db register.is register.apart sound) Meta within) (count_text Meta) q.0 q.1 q.2 in
+    (Meta, subst (IsThere Meta) (sym register.is) (means_one (schema_in version l) (count_text Meta) meant.plain))

@@ -22,7 +22,7 @@ use Rattle.register_store.specs.Columns.{select}
 use Rattle.register_store.specs.TableForms.{Named, name_of}
 use Rattle.register_store.specs.Tables.{Form, Layout, ShowsKeyed, ShowsSinceSecond, Tables, form}
 use Rattle.register_store.specs.Tables.{place_of, table_of, with_content}
-use Rattle.register_store.specs.Schema.{Holds, rows_of, schema_with}
+use Rattle.register_store.specs.Schema.{Holds, table_rows, schema_with}
 use Rattle.register_store.proofs.ColumnTerms.{inserted, inserts, shown_from}
 use Rattle.register_store.proofs.EachTable.{AreApart, content_is, each}
 use Rattle.register_store.proofs.EntryAdded.{IsInsert}
@@ -143,9 +143,9 @@ pub record IsSetting {A X : Type 0} (s : Setting A X) : Type 1 where
 
 module _ {A X : Type 0} {s : Setting A X} (is : IsSetting s) where
   pub table_shown : (t : Tables) (db : Database) (holds : Holds t db)
-      → ShowsKeyed (row s) (s.entries t) (rows_of holds.schema.layout s.name db)
+      → ShowsKeyed (row s) (s.entries t) (table_rows holds.schema.layout s.name db)
   table_shown t db holds =
-      subst (λ (f : Formed). f.0.Shows current (f.0.content t) (rows_of holds.schema.layout s.name db)) is.form_is
+      subst (λ (f : Formed). f.0.Shows current (f.0.content t) (table_rows holds.schema.layout s.name db)) is.form_is
       (holds.shown s.name)
 
   pub tree_shown : (t : Tables) (db : Database) (holds : Holds t db)

@@ -15,7 +15,7 @@ use Rattle.sqlite_tied.specs.Compute.{everything}
 use Rattle.register_store.specs.declared.table.TableName.{TableName}
 use Rattle.register_store.specs.declared.table.TableName.TheVariants.{Meta, Keys, Custodian, Approval, Request, Period}
 use Rattle.register_store.specs.declared.table.TableName.TheVariants.{Quorum}
-use Rattle.register_store.specs.Within.Tables.{create_text}
+use Rattle.register_store.specs.Tables.{create_statement}
 use Rattle.register_store.proofs.EachTable.{unplaced}
 use Rattle.register_store.proofs.NextTexts.{IsText}
 
@@ -28,7 +28,7 @@ read_as (Ok p) = p
 read_as (Err e) = no_text
 
 abbrev pub parsed : TableName → Parsed
-parsed name = read_as (first (create_text name))
+parsed name = read_as (first (create_statement name))
 
 abbrev no_table : CreateTable
 no_table = record {
@@ -74,11 +74,11 @@ wanted name = record {
   reserved = false;
   table = Ok (unplaced name);
   resolves = false;
-  whole = create_text name;
+  whole = create_statement name;
 }
 
 -- and a table has as many computed columns as its stamps have places
-says : (name : TableName) → (facts_of (create_text name) (first (create_text name)) ≡ Some (wanted name))
+says : (name : TableName) → (facts_of (create_statement name) (first (create_statement name)) ≡ Some (wanted name))
     × (nat_eq (length (unplaced name).computed) (length (unplaced name).stamps.places) ≡ true)
 unfolding everything
 says Meta = (refl, refl)
@@ -112,10 +112,10 @@ reads : (text : List ℕ) (r : Result Parsed CompileError) (facts : Facts) → f
 reads text (Ok p) facts e = reads_in text p p.statement facts refl e
 reads text (Err e) facts is = absurd (cc)
 
-reads_table : (name : TableName) → Reads (create_text name) (first (create_text name)) (wanted name)
+reads_table : (name : TableName) → Reads (create_statement name) (first (create_statement name)) (wanted name)
 reads_table name = reads _ _ _ (says name).0
 
-is_text : (name : TableName) → IsText (create_text name) (parsed name) (def_of name) (unplaced name)
+is_text : (name : TableName) → IsText (create_statement name) (parsed name) (def_of name) (unplaced name)
 is_text name =
     let it = reads_table name in
     let resolves = ap (λ (f : Facts). f.resolves) it.has in
@@ -135,9 +135,9 @@ defined_by text p def table t = rw (t.parsed, t.is) t.defined
 
 -- the text is that of the table, from its first byte to its last
 pub record IsWhole (name : TableName) : Type 0 where
-  pub text : IsText (create_text name) (parsed name) (def_of name) (unplaced name)
-  pub whole : slice_range (create_text name) (parsed name).start (parsed name).end ≡ create_text name
-  pub defined : table_defined_by (create_text name) ≡ Ok (unplaced name)
+  pub text : IsText (create_statement name) (parsed name) (def_of name) (unplaced name)
+  pub whole : slice_range (create_statement name) (parsed name).start (parsed name).end ≡ create_statement name
+  pub defined : table_defined_by (create_statement name) ≡ Ok (unplaced name)
 
 pub whole_is : (name : TableName) → IsWhole name
 whole_is name = record {

@@ -22,9 +22,8 @@ use Rattle.register_store.specs.declared.table.TableName.{TableName}
 use Rattle.register_store.specs.declared.table.TableName.TheVariants.{Meta, Keys, Custodian, Approval, Request, Period}
 use Rattle.register_store.specs.declared.table.TableName.TheVariants.{Quorum}
 use Rattle.register_store.specs.Within.Migration.{HasTablesBelow, SetsVersion}
-use Rattle.register_store.specs.Schema.{HoldsIn, schema_with, rows_of}
-use Rattle.register_store.specs.Tables.{Counts, Layout, Tables, content, counts_row_in, fresh, place_of}
-use Rattle.register_store.specs.Tables.{version}
+use Rattle.register_store.specs.Schema.{HoldsIn, schema_with, table_rows}
+use Rattle.register_store.specs.Tables.{Counts, Layout, Tables, content, counts_row_in, fresh, place_of, version}
 use Rattle.register_store.specs.Within.Tables.{Shows, meta}
 use Rattle.register_store.proofs.Actions.{idle, shows_all}
 use Rattle.register_store.proofs.EachTable.{AreApart, apart_all}
@@ -75,19 +74,19 @@ module _ (old new : State) (count : ℕ) (h : Executes version_text version_para
   wrote =
       let m = sets (schema_with l) (meta l) (classes l (placed_in l old.now has.schema apart has.sound) Meta) _ _ _
       (sets_version l) in
-      let row : rows_of l Meta old.now ≡ counts_row_in First t.counts ∷ [] = has.shown Meta (omega arith) in
+      let row : table_rows l Meta old.now ≡ counts_row_in First t.counts ∷ [] = has.shown Meta (omega arith) in
       changing.changes enc (λ _. pos 1) (λ _. refl) (meta l) version_params passes shown second version_text
       (schema_with l) (place_of Meta) refl
       m.is m.plain (idle l apart Meta refl 0) (λ db. shows_all db (l.tree Meta)) (λ row. simp (cast_int, cast_null))
       (λ row. refl)
       old new count h has.schema ((First, t.counts) ∷ []) row (subst IsTable (sym row) (tt, tt))
 
-  other : (name : TableName) → (place_of name ≡ place_of Meta → ⊥) → rows_of l name new.now ≡ rows_of l name old.now
+  other : (name : TableName) → (place_of name ≡ place_of Meta → ⊥) → table_rows l name new.now ≡ table_rows l name old.now
   other name off =
       rows_kept l (λ (tree : ℕ). tree ≡ l.tree Meta) old.now new.now wrote.kept name
       (λ same. off (apart_all l apart name Meta same))
 
-  shown_now : (name : TableName) → Shows name (content name t) (rows_of l name new.now)
+  shown_now : (name : TableName) → Shows name (content name t) (table_rows l name new.now)
   shown_now Meta = wrote.rows_are ∙ ap (λ row. enc row ∷ []) (changed_is (First, t.counts))
   shown_now Period = search (arith, other, keyed_none)
   shown_now Quorum = grind (arith, other, keyed_none)

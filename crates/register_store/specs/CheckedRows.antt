@@ -45,12 +45,13 @@ pub record AreCounted (found : Found) (rows : List Row) (keys : List Key) : Type
   pub within : length keys ≤ found.keys
 
 -- so many such keys were shown, with these owners
-pub record HasKeys (found : Found) (count : ℕ) (owners : List (List ℕ)) (rows : List Row) : Type 0 where
+pub record HasCountedKeys (found : Found) (count : ℕ) (owners : List (List ℕ)) (rows : List Row) : Type 0 where
   pub keys : List Key
   pub are : AreCounted found rows keys
   pub counted : count ≡ length keys
   pub owners_are : owners ≡ owners_of keys
 
+-- these rows show no keys that are sound, or more than are counted
 abbrev pub RefusesKeys : Found → List Row → Type 0
 RefusesKeys found rows = (keys : List Key) → ¬ AreCounted found rows keys
 
@@ -62,6 +63,7 @@ pub record HasShown {A : Type 0} (Shows : Row → A → Type 0) (P : A → Type 
   pub shown : ShowEach Shows rows values
   pub each : AllByRecursion P values
 
+-- these rows show no values of which P holds
 abbrev pub RefusesEach : {A : Type 0} → (Row → A → Type 0) → (A → Type 0) → List Row → Type 0
 RefusesEach Shows P rows = ¬ HasShown Shows P rows
 
@@ -87,6 +89,7 @@ pub record HasCustodians (most : ℕ) (owners : List (List ℕ)) (lists : List (
     pub counted : length lists ≡ length owners
     pub kept : AreKept entries lists
 
+-- these rows show no custodians of keys that are there, or more at a key than this
 abbrev pub RefusesCustodians : ℕ → List (List ℕ) → List Row → Type 0
 RefusesCustodians most owners rows =
     (entries : List KeyName) → ShowEach ShowsName rows entries → ¬ AreCustodians most owners entries

@@ -80,6 +80,7 @@ pub record Check (C : Type 0) : Type 1 where
   pub text : List ℕ
   pub Shows : List Row → C → Type 0
 
+-- The query of each table, and what its rows show by their columns.
 abbrev pub check_of : (name : TableName) → Check (Part name)
 check_of Meta = record {
   text = codes "SELECT id, " ++ listed meta_columns ++ codes " FROM meta ORDER BY id";
@@ -106,22 +107,24 @@ check_of Quorum = record {
   Shows = ShowEach ShowsKeyNeed;
 }
 
+-- the query by which a table is checked
 abbrev pub check_text : TableName → List ℕ
 check_text name = (check_of name).text
 
+-- a table's query shows this content by these rows
 abbrev pub ShowsRows : (name : TableName) → List Row → Part name → Type 0
 ShowsRows name = (check_of name).Shows
 
 -- ---- checks that pass
 
 -- the query of a table shows what t has of it
-abbrev pub ShowsTable : TableName → Stored → State → State → Type 0
-ShowsTable name t old new = ShowsAll (check_text name) (λ rows. ShowsRows name rows (part name t)) old new
+abbrev pub QueryShows : TableName → Stored → State → State → Type 0
+QueryShows name t old new = ShowsAll (check_text name) (λ rows. ShowsRows name rows (part name t)) old new
 
 -- the queries of these tables show what t has of them, and that meets their checks
 abbrev pub ArePassed : List TableName → Stored → State → State → Type 0
 ArePassed [] t old new = Unit {0}
-ArePassed (name ∷ names) t old new = ArePassed names t old new × ShowsTable name t old new × MeetsCheck name t
+ArePassed (name ∷ names) t old new = ArePassed names t old new × QueryShows name t old new × MeetsCheck name t
 
 -- what our own queries show are these tables in their version, whose checks they meet; nothing has changed
 pub record Passes (t : Stored) (old new : State) : Type 0 where
@@ -177,7 +180,7 @@ pub record FailsOne (old new : State) : Type 0 where
 abbrev pub counts_of : Found → Counts
 counts_of found = record { latest = found.latest; key_count = found.keys }
 
--- and this is their version
+-- the version and the counts that were found
 abbrev pub mark_of : Found → Version × Counts
 mark_of found = (found.version, counts_of found)
 
@@ -214,8 +217,9 @@ pub record ChecksBy (old new : State) (result : Result Found CheckError) : Type 
   pub clean : HasCleanDisk new → HasCleanDisk old
   pub survives : Survives old new (λ _. ⊥)
 
-abbrev pub Checks : {S : Type 0} → (g : Ghosts S) → Connection S → Connection S → Result Found CheckError → Type 0
-Checks g old new result = ChecksBy (state g old) (state g new) result
+-- what the checks of opening say of a connection's tables, and what they leave
+abbrev pub ChecksTables : {S : Type 0} → (g : Ghosts S) → Connection S → Connection S → Result Found CheckError → Type 0
+ChecksTables g old new result = ChecksBy (state g old) (state g new) result
 
 -- ---- the check of one table
 
@@ -242,5 +246,6 @@ pub record TellsVersionBy (old new : State) (result : Result ℕ CheckError) : T
   pub blames_none : HasCleanDisk new → (t : Stored) → HoldsStored t old.now → MeetsChecks t → IfErr result BlamesNone
   pub survives : Survives old new (λ _. ⊥)
 
+-- what a look at the version says of a connection's tables, and what it leaves
 abbrev pub TellsVersion : {S : Type 0} → (g : Ghosts S) → Connection S → Connection S → Result ℕ CheckError → Type 0
 TellsVersion g old new result = TellsVersionBy (state g old) (state g new) result

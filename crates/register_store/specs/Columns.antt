@@ -5,9 +5,11 @@ use Rattle.sqlite.specs.Table.{Table}
 use Rattle.sqlite_schema.specs.declared.schema.Reference.{Reference}
 use Rattle.register_store.specs.TableForms.{Named, Numbers, Texts, indexed, name_of}
 
+-- the columns of meta past its id
 abbrev pub meta_columns : List Named
 meta_columns = Numbers (codes "version") ∷ Numbers (codes "latest") ∷ Numbers (codes "key_count") ∷ []
 
+-- the columns of keys past the number
 abbrev pub key_columns : List Named
 key_columns =
     Numbers (codes "kind") ∷ Texts (codes "owner") ∷ Texts (codes "purpose") ∷ Numbers (codes "state")
@@ -19,7 +21,7 @@ key_columns =
 abbrev pub name_columns : List Named
 name_columns = Numbers (codes "key_no") ∷ Texts (codes "name") ∷ []
 
--- such a table, which refers to another
+-- a table of names at keys, which refers to another table
 abbrev pub paired : List ℕ → Reference → ℕ → Table
 paired name reference = indexed name name_columns (reference ∷ [])
 
@@ -28,9 +30,11 @@ abbrev pub request_columns : List Named
 request_columns =
     Texts (codes "command") ∷ Numbers (codes "key_no") ∷ Numbers (codes "state") ∷ Numbers (codes "moment") ∷ []
 
+-- the columns of period past the kind
 abbrev pub period_columns : List Named
 period_columns = Numbers (codes "originator") ∷ Numbers (codes "recipient") ∷ []
 
+-- the column of quorum past the key
 abbrev pub need_columns : List Named
 need_columns = Numbers (codes "need") ∷ []
 

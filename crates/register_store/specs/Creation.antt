@@ -7,7 +7,7 @@ use Rattle.sqlite.specs.Schema.{Schema}
 use Rattle.sqlite.specs.State.{State, HasCleanDisk, Survives}
 use Rattle.sqlite_trees.specs.declared.store.Store.{Ghosts}
 use Rattle.sqlite_resolve.specs.declared.compiled.Compiled.{Compiled}
-use Rattle.sql_steps.specs.Steps.{Change}
+use Rattle.sql_steps.specs.Steps.{DatabaseChange}
 use Rattle.register_store.specs.declared.table.TableName.{TableName}
 use Rattle.register_store.specs.Beside.{KeepsOthers, LacksMeta}
 use Rattle.register_store.specs.Tables.{fresh, count_text, no_rows}
@@ -28,7 +28,7 @@ abbrev pub HasTable : Schema → Type 0
 HasTable schema = (name : TableName) × IsThere name schema
 
 -- nothing of what was looked for was there, and the change is made
-abbrev pub WhereNone : (Schema → Type 0) → Change → Change
+abbrev pub WhereNone : (Schema → Type 0) → DatabaseChange → DatabaseChange
 WhereNone Has Makes old new = (Has old.schema → ⊥) × Makes old new
 
 -- ---- the whole
@@ -44,7 +44,7 @@ pub record MakesAll (old new : Database) : Type 0 where
   pub others : LacksMeta old.schema → KeepsOthers old new
 
 -- none of the register's tables was there, and that
-abbrev pub MakesRegister : Change
+abbrev pub MakesRegister : DatabaseChange
 MakesRegister = WhereNone HasTable MakesAll
 
 -- ---- what a look for tables tells
@@ -54,6 +54,7 @@ pub record FindsBy (Has : Schema → Type 0) (old new : State) : Type 0 where
   pub there : HasCleanDisk new → Has old.now.schema
   pub survives : Survives old new (λ _. ⊥)
 
+-- a look for tables of a connection finds them, and a stop leaves what it left before
 abbrev pub FindsIn : {S : Type 0} → (g : Ghosts S) → (Schema → Type 0) → Connection S → Connection S → Type 0
 FindsIn g Has old new = FindsBy Has (state g old) (state g new)
 

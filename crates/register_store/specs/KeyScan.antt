@@ -10,16 +10,16 @@ use Rattle.register_store.specs.declared.key_scan.DateRun.TheVariants.{First, La
 use Rattle.register_store.specs.Tables.{Tables, numbered}
 
 -- the numbered key is Active, and its Protect Stop Date is reached at this moment
-abbrev pub is_due : ℕ → ℕ × Key → Bool
-is_due until x = (state_code x.1.row.state == state_code Active) && is_reached_at x.1.row.dates.protect_stop until
+abbrev pub is_stop_due : ℕ → ℕ × Key → Bool
+is_stop_due until x = (state_code x.1.row.state == state_code Active) && is_reached_at x.1.row.dates.protect_stop until
 
 -- the cursor of a key that is due: its Protect Stop Date, and its number
 abbrev pub cursor_of : ℕ × Key → DueCursor
 cursor_of x = record { stop = unwrap_or x.1.row.dates.protect_stop 0; number = x.0 }
 
 -- the second cursor comes after the first: its date is later, or the same and its number higher
-abbrev pub IsAfter : DueCursor → DueCursor → Type 0
-IsAfter a b = (a.stop < b.stop) ⊎ ((a.stop ≡ b.stop) × (a.number < b.number))
+abbrev pub IsAfterKey : DueCursor → DueCursor → Type 0
+IsAfterKey a b = (a.stop < b.stop) ⊎ ((a.stop ≡ b.stop) × (a.number < b.number))
 
 -- how the key stands that comes next after a cursor, by its Protect Stop Date
 abbrev pub date_run_of_next_key : DueCursor → ℕ → DateRun
@@ -28,12 +28,12 @@ date_run_of_next_key last stop = if stop == last.stop then Later else First
 -- the key is due, and its cursor is after this one
 pub record ComesAfter (until : ℕ) (last : DueCursor) (t : Tables) (x : ℕ × Key) : Type 0 where
   pub there : Has (numbered t.keys) x
-  pub due : is_due until x ≡ true
-  pub after : IsAfter last (cursor_of x)
+  pub due : is_stop_due until x ≡ true
+  pub after : IsAfterKey last (cursor_of x)
 
 -- the first of the keys that are due after a cursor, or none where there is none
 abbrev pub HasNextDue : ℕ → DueCursor → Tables → Option (ℕ × Key) → Type 0
 HasNextDue until last t None = (x : ℕ × Key) → ComesAfter until last t x → ⊥
 HasNextDue until last t (Some x) =
     ComesAfter until last t x
-    × ((y : ℕ × Key) → ComesAfter until last t y → (y ≡ x) ⊎ IsAfter (cursor_of x) (cursor_of y))
+    × ((y : ℕ × Key) → ComesAfter until last t y → (y ≡ x) ⊎ IsAfterKey (cursor_of x) (cursor_of y))

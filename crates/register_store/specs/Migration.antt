@@ -4,7 +4,7 @@ use Rattle.sqlite.specs.Effect.{Database}
 use Rattle.sqlite.specs.Held.{Held as Connection}
 use Rattle.sqlite.specs.Schema.{Schema}
 use Rattle.sqlite_trees.specs.declared.store.Store.{Ghosts}
-use Rattle.sql_steps.specs.Steps.{Change}
+use Rattle.sql_steps.specs.Steps.{DatabaseChange}
 use Rattle.register_requests.specs.declared.version.Version.TheVariants.{First}
 use Rattle.register_store.specs.declared.table.TableName.TheVariants.{Period, Quorum}
 use Rattle.register_store.specs.Beside.{HasMetaApart, KeepsOthers}
@@ -25,10 +25,11 @@ pub record TakesToSecond (old new : Database) : Type 0 where
   pub others : HasMetaApart old.schema → KeepsOthers old new
 
 -- none of the tables that the second version adds was there, and that
-abbrev pub Migrates : Change
+abbrev pub Migrates : DatabaseChange
 Migrates = WhereNone HasNewTable TakesToSecond
 
 -- ---- what a look for them tells
 
+-- a look for the tables that the second version adds finds one, and a stop leaves what it left before
 abbrev pub FindsNewTable : {S : Type 0} → (g : Ghosts S) → Connection S → Connection S → Type 0
 FindsNewTable g = FindsIn g HasNewTable

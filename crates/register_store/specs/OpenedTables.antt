@@ -43,6 +43,7 @@ abbrev pub migration_error : CreateError → CheckError
 migration_error HasTables = NotARegister
 migration_error (Refused error) = Stopped error
 
+-- why the tables are not opened; nothing is said of a database that refused
 abbrev pub IsRefusal : State → State → CheckError → Type 0
 IsRefusal old new NotARegister = FailsOne old new ⊎ HasBoth old new
 IsRefusal old new (NewerVersion found) = HasNewer found old new
@@ -75,9 +76,9 @@ pub record MigratesTo (old : State) (trees : Trees) : Type 0 where
   pub trees_are : trees ≡ db.trees
 
 -- the refusal changes nothing
-abbrev pub ChangesNothing : CheckError → Type 0
-ChangesNothing (Stopped error) = ⊥
-ChangesNothing error = Unit {0}
+abbrev pub ChangesNoTable : CheckError → Type 0
+ChangesNoTable (Stopped error) = ⊥
+ChangesNoTable error = Unit {0}
 
 -- Where it succeeds, what is shown passed the checks of its version; a refusal has its reason. Tables that are
 -- committed in a version and meet its checks are not refused, and stand in this program's version after it. A stop
@@ -90,10 +91,11 @@ pub record OpensBy (old new : State) (result : Result Found CheckError) : Type 0
       → IfOk result (λ found. IsOpened t new (mark_of found))
   pub blames_none : HasCleanDisk new → (t : Stored) → HoldsStored t old.now → MeetsChecks t → IfErr result BlamesNone
   pub stop : Survives old new (MigratesTo old)
-  pub stop_refused : IfErr result (λ error. ChangesNothing error → Survives old new (λ _. ⊥))
+  pub stop_refused : IfErr result (λ error. ChangesNoTable error → Survives old new (λ _. ⊥))
   pub stop_current : (t : Stored) → t.version ≡ current → HoldsStored t old.now → MeetsChecks t
       → Survives old new (λ _. ⊥)
   pub clean : HasCleanDisk new → HasCleanDisk old
 
+-- what opening the tables of a connection comes to, and what it leaves
 abbrev pub OpensTables : {S : Type 0} → (g : Ghosts S) → Connection S → Connection S → Result Found CheckError → Type 0
 OpensTables g old new result = OpensBy (state g old) (state g new) result

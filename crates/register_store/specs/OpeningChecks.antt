@@ -49,6 +49,7 @@ pub record AreKeys (version : Version) (counts : Counts) (keys : List Key) : Typ
   pub counted : length keys ≡ counts.key_count
   pub sound : AllByRecursion (IsSoundAt version counts.latest) keys
 
+-- the owners of the keys, by the keys' numbers
 abbrev pub owners_of : List Key → List (List ℕ)
 owners_of keys = map (λ (k : Key). k.owner) keys
 
@@ -102,5 +103,6 @@ before name = reverse (take (place_of name) all_tables)
 abbrev pub checked : Version → List TableName
 checked version = reverse (take (table_count version) all_tables)
 
+-- each table meets its check
 abbrev pub MeetsChecks : Stored → Type 0
 MeetsChecks t = (name : TableName) → MeetsCheck name t

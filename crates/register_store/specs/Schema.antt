@@ -26,10 +26,11 @@ abbrev pub schema_below : ℕ → Layout → Schema
 schema_below n l =
     record { tables = map (table_of l) (take n all_tables); indexes = key_indexes l ++ l.more; views = [] }
 
+-- the schema of a version's tables, which stand so
 abbrev pub schema_in : Version → Layout → Schema
 schema_in version l = schema_below (table_count version) l
 
--- that of this program's version
+-- the schema of the tables of this program's version, which stand so
 abbrev pub schema_with : Layout → Schema
 schema_with = schema_in current
 
@@ -67,8 +68,8 @@ made_indexes = index_of Activation ∷ index_of Deactivation ∷ index_of Protec
 -- ---- the rows
 
 -- the rows of a table
-abbrev pub rows_of : Layout → TableName → Database → List Cells
-rows_of l name db = db.trees (l.tree name)
+abbrev pub table_rows : Layout → TableName → Database → List Cells
+table_rows l name db = db.trees (l.tree name)
 
 -- The database holds the tables in this version: its schema is a register's, which its trees list and obey, and each
 -- table's rows are those of its content, which is in range.
@@ -76,8 +77,8 @@ pub record HoldsIn (version : Version) (t : Tables) (db : Database) : Type 0 whe
   pub schema : IsRegisterIn version db.schema
   pub sound : IsDatabase db
   pub in_range : (name : TableName) → IsInRange name (content name t)
-  pub shown : (name : TableName) → ShowsIn version name (content name t) (rows_of schema.layout name db)
+  pub shown : (name : TableName) → ShowsIn version name (content name t) (table_rows schema.layout name db)
 
--- in this program's
+-- the database holds the tables in this program's version, and each is in its ranges
 abbrev pub Holds : Tables → Database → Type 0
 Holds = HoldsIn current

@@ -6,6 +6,7 @@ use Rattle.register_store.specs.declared.table.TableName.TheVariants.{Meta}
 use Rattle.register_store.specs.Schema.{HoldsIn}
 use Rattle.register_store.specs.Tables.{Content, Counts, Tables, content, with_content}
 
+-- Tables with the version in which a database has them.
 pub record Stored : Type 0 where
   pub version : Version
   pub tables : Tables
@@ -23,11 +24,12 @@ abbrev pub Part : TableName → Type 0
 Part Meta = Version × Counts
 Part name = Content name
 
+-- what the query of a table shows of these tables
 abbrev pub part : (name : TableName) → Stored → Part name
 part Meta stored = mark stored
 part name stored = content name stored.tables
 
--- with another part in its place
+-- the tables, where the query of this one shows another part
 abbrev pub with_part : (name : TableName) → Part name → Stored → Stored
 with_part Meta told stored = record { version = told.0; tables = with_content Meta told.1 stored.tables }
 with_part name c stored = record { version = stored.version; tables = with_content name c stored.tables }

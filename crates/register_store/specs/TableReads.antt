@@ -31,6 +31,7 @@ use Rattle.register_store.specs.TableChanges.{key_at}
 
 -- ---- what is found in tables
 
+-- this is the row of the key with the number, or none where there is no such key
 abbrev pub HasRow : ℕ → Tables → Option Key → Type 0
 HasRow number t found = found ≡ key_at t.keys number
 
@@ -60,8 +61,9 @@ loaded number need t k = (
   k.purpose,
 )
 
-abbrev pub HasKey : ℕ → ℕ → Tables → Option (Held × List ℕ) → Type 0
-HasKey number need t found = found ≡ option_map (loaded number need t) (key_at t.keys number)
+-- this is the key with the number as a decision sees it, and its purpose, or none where there is no such key
+abbrev pub HasHeldKey : ℕ → ℕ → Tables → Option (Held × List ℕ) → Type 0
+HasHeldKey number need t found = found ≡ option_map (loaded number need t) (key_at t.keys number)
 
 -- one of them, or none where there is none
 abbrev pub IsOneOf : {A : Type 0} → List A → Option A → Type 0
@@ -106,6 +108,7 @@ pub record SeesStill (old new : State) : Type 0 where
   pub now_is : new.now ≡ old.now
   pub committed_is : new.committed ≡ old.committed
 
+-- a connection that saw what was committed sees it still, as long as it is open and the disk is clean
 abbrev pub KeepsSight : State → State → Type 0
 KeepsSight old new =
     HasCleanDisk new → (IsTrue old.is_open → old.now ≡ old.committed) → IsTrue new.is_open → SeesStill old new
@@ -118,11 +121,12 @@ seen g counted = state g counted.connection
 abbrev pub Calls : {S : Type 0} → {g : Ghosts S} → ℕ → Counted S g → Counted S g → Type 0
 Calls most old new = Rises most old.steps new.steps
 
--- the same of a clean disk and tables that it holds, where their content says how many
+-- over tables that the connection holds a call takes at most as many steps as their content says, on a clean disk
 abbrev pub CallsOver : {S : Type 0} → (g : Ghosts S) → (Tables → ℕ) → Counted S g → Counted S g → Type 0
 CallsOver g most old new =
     HasCleanDisk (seen g new) → (t : Tables) → HoldsWhereOpen t (seen g old) → Calls (most t) old new
 
+-- what a call that reads finds in the tables of a counted connection, and what it leaves
 abbrev pub Reads : {S T : Type 0} → (g : Ghosts S) → (Tables → T → Type 0) → Counted S g → Counted S g
     → Result T StoreError → Type 0
 Reads g Found old new result = ReadsBy Found (seen g old) (seen g new) result
@@ -157,7 +161,7 @@ pub record HasCellsOf (whose : List ℕ) (which : ℕ) (row : Row) (k : KeptRepl
   pub state : column row 2 ≡ Int (pos (state_cell k.reply.state))
   pub moment : column row 3 ≡ Int (pos k.reply.moment)
 
--- and shows it where it fits its command
+-- the row shows what is kept of the caller's request under this number, and that fits its command
 pub record ShowsRequest (whose : List ℕ) (which : ℕ) (row : Row) (k : KeptReply) : Type 0 where
   pub cells : HasCellsOf whose which row k
   pub whole : fits_its_command k ≡ true

@@ -1,5 +1,5 @@
 -- The tables of a register, one by one: what each holds, how it is made, and how its content stands in its rows.
-use Rattle.std.specs.Prelude.{◌≡◌, ◌<◌, ℕ, ◌+◌, pos, Bool, cond, not, List, [], ◌∷◌, ◌++◌, map, drop, filter}
+use Rattle.std.specs.Prelude.{◌≡◌, ◌<◌, ℕ, ◌+◌, pos, Bool, cond, not, List, [], ◌∷◌, ◌++◌, length, map, drop, filter}
 use Rattle.std.specs.Prelude.{take, Option, None, Some, is_some, IsTrue, IsPermutation, codes}
 use Rattle.std.specs.List.{AllByRecursion, enumerate_from}
 use Rattle.sqlite.specs.declared.types.Value.{Value}
@@ -12,19 +12,19 @@ use Rattle.sqlite_schema.specs.declared.schema.Action.TheVariants.{NoAction, Cas
 use Rattle.sqlite_schema.specs.declared.schema.Index.{Index}
 use Rattle.sqlite_schema.specs.declared.schema.Reference.{Reference}
 use Rattle.sqlite_trees.specs.View.{is_int}
-use Rattle.moment_core.specs.Moment.{IsMoment}
-use Rattle.lifecycle_core.specs.declared.dates.Dates.{Dates}
+use Rattle.moment_core.specs.Moment.{IsMoment, last_second}
 use Rattle.lifecycle_core.specs.declared.state.State.{State}
 use Rattle.lifecycle_core.specs.State.{state_code}
 use Rattle.period_core.specs.KeyType.{key_type_code}
 use Rattle.period_core.specs.Period.{IsPeriod}
 use Rattle.register_core.specs.declared.kept_reply.KeptReply.{KeptReply}
 use Rattle.register_core.specs.declared.key.Key.{Key}
+use Rattle.register_core.specs.Dates.{AreDates}
 use Rattle.register_core.specs.KeptReply.{IsKeptReply}
 use Rattle.register_core.specs.KeyName.{KeyName}
 use Rattle.register_requests.specs.Name.{IsName}
 use Rattle.register_requests.specs.Purpose.{IsPurpose}
-use Rattle.register_requests.specs.Request.{IsDate, command_text}
+use Rattle.register_requests.specs.Request.{command_text}
 use Rattle.register_requests.specs.Quorum.{IsQuorum}
 use Rattle.register_core.specs.Settings.{KeyNeed, TypePeriod}
 use Rattle.register_requests.specs.declared.version.Version.{Version}
@@ -69,12 +69,9 @@ no_rows = record {
 
 -- ---- cells. A row begins with its rowid; the cell of an INTEGER PRIMARY KEY shows that, and is kept as NULL.
 
--- what stands for a date that is not set: it is above every moment
-abbrev pub unset : ℕ
-unset = 253_402_300_800
-
+-- the cell of a date; that of one that is not set is one second past the last moment, so it comes after every date
 abbrev pub date_cell : Option ℕ → ℕ
-date_cell None = unset
+date_cell None = last_second + 1
 date_cell (Some date) = date
 
 -- the version of the tables that this program makes
@@ -85,6 +82,7 @@ version = version_number current
 abbrev pub number : ℕ → Value
 number n = Int (pos n)
 
+-- the one row of meta in a version
 abbrev pub counts_row_in : Version → Counts → Cells
 counts_row_in v counts =
     number 1 ∷ Null ∷ number (version_number v) ∷ number counts.latest ∷ number counts.key_count ∷ []
@@ -102,9 +100,11 @@ key_cells k =
 abbrev pub key_row : ℕ × Key → Cells
 key_row numbered = number numbered.0 ∷ Null ∷ key_cells numbered.1
 
+-- the keys with their numbers, from 1
 abbrev pub numbered : List Key → List (ℕ × Key)
 numbered keys = enumerate_from 1 keys
 
+-- the cells of a name at a key
 abbrev pub name_cells : KeyName → Cells
 name_cells at_key = number at_key.key ∷ Words at_key.name ∷ []
 
@@ -145,37 +145,72 @@ abbrev pub ShowsSinceSecond : {A : Type 0} → (A → Cells) → Version → Lis
 ShowsSinceSecond row_of First entries rows = entries ≡ []
 ShowsSinceSecond row_of Second entries rows = ShowsKeyed row_of entries rows
 
+-- The rows of a table in a version: those of `meta` and `keys` in order, those of the others in any.
+abbrev pub AreRowsOf : TableName → Version → Tables → List Cells → Type 0
+AreRowsOf Meta v t rows = rows ≡ counts_row_in v t.counts ∷ []
+AreRowsOf Keys v t rows = rows ≡ map key_row (enumerate_from 1 t.keys)
+AreRowsOf Custodian v t rows = ShowsEntries name_cells t.custodians rows
+AreRowsOf Approval v t rows = ShowsEntries name_cells t.approvals rows
+AreRowsOf Request v t rows = ShowsEntries request_cells t.requests rows
+AreRowsOf Period v t rows = ShowsSinceSecond period_row v t.periods rows
+AreRowsOf Quorum v t rows = ShowsSinceSecond need_row v t.needs rows
+
 -- ---- ranges
 
-pub record AreDates (d : Dates) : Type 0 where
-  pub initial : IsMoment d.initial
-  pub activation : IsDate d.activation
-  pub protect_stop : IsDate d.protect_stop
-  pub deactivation : IsDate d.deactivation
-  pub destroy : IsDate d.destroy
-  pub compromise : IsDate d.compromise
-  pub compromise_occurrence : IsDate d.compromise_occurrence
-
+-- the owner, the purpose and the dates of a key are in their ranges
 pub record IsKey (k : Key) : Type 0 where
   pub owner : IsName k.owner
   pub purpose : IsPurpose k.purpose
   pub dates : AreDates k.row.dates
 
+-- the name at a key is a name
 abbrev pub IsNamed : KeyName → Type 0
 IsNamed at_key = IsName at_key.name
 
+-- the period that is set for a type is in its range
 abbrev pub IsSetPeriod : TypePeriod → Type 0
 IsSetPeriod set = IsPeriod set.period
 
+-- the need that is set for a key is in its range
 abbrev pub IsSetNeed : KeyNeed → Type 0
 IsSetNeed set = IsQuorum set.need
 
+-- ---- the statements that make them
+
+-- The SQLite CREATE TABLE statement of each table. In `keys`, the columns from activation to occurrence are dates; one
+-- that is not set holds one second past the last moment. Own.
+abbrev pub create_statement : TableName → List ℕ
+create_statement Meta =
+    codes "CREATE TABLE meta (id INTEGER PRIMARY KEY, version INTEGER NOT NULL, latest INTEGER NOT NULL, "
+    ++ codes "key_count INTEGER NOT NULL) STRICT"
+create_statement Keys =
+    codes "CREATE TABLE keys (number INTEGER PRIMARY KEY, kind INTEGER NOT NULL, owner TEXT NOT NULL, "
+    ++ codes "purpose TEXT NOT NULL, state INTEGER NOT NULL, initial INTEGER NOT NULL, activation INTEGER NOT NULL, "
+    ++ codes "protect_stop INTEGER NOT NULL, deactivation INTEGER NOT NULL, destroyed INTEGER NOT NULL, "
+    ++ codes "compromised INTEGER NOT NULL, occurrence INTEGER NOT NULL) STRICT"
+create_statement Custodian =
+    codes "CREATE TABLE custodian (key_no INTEGER NOT NULL REFERENCES keys(number), name TEXT NOT NULL, "
+    ++ codes "PRIMARY KEY (key_no, name)) STRICT"
+create_statement Approval =
+    codes "CREATE TABLE approval (key_no INTEGER NOT NULL, name TEXT NOT NULL, PRIMARY KEY (key_no, name), "
+    ++ codes "FOREIGN KEY (key_no, name) REFERENCES custodian(key_no, name) ON DELETE CASCADE) STRICT"
+create_statement Request =
+    codes "CREATE TABLE request (caller TEXT NOT NULL, number INTEGER NOT NULL, command TEXT NOT NULL, "
+    ++ codes "key_no INTEGER NOT NULL, state INTEGER NOT NULL, moment INTEGER NOT NULL, "
+    ++ codes "PRIMARY KEY (caller, number)) STRICT"
+create_statement Period =
+    codes "CREATE TABLE period (kind INTEGER PRIMARY KEY, originator INTEGER NOT NULL, recipient INTEGER NOT NULL) "
+    ++ codes "STRICT"
+create_statement Quorum =
+    codes "CREATE TABLE quorum (key_no INTEGER PRIMARY KEY REFERENCES keys(number), need INTEGER NOT NULL) STRICT"
+
 -- ---- what they refer to
 
+-- the first column of a table refers to the number of a key
 abbrev pub to_keys : Reference
 to_keys = reference (1 ∷ []) (codes "keys") (codes "number" ∷ []) NoAction
 
--- by the rowid, which the place of an INTEGER PRIMARY KEY is
+-- an INTEGER PRIMARY KEY, which is the rowid, refers to the number of a key
 abbrev pub rowid_to_keys : Reference
 rowid_to_keys = record to_keys { columns = 0 ∷ [] }
 
@@ -205,7 +240,7 @@ form Meta = record {
   Content = Counts;
   content = λ t. t.counts;
   table = keyed (codes "meta") (codes "id") meta_columns [];
-  Shows = λ v counts rows. rows ≡ counts_row_in v counts ∷ [];
+  Shows = λ v counts. AreRowsOf Meta v (record no_rows { counts = counts });
   IsInRange = λ counts. IsMoment counts.latest;
 }
 form Keys = record {
@@ -213,7 +248,7 @@ form Keys = record {
   Content = List Key;
   content = λ t. t.keys;
   table = keyed (codes "keys") (codes "number") key_columns [];
-  Shows = λ v keys rows. rows ≡ map key_row (numbered keys);
+  Shows = λ v keys. AreRowsOf Keys v (record no_rows { keys = keys });
   IsInRange = AllByRecursion IsKey;
 }
 form Custodian = record {
@@ -221,7 +256,7 @@ form Custodian = record {
   Content = List KeyName;
   content = λ t. t.custodians;
   table = paired (codes "custodian") to_keys;
-  Shows = λ v. ShowsEntries name_cells;
+  Shows = λ v custodians. AreRowsOf Custodian v (record no_rows { custodians = custodians });
   IsInRange = AllByRecursion IsNamed;
 }
 form Approval = record {
@@ -229,7 +264,7 @@ form Approval = record {
   Content = List KeyName;
   content = λ t. t.approvals;
   table = paired (codes "approval") to_custodian;
-  Shows = λ v. ShowsEntries name_cells;
+  Shows = λ v approvals. AreRowsOf Approval v (record no_rows { approvals = approvals });
   IsInRange = AllByRecursion IsNamed;
 }
 -- a caller's number stands once, and refers to nothing
@@ -238,7 +273,7 @@ form Request = record {
   Content = List KeptReply;
   content = λ t. t.requests;
   table = indexed (codes "request") (Texts (codes "caller") ∷ Numbers (codes "number") ∷ request_columns) [];
-  Shows = λ v. ShowsEntries request_cells;
+  Shows = λ v requests. AreRowsOf Request v (record no_rows { requests = requests });
   IsInRange = AllByRecursion IsKeptReply;
 }
 -- a type has one period at most
@@ -247,7 +282,7 @@ form Period = record {
   Content = List TypePeriod;
   content = λ t. t.periods;
   table = keyed (codes "period") (codes "kind") period_columns [];
-  Shows = ShowsSinceSecond period_row;
+  Shows = λ v periods. AreRowsOf Period v (record no_rows { periods = periods });
   IsInRange = AllByRecursion IsSetPeriod;
 }
 -- and a key one need
@@ -256,27 +291,34 @@ form Quorum = record {
   Content = List KeyNeed;
   content = λ t. t.needs;
   table = keyed (codes "quorum") (codes "key_no") need_columns (rowid_to_keys ∷ []);
-  Shows = ShowsSinceSecond need_row;
+  Shows = λ v needs. AreRowsOf Quorum v (record no_rows { needs = needs });
   IsInRange = AllByRecursion IsSetNeed;
 }
 
--- the tables in the order in which they are made
-abbrev pub all_tables : List TableName
-all_tables = Meta ∷ Keys ∷ Custodian ∷ Approval ∷ Request ∷ Period ∷ Quorum ∷ []
+-- the tables of a version, in the order in which they are made
+abbrev pub tables_of : Version → List TableName
+tables_of First = Meta ∷ Keys ∷ Custodian ∷ Approval ∷ Request ∷ []
+tables_of Second = Meta ∷ Keys ∷ Custodian ∷ Approval ∷ Request ∷ Period ∷ Quorum ∷ []
 
--- how many of them a version has: the first ones
+-- the tables of this program's version: those of the first come first
+abbrev pub all_tables : List TableName
+all_tables = tables_of current
+
+-- how many of them a version has
 abbrev pub table_count : Version → ℕ
-table_count First = 5
-table_count Second = 7
+table_count version = length (tables_of version)
 
 -- ---- one table by its name
 
+-- the place of a table among those that are made
 abbrev pub place_of : TableName → ℕ
 place_of name = (form name).place
 
+-- what a table holds
 abbrev pub Content : TableName → Type 0
 Content name = (form name).Content
 
+-- what the tables hold in the one of this name
 abbrev pub content : (name : TableName) → Tables → Content name
 content name = (form name).content
 
@@ -290,12 +332,15 @@ with_content Request requests t = record t { requests = requests }
 with_content Period periods t = record t { periods = periods }
 with_content Quorum needs t = record t { needs = needs }
 
+-- a table shows this content in a version by these rows
 abbrev pub ShowsIn : Version → (name : TableName) → Content name → List Cells → Type 0
 ShowsIn v name = (form name).Shows v
 
+-- the content of a table is in its ranges
 abbrev pub IsInRange : (name : TableName) → Content name → Type 0
 IsInRange name = (form name).IsInRange
 
+-- the statement that counts the rows of a table
 abbrev pub count_text : TableName → List ℕ
 count_text name = codes "SELECT count(*) FROM " ++ ((form name).table 0).name
 
@@ -315,12 +360,12 @@ pub record Layout : Type 0 where
   -- the indexes beside those of the primary keys
   pub more : List Index
 
--- two of the first n tables have two trees
+-- no two of the first n tables stand in one tree
 abbrev pub AreApartBelow : ℕ → Layout → Type 0
 AreApartBelow n l =
     (a b : TableName) → place_of a < n → place_of b < n → l.tree a ≡ l.tree b → place_of a ≡ place_of b
 
--- two that a version has
+-- no two of the tables of a version stand in one tree
 abbrev pub AreApartIn : Version → Layout → Type 0
 AreApartIn version = AreApartBelow (table_count version)
 
@@ -333,15 +378,19 @@ trees_of (name ∷ names) = cond (has_key_index name) 2 1 + trees_of names
 abbrev pub fresh_tree : TableName → ℕ
 fresh_tree name = trees_of (take (place_of name) all_tables)
 
+-- Where the tables of a file stand that were made one after the other in an empty database, with these further indexes.
 abbrev pub fresh : List Index → Layout
 fresh more = record { tree = fresh_tree; key_tree = λ name. fresh_tree name + 1; more = more }
 
 module _ (l : Layout) where
+  -- a table where it stands
   abbrev pub table_of : TableName → Table
   table_of name = (form name).table (l.tree name)
 
+  -- the index of a table's primary key, in a tree of its own
   abbrev pub key_index : TableName → Index
   key_index name = automatic (table_of name) 0 (table_of name).primary (l.key_tree name)
 
+  -- the indexes of the primary keys that are no INTEGER PRIMARY KEY
   abbrev pub key_indexes : List Index
   key_indexes = map key_index (filter has_key_index all_tables)

@@ -10,7 +10,7 @@ ghost use Rattle.register_core.specs.KeptReply.{IsKeptReply};
 ghost use Rattle.register_requests.specs.Number.{IsNumber};
 ghost use Rattle.register_requests.specs.Request.{IsCommand, command_text};
 ghost use Rattle.register_requests.specs.declared.request.Command.{Command};
-ghost use Rattle.register_store.specs.Within.StepCount.{Writes};
+ghost use Rattle.register_store.specs.Within.StepCount.{WritesInside};
 ghost use Rattle.register_store.specs.Tables.{state_cell};
 ghost use Rattle.register_store.specs.TableChanges.{Makes};
 ghost use Rattle.register_store.specs.Within.TableChanges.{Always, with_counts, with_kept};
@@ -24,14 +24,16 @@ ghost use Rattle.register_store.specs.AcceptedRequest.{CanTake, with_request};
 ghost use Rattle.register_store.specs.Change.{made_count, with_change, with_custody};
 ghost use Rattle.register_store.specs.Within.Due.{moved_on, update_text, with_each};
 
+use crate::cells::{
+    MomentCell, key_number_or_zero_in, moment_in, state_in, text_in, unsigned_integer_in,
+};
 use crate::columns::{RequestCell, columns};
 use crate::counted::{Counted, Inside, StepCount, Work};
 use crate::error::StoreError;
 use crate::setting::{Setting, write_setting};
 use crate::stored_key::RoleChange::{Given, Taken};
 use crate::stored_key::{
-    MomentCell, Role, add_key, end_approvals, give_or_take_role, key_number_or_zero_in, moment_in,
-    set_owner_state_and_dates, state_in, text_in, unsigned_integer_in,
+    Role, add_key, end_approvals, give_or_take_role, set_owner_state_and_dates,
 };
 use lifecycle_core::State;
 use moment_core::Moment;
@@ -155,7 +157,7 @@ fn add_request<T: Inside>(
     steps: &mut StepCount,
     kept: &KeptReply,
 ) -> Result<(), StoreError>
-    ensures { Writes T.Inside.sees T.Inside.name 1
+    ensures { WritesInside T.Inside.sees T.Inside.name 1
         (Makes (λ _. IsKeptReply kept.now) (with_kept kept.now))
         tx.old tx.new steps.old steps.new result }
 {
@@ -185,7 +187,8 @@ fn set_latest_and_key_count<T: Inside>(
     latest: Moment,
     key_count: u32,
 ) -> Result<(), StoreError>
-    ensures { Writes T.Inside.sees T.Inside.name 1 (Makes Always (with_counts latest key_count))
+    ensures { WritesInside T.Inside.sees T.Inside.name 1
+        (Makes Always (with_counts latest key_count))
         tx.old tx.new steps.old steps.new result }
 {
     tx.execute(
@@ -208,7 +211,7 @@ pub(crate) fn record_request<T: Inside>(
     kept: &KeptReply,
     key_count: u32,
 ) -> Result<(), StoreError>
-    ensures { Writes T.Inside.sees T.Inside.name 2
+    ensures { WritesInside T.Inside.sees T.Inside.name 2
         (Makes (λ _. IsKeptReply kept.now) (with_recorded kept.now key_count))
         tx.old tx.new steps.old steps.new result }
 {
@@ -246,7 +249,8 @@ fn advance_keys_by_date<T: Inside>(
     date: DueDate,
     at: Moment,
 ) -> Result<(), StoreError>
-    ensures { Writes T.Inside.sees T.Inside.name 1 (Makes Always (with_each (moved_on date at)))
+    ensures { WritesInside T.Inside.sees T.Inside.name 1
+        (Makes Always (with_each (moved_on date at)))
         tx.old tx.new steps.old steps.new result }
 {
     tx.execute(steps, date.update_sql(), params![MomentCell(at)])?;
@@ -265,7 +269,7 @@ fn advance_due<T: Inside>(
     at: Moment,
 ) -> Result<(), StoreError>
     requires { latest ≤ at }
-    ensures { Writes T.Inside.sees T.Inside.name 2
+    ensures { WritesInside T.Inside.sees T.Inside.name 2
         (Makes (AreRightAt latest) (with_keys_advanced at))
         tx.old tx.new steps.old steps.new result }
 {
@@ -285,7 +289,8 @@ fn write_custody<T: Inside>(
     number: u32,
     custody: &CustodyChange,
 ) -> Result<(), StoreError>
-    ensures { Writes T.Inside.sees T.Inside.name 2 (Makes Always (with_custody number custody.now))
+    ensures { WritesInside T.Inside.sees T.Inside.name 2
+        (Makes Always (with_custody number custody.now))
         tx.old tx.new steps.old steps.new result }
 {
     match custody {
@@ -322,7 +327,8 @@ fn write_change<T: Inside>(
     change: &Change,
 ) -> Result<(), StoreError>
     requires { keys ≤ max_keys }
-    ensures { Writes T.Inside.sees T.Inside.name 3 (Makes (HasKeys keys) (with_change change.now))
+    ensures { WritesInside T.Inside.sees T.Inside.name 3
+        (Makes (HasKeys keys) (with_change change.now))
         tx.old tx.new steps.old steps.new result }
 {
     match change {

@@ -8,13 +8,13 @@ ghost use Rattle.register_store.specs.CheckedTables.{ShowsName};
 ghost use Rattle.register_store.specs.Within.CheckedTables.{ChecksTable};
 ghost use Rattle.register_store.specs.Stored.{Stored};
 ghost use Rattle.register_store.specs.Within.TableReads.{GivesRow};
-ghost use Rattle.register_store.specs.Within.CheckedRows.{AreEmpty, IsAny, KnowsCustodians};
+ghost use Rattle.register_store.specs.Within.CheckedRows.{AreEmpty, IsAnything, KnowsCustodians};
 ghost use Rattle.register_store.specs.OpeningChecks.{owners_of};
 ghost use Rattle.register_store.specs.declared.table.TableName.TheVariants.{Approval, Custodian};
 
+use crate::cells::{name_in, unsigned_integer_in};
 use crate::columns::{NameCell, columns};
 use crate::error::CheckError;
-use crate::stored_key::{name_in, unsigned_integer_in};
 use register_core::{Name, Version};
 use row_checks::{RowCheck, check_rows};
 use sqlite::{Alter, Connection, Row};
@@ -178,14 +178,14 @@ impl RowCheck for ApprovalCheck {
 ///
 /// # Errors
 /// As the check of all tables.
-pub(crate) fn check_approvals<S: Alter>(
+pub(crate) fn check_approval_rows<S: Alter>(
     connection: &mut Connection<S>,
     custodians: Vec<Vec<Name>>,
 ) -> Result<(), CheckError>
     requires { connection.old.in_transaction ≡ false }
     ensures idle { connection.new.in_transaction ≡ false }
     ensures checks { (t : Stored) → KnowsCustodians t.tables.custodians custodians →
-        ChecksTable Approval t IsAny
+        ChecksTable Approval t IsAnything
         (state S.Store connection.old) (state S.Store connection.new) result }
     ensures survives { Survives (state S.Store connection.old)
         (state S.Store connection.new) (λ _. ⊥) }

@@ -10,10 +10,11 @@ ghost use Rattle.register_store.specs.CheckedTables.{ShowsNumbered, mark_of};
 ghost use Rattle.register_store.specs.Within.CheckedTables.{ChecksTable};
 ghost use Rattle.register_store.specs.Within.CheckedRows.{AreOwners};
 
+use crate::cells::unsigned_integer_in;
 use crate::columns::{KeyCell, columns};
 use crate::error::CheckError;
 use crate::found::Found;
-use crate::stored_key::{key_in, unsigned_integer_in};
+use crate::stored_key::key_in;
 use lifecycle_core::Dates;
 use moment_core::Moment;
 use period_core::{KeyType, are_dates_in_order, fits, is_not_after, period_of};
@@ -80,10 +81,10 @@ struct KeyCheck {
 
 impl RowCheck for KeyCheck {
     ghost use Rattle.std.specs.Prelude.{◌≡◌};
-    ghost use Rattle.register_store.specs.CheckedRows.{HasKeys, RefusesKeys};
+    ghost use Rattle.register_store.specs.CheckedRows.{HasCountedKeys, RefusesKeys};
 
     ghost has_taken = { λ first check rows. (check.found ≡ first.found)
-        × HasKeys first.found check.count check.owners.items rows };
+        × HasCountedKeys first.found check.count check.owners.items rows };
 
     ghost refuses = { λ first check rows. RefusesKeys first.found rows };
 

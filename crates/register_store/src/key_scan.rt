@@ -10,10 +10,11 @@ ghost use Rattle.register_store.specs.Within.DueSearch.{HasFirst, IsNumbered, is
 ghost use Rattle.register_store.specs.Within.DueSearch.{search_text};
 ghost use Rattle.register_store.specs.declared.key_scan.DateRun.{DateRun};
 
+use crate::cells::{MomentCell, unsigned_integer_in};
 use crate::columns::{KeyCell, columns};
 use crate::counted::Counted;
 use crate::error::StoreError;
-use crate::stored_key::{MomentCell, find_key_row, key_in, unsigned_integer_in};
+use crate::stored_key::{find_key_row, key_in};
 use moment_core::Moment;
 use register_core::Key;
 use sqlite::{Alter, Row, params};

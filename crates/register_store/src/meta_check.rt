@@ -8,10 +8,10 @@ ghost use Rattle.register_store.specs.Within.CheckedTables.{ChecksTable};
 ghost use Rattle.register_store.specs.CheckedRows.{RefusesMeta, TellsMeta};
 ghost use Rattle.register_store.specs.Within.CheckedRows.{IsCounts};
 
+use crate::cells::{key_number_or_zero_in, moment_in, unsigned_integer_in};
 use crate::columns::{MetaCell, columns};
 use crate::error::CheckError;
 use crate::found::Found;
-use crate::stored_key::{key_number_or_zero_in, moment_in, unsigned_integer_in};
 use register_core::{MAX_KEYS, Version};
 use row_checks::{RowCheck, check_rows};
 use sqlite::{Alter, Connection, Row};

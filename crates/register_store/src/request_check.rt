@@ -8,13 +8,13 @@ ghost use Rattle.register_store.specs.Within.TableReads.{GivesRow};
 ghost use Rattle.register_store.specs.OpeningChecks.{IsReplyOf};
 ghost use Rattle.register_store.specs.CheckedTables.{ShowsKept, mark_of};
 ghost use Rattle.register_store.specs.Within.CheckedTables.{ChecksTable};
-ghost use Rattle.register_store.specs.Within.CheckedRows.{IsAny};
+ghost use Rattle.register_store.specs.Within.CheckedRows.{IsAnything};
 
 use crate::accepted_request::{kept_reply_in, request_number_in};
+use crate::cells::name_in;
 use crate::columns::{RequestCell, columns};
 use crate::error::CheckError;
 use crate::found::Found;
-use crate::stored_key::name_in;
 use register_core::KeptReply;
 use row_checks::{RowCheck, check_rows};
 use sqlite::{Alter, Connection, Row};
@@ -72,7 +72,7 @@ pub(crate) fn check_requests<S: Alter>(
 ) -> Result<(), CheckError>
     requires { connection.old.in_transaction ≡ false }
     ensures idle { connection.new.in_transaction ≡ false }
-    ensures checks { (t : Stored) → mark_of found.now ≡ mark t → ChecksTable Request t IsAny
+    ensures checks { (t : Stored) → mark_of found.now ≡ mark t → ChecksTable Request t IsAnything
         (state S.Store connection.old) (state S.Store connection.new) result }
     ensures survives { Survives (state S.Store connection.old)
         (state S.Store connection.new) (λ _. ⊥) }

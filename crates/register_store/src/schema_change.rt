@@ -22,7 +22,7 @@ use sqlite::{Alter, Connection, Error, Transaction};
 pub(crate) trait SchemaChange {
     ghost use Rattle.std.specs.Prelude.{◌≡◌};
     ghost use Rattle.sqlite.specs.Schema.{Schema};
-    ghost use Rattle.sql_steps.specs.Steps.{Change};
+    ghost use Rattle.sql_steps.specs.Steps.{DatabaseChange};
     ghost use Rattle.sql_steps.specs.Within.Steps.{Steps};
     ghost use Rattle.register_store.specs.Within.Creation.{Answers};
 
@@ -30,7 +30,7 @@ pub(crate) trait SchemaChange {
     ghost has_one: { Schema → Type 0 };
 
     /// What it makes of the database.
-    ghost makes: { Change };
+    ghost makes: { DatabaseChange };
 
     /// Whether one of the tables that it makes is there.
     ///

@@ -1,17 +1,17 @@
 //! What is set beside the keys themselves: the usage periods of types, and how many approvals the
 //! destruction of a key needs.
-ghost use Rattle.register_store.specs.Within.StepCount.{Writes};
+ghost use Rattle.register_store.specs.Within.StepCount.{WritesInside};
 ghost use Rattle.register_store.specs.TableChanges.{Makes};
 ghost use Rattle.register_store.specs.Within.TableChanges.{Always, HasNoneSet};
-ghost use Rattle.register_store.specs.Within.TableChanges.{more_set, with_set, without_set};
+ghost use Rattle.register_store.specs.Within.TableChanges.{more_set, with_setting, without_set};
 ghost use Rattle.register_store.specs.TableReads.{Calls, HasNeed, HasPeriod, KeepsSight, Reads};
 ghost use Rattle.register_store.specs.TableReads.{seen};
 ghost use Rattle.register_store.specs.Within.TableReads.{GivesRow, ShowsPeriod};
 
+use crate::cells::{months_in, quorum_in};
 use crate::columns::columns;
 use crate::counted::{Counted, Inside, StepCount};
 use crate::error::StoreError;
-use crate::stored_key::{months_in, quorum_in};
 use period_core::{KeyType, Period};
 use register_core::Quorum;
 use sqlite::{Alter, Row, params};
@@ -31,7 +31,7 @@ fn clear_setting<T: Inside>(
     steps: &mut StepCount,
     setting: &Setting,
 ) -> Result<(), StoreError>
-    ensures { Writes T.Inside.sees T.Inside.name 1 (Makes Always (without_set setting.now))
+    ensures { WritesInside T.Inside.sees T.Inside.name 1 (Makes Always (without_set setting.now))
         tx.old tx.new steps.old steps.new result }
 {
     match setting {
@@ -54,7 +54,8 @@ fn add_setting<T: Inside>(
     steps: &mut StepCount,
     setting: Setting,
 ) -> Result<(), StoreError>
-    ensures { Writes T.Inside.sees T.Inside.name 1 (Makes (HasNoneSet setting) (more_set setting))
+    ensures { WritesInside T.Inside.sees T.Inside.name 1
+        (Makes (HasNoneSet setting) (more_set setting))
         tx.old tx.new steps.old steps.new result }
 {
     match setting {
@@ -87,7 +88,7 @@ pub(crate) fn write_setting<T: Inside>(
     steps: &mut StepCount,
     setting: Setting,
 ) -> Result<(), StoreError>
-    ensures { Writes T.Inside.sees T.Inside.name 2 (Makes Always (with_set setting))
+    ensures { WritesInside T.Inside.sees T.Inside.name 2 (Makes Always (with_setting setting))
         tx.old tx.new steps.old steps.new result }
 {
     // Taken out first, since an INSERT is refused where the type or the key has a row.

@@ -8,14 +8,14 @@ ghost use Rattle.register_store.specs.Within.CheckedTables.{ChecksTable};
 ghost use Rattle.register_store.specs.CheckedTables.{counts_of, mark_of};
 ghost use Rattle.register_store.specs.Stored.{Stored, mark};
 ghost use Rattle.register_store.specs.Within.TableReads.{GivesRow};
-ghost use Rattle.register_store.specs.Within.CheckedRows.{IsAny, key_need, type_period};
+ghost use Rattle.register_store.specs.Within.CheckedRows.{IsAnything, key_need, type_period};
 ghost use Rattle.register_store.specs.OpeningChecks.{IsNeedOf};
 ghost use Rattle.register_store.specs.declared.table.TableName.TheVariants as table;
 
+use crate::cells::{key_type_in, months_in, quorum_in, unsigned_integer_in};
 use crate::columns::columns;
 use crate::error::CheckError;
 use crate::found::Found;
-use crate::stored_key::{key_type_in, months_in, quorum_in, unsigned_integer_in};
 use period_core::{KeyType, Period};
 use register_core::Quorum;
 use row_checks::{RowCheck, check_rows};
@@ -81,7 +81,7 @@ impl RowCheck for PeriodCheck {
 pub(crate) fn check_periods<S: Alter>(connection: &mut Connection<S>) -> Result<(), CheckError>
     requires { connection.old.in_transaction ≡ false }
     ensures idle { connection.new.in_transaction ≡ false }
-    ensures checks { (t : Stored) → t.version ≡ Second → ChecksTable table.Period t IsAny
+    ensures checks { (t : Stored) → t.version ≡ Second → ChecksTable table.Period t IsAnything
         (state S.Store connection.old) (state S.Store connection.new) result }
     ensures survives { Survives (state S.Store connection.old)
         (state S.Store connection.new) (λ _. ⊥) }
@@ -140,7 +140,7 @@ pub(crate) fn check_needs<S: Alter>(
     requires { connection.old.in_transaction ≡ false }
     ensures idle { connection.new.in_transaction ≡ false }
     ensures checks { (t : Stored) → t.version ≡ Second → mark_of found.now ≡ mark t →
-        ChecksTable table.Quorum t IsAny
+        ChecksTable table.Quorum t IsAnything
         (state S.Store connection.old) (state S.Store connection.new) result }
     ensures survives { Survives (state S.Store connection.old)
         (state S.Store connection.new) (λ _. ⊥) }

@@ -1,134 +1,35 @@
 //! A key in its tables: its row, which is found, added and changed in what can change of it, and its
-//! custody. How values stand in cells, here and in the rows of other tables.
-ghost use Rattle.std.specs.Prelude.{◌≡◌, ◌≢◌, ◌≤◌, ℕ, pos, List, MatchOption, ◌+◌, Option, length};
+//! custody.
+ghost use Rattle.std.specs.Prelude.{◌≡◌, ◌≢◌, ◌≤◌, MatchOption, ◌+◌, Option, length};
 ghost use Rattle.std.specs.Prelude.{IfOk, IfErr};
-ghost use Rattle.sqlite.specs.Order.{column};
-ghost use Rattle.sqlite.specs.declared.types.Value.TheVariants.{Int, Text as Words};
-ghost use Rattle.moment_core.specs.Moment.{IsMoment};
-ghost use Rattle.lifecycle_core.specs.State.{state_code};
-ghost use Rattle.lifecycle_core.specs.declared.state.State.{State};
-ghost use Rattle.period_core.specs.KeyType.{key_type_code};
-ghost use Rattle.period_core.specs.Period.{max_months};
-ghost use Rattle.period_core.specs.declared.key_type.KeyType.{KeyType};
-ghost use Rattle.register_requests.specs.Name.{IsName};
-ghost use Rattle.register_requests.specs.Quorum.{IsQuorum};
-ghost use Rattle.register_requests.specs.Request.{max_key_number, IsDate};
-ghost use Rattle.sqlite_value.specs.Value.{owned};
 ghost use Rattle.sqlite.specs.Held.{state};
 ghost use Rattle.lifecycle_core.specs.declared.dates.Dates.{Dates};
-ghost use Rattle.register_requests.specs.Purpose.{IsPurpose};
 ghost use Rattle.register_core.specs.declared.key.Key.{Key};
-ghost use Rattle.register_store.specs.Within.StepCount.{Writes};
-ghost use Rattle.register_store.specs.Tables.{AreDates, IsKey, date_cell};
+ghost use Rattle.register_store.specs.Within.StepCount.{WritesInside};
+ghost use Rattle.register_core.specs.Dates.{AreDates};
+ghost use Rattle.register_store.specs.Tables.{IsKey};
 ghost use Rattle.register_store.specs.TableChanges.{Makes, with_key, with_key_at};
 ghost use Rattle.register_store.specs.TableChanges.{with_owner_and_row};
 ghost use Rattle.register_store.specs.Within.TableChanges.{Always};
 ghost use Rattle.register_store.specs.Within.TableChanges.{without_approvals};
 ghost use Rattle.register_store.specs.TableReads.{seen, Calls, HasRow, KeepsSight, Reads};
 ghost use Rattle.register_store.specs.TableReads.{ShowsDates, ShowsKey, CallsOver};
-ghost use Rattle.register_store.specs.Within.TableReads.{AreNamesOf, GivesCell, GivesCellIn};
-ghost use Rattle.register_store.specs.TableReads.{HasKey};
+ghost use Rattle.register_store.specs.Within.TableReads.{AreNamesOf};
+ghost use Rattle.register_store.specs.TableReads.{HasHeldKey};
 ghost use Rattle.register_store.specs.Within.TableReads.{count_at, HasNames, HasNoName};
 ghost use Rattle.register_store.specs.TableReads.{load_steps};
 ghost use Rattle.register_store.specs.Within.Roles.{change_text, select_text, with_role_changed};
 
+use crate::cells::{
+    DateCell, MomentCell, date_in, key_type_in, moment_in, name_in, purpose_in, state_in,
+};
 use crate::columns::{KeyCell, columns};
 use crate::counted::{Counted, Inside, StepCount};
 use crate::error::StoreError;
-use lifecycle_core::{Dates, Row, State};
-use moment_core::{LAST_SECOND, Moment};
-use period_core::KeyType;
+use lifecycle_core::{Dates, Row};
 use register_core::{Held, Key, Name, Names, Purpose, Quorum};
-use sqlite::types::{ToSql, ValueRef};
 use sqlite::{Alter, params};
 use std::alloc::Global;
-
-/// A moment, kept as its second.
-#[derive(Clone, Copy)]
-pub(crate) struct MomentCell(pub(crate) Moment);
-
-impl<'a> ToSql<'a> for MomentCell {
-    ghost to_sql = { λ moment. Int (pos moment.0) };
-
-    fn to_sql(self) -> ValueRef<'a>
-        ensures value { owned result ≡ Int (pos self.0) }
-        ensures in_range { IsMoment self.0 }
-    {
-        ValueRef::Int(self.0.seconds() as i64)
-    }
-}
-
-/// The number in the cell.
-pub(crate) fn unsigned_integer_in(row: &sqlite::Row, at: usize) -> Option<u64>
-    ensures { GivesCell result (column row.now at) (λ n. Int (pos n)) }
-{
-    let Ok(ValueRef::Int(cell)) = row.get_ref(at) else {
-        return None;
-    };
-    u64::try_from(cell).ok()
-}
-
-/// The bytes of the text in the cell.
-pub(crate) fn text_in(row: &sqlite::Row, at: usize) -> Option<&[u8]>
-    ensures { MatchOption result ((text : List ℕ) → column row.now at ≢ Words text)
-        (λ text. column row.now at ≡ Words text.now) }
-{
-    let Ok(ValueRef::Text(bytes)) = row.get_ref(at) else {
-        return None;
-    };
-    Some(bytes)
-}
-
-/// The type of key in the cell.
-pub(crate) fn key_type_in(row: &sqlite::Row, at: usize) -> Option<KeyType>
-    ensures { GivesCell result (column row.now at) (λ kind. Int (pos (key_type_code kind))) }
-{
-    KeyType::from_code(u8::try_from(unsigned_integer_in(row, at)?).ok()?)
-}
-
-/// A number of months in the cell.
-pub(crate) fn months_in(row: &sqlite::Row, at: usize) -> Option<u16>
-    ensures { GivesCellIn result (column row.now at) (λ months. months ≤ max_months)
-        (λ months. Int (pos months)) }
-{
-    u16::try_from(unsigned_integer_in(row, at)?).ok()
-}
-
-/// How many approvals the cell says that a destruction needs.
-pub(crate) fn quorum_in(row: &sqlite::Row, at: usize) -> Option<Quorum>
-    ensures { GivesCellIn result (column row.now at) IsQuorum (λ need. Int (pos need)) }
-{
-    Quorum::new(u8::try_from(unsigned_integer_in(row, at)?).ok()?)
-}
-
-/// The state in the cell.
-pub(crate) fn state_in(row: &sqlite::Row, at: usize) -> Option<State>
-    ensures { GivesCell result (column row.now at) (λ state. Int (pos (state_code state))) }
-{
-    State::from_code(u8::try_from(unsigned_integer_in(row, at)?).ok()?)
-}
-
-/// The name in the cell.
-pub(crate) fn name_in(row: &sqlite::Row, at: usize) -> Option<Name>
-    ensures { GivesCellIn result (column row.now at) IsName Words }
-{
-    Name::new(text_in(row, at)?)
-}
-
-/// The moment in the cell.
-pub(crate) fn moment_in(row: &sqlite::Row, at: usize) -> Option<Moment>
-    ensures { GivesCellIn result (column row.now at) IsMoment (λ second. Int (pos second)) }
-{
-    Moment::new(unsigned_integer_in(row, at)?)
-}
-
-/// The number of a key in the cell, or the 0 that stands for none.
-pub(crate) fn key_number_or_zero_in(row: &sqlite::Row, at: usize) -> Option<u32>
-    ensures { GivesCellIn result (column row.now at) (λ key. key ≤ max_key_number)
-        (λ key. Int (pos key)) }
-{
-    u32::try_from(unsigned_integer_in(row, at)?).ok()
-}
 
 /// The search for the row of a key by its number.
 const FIND_KEY: &str = columns!(keys listed "SELECT ", " FROM keys WHERE number = ?1");
@@ -157,47 +58,6 @@ macro_rules! params_with_dates {
             DateCell($dates.compromise_occurrence)
         ]
     };
-}
-
-/// What stands for a date that is not set: the second past the last moment, so that it comes after
-/// every moment.
-const UNSET: u64 = LAST_SECOND + 1;
-
-/// A date that may be unset, kept as its second or [`UNSET`].
-#[derive(Clone, Copy)]
-struct DateCell(Option<Moment>);
-
-impl<'a> ToSql<'a> for DateCell {
-    ghost to_sql = { λ date. Int (pos (date_cell date.0)) };
-
-    fn to_sql(self) -> ValueRef<'a>
-        ensures value { owned result ≡ Int (pos (date_cell self.0)) }
-        ensures in_range { IsDate self.0 }
-    {
-        match self.0 {
-            Some(moment) => ValueRef::Int(moment.seconds() as i64),
-            None => ValueRef::Int(UNSET as i64),
-        }
-    }
-}
-
-/// The purpose in the cell.
-fn purpose_in(row: &sqlite::Row, at: usize) -> Option<Purpose>
-    ensures { GivesCellIn result (column row.now at) IsPurpose Words }
-{
-    Purpose::new(text_in(row, at)?)
-}
-
-/// The date in the cell, which may be one that is not set.
-fn date_in(row: &sqlite::Row, at: usize) -> Option<Option<Moment>>
-    ensures { MatchOption result
-        ((date : Option ℕ) → IsDate date → column row.now at ≢ Int (pos (date_cell date)))
-        (λ date. (column row.now at ≡ Int (pos (date_cell date))) × IsDate date) }
-{
-    if unsigned_integer_in(row, at)? == UNSET {
-        return Some(None);
-    }
-    moment_in(row, at).map(Some)
 }
 
 /// The dates that the row shows.
@@ -254,7 +114,7 @@ pub(crate) fn add_key<T: Inside>(
     number: u32,
     key: &Key,
 ) -> Result<(), StoreError>
-    ensures { Writes T.Inside.sees T.Inside.name 1
+    ensures { WritesInside T.Inside.sees T.Inside.name 1
         (Makes (λ t. number ≡ length t.keys + 1) (with_key key.now))
         tx.old tx.new steps.old steps.new result }
 {
@@ -284,7 +144,7 @@ pub(crate) fn set_owner_state_and_dates<T: Inside>(
     owner: &Name,
     row: &Row,
 ) -> Result<(), StoreError>
-    ensures { Writes T.Inside.sees T.Inside.name 1
+    ensures { WritesInside T.Inside.sees T.Inside.name 1
         (Makes Always (with_key_at number (with_owner_and_row owner.now row.now)))
         tx.old tx.new steps.old steps.new result }
 {
@@ -369,7 +229,7 @@ pub(crate) fn give_or_take_role<T: Inside>(
     key: u32,
     name: &Name,
 ) -> Result<(), StoreError>
-    ensures { Writes T.Inside.sees T.Inside.name 1
+    ensures { WritesInside T.Inside.sees T.Inside.name 1
         (Makes Always (with_role_changed change key name.now))
         tx.old tx.new steps.old steps.new result }
 {
@@ -383,7 +243,7 @@ pub(crate) fn end_approvals<T: Inside>(
     steps: &mut StepCount,
     key: u32,
 ) -> Result<(), StoreError>
-    ensures { Writes T.Inside.sees T.Inside.name 1 (Makes Always (without_approvals key))
+    ensures { WritesInside T.Inside.sees T.Inside.name 1 (Makes Always (without_approvals key))
         tx.old tx.new steps.old steps.new result }
 {
     tx.execute(
@@ -438,7 +298,7 @@ pub fn load_key<S: Alter>(
     need: Quorum,
 ) -> Result<Option<(Held, Purpose)>, StoreError>
     ensures counted { CallsOver S.Store (load_steps number) connection.old connection.new }
-    ensures reads { Reads S.Store (HasKey number need) connection.old connection.new result }
+    ensures reads { Reads S.Store (HasHeldKey number need) connection.old connection.new result }
 {
     let Some(key) = find_key_row(connection, number)? else {
         return Ok(None);

@@ -1,7 +1,8 @@
 //! The values among the program's words, each read as a field of a request line is.
 ghost use Rattle.std.specs.Prelude.{◌<◌, ◌^◌};
 ghost use Rattle.register_words.specs.Values.{AreBounds, AreTerms, IsBetween, IsCaller, IsDays};
-ghost use Rattle.register_words.specs.Values.{IsExchanges, IsFirst, IsMoment, IsPort, Reads};
+ghost use Rattle.register_words.specs.Values.{IsExchanges, IsFirst, IsMomentText, IsPort};
+ghost use Rattle.register_words.specs.Values.{ReadsValue};
 
 use moment_core::Moment;
 use register_requests::{Name, RequestNumber, read_decimal, read_request_number};
@@ -34,21 +35,21 @@ pub struct Terms {
 
 /// The moment that the text writes in seconds since 1970-01-01T00:00:00Z, in decimal.
 fn read_moment_in_seconds(text: &str) -> Option<Moment>
-    ensures { Reads IsMoment text.now result }
+    ensures { ReadsValue IsMomentText text.now result }
 {
     Moment::new(read_decimal(text.as_bytes())?)
 }
 
 /// The caller that the text names.
 fn read_caller(text: &str) -> Option<Name>
-    ensures { Reads IsCaller text.now result }
+    ensures { ReadsValue IsCaller text.now result }
 {
     Name::new(text.as_bytes())
 }
 
 /// The number of a request that the text writes in decimal.
 fn read_first_number(text: &str) -> Option<RequestNumber>
-    ensures { Reads IsFirst text.now result }
+    ensures { ReadsValue IsFirst text.now result }
 {
     read_request_number(text.as_bytes())
 }
@@ -56,7 +57,7 @@ fn read_first_number(text: &str) -> Option<RequestNumber>
 impl GivenTerms<'_> {
     /// The terms, where each text is a value.
     pub fn read(&self) -> Option<Terms>
-        ensures { Reads AreTerms self.now result }
+        ensures { ReadsValue AreTerms self.now result }
     {
         Some(Terms {
             moment: read_moment_in_seconds(self.moment)?,
@@ -85,7 +86,7 @@ pub struct Bounds {
 /// The whole number from `least` to `most` that the text writes in decimal.
 fn read_number_between(text: &str, least: u64, most: u64) -> Option<u32>
     requires { most < 2 ^ 32 }
-    ensures { Reads (IsBetween least most) text.now result }
+    ensures { ReadsValue (IsBetween least most) text.now result }
 {
     let number = read_decimal(text.as_bytes())?;
     if number < least {
@@ -99,7 +100,7 @@ fn read_number_between(text: &str, least: u64, most: u64) -> Option<u32>
 
 /// The port that the text writes in decimal.
 fn read_port(text: &str) -> Option<u16>
-    ensures { Reads IsPort text.now result }
+    ensures { ReadsValue IsPort text.now result }
 {
     let port = read_number_between(text, 1, MAX_PORT)?;
     Some(port as u16)
@@ -107,7 +108,7 @@ fn read_port(text: &str) -> Option<u16>
 
 /// The number of exchanges that the text writes in decimal.
 fn read_exchanges(text: &str) -> Option<u32>
-    ensures { Reads IsExchanges text.now result }
+    ensures { ReadsValue IsExchanges text.now result }
 {
     read_number_between(text, 1, MAX_EXCHANGES)
 }
@@ -115,7 +116,7 @@ fn read_exchanges(text: &str) -> Option<u32>
 impl GivenBounds<'_> {
     /// The bounds, where each text is a value.
     pub fn read(&self) -> Option<Bounds>
-        ensures { Reads AreBounds self.now result }
+        ensures { ReadsValue AreBounds self.now result }
     {
         Some(Bounds {
             port: read_port(self.port)?,
@@ -126,7 +127,7 @@ impl GivenBounds<'_> {
 
 /// The number of days, up to [`MAX_DAYS`], that the text writes in decimal.
 pub fn read_days(text: &str) -> Option<u32>
-    ensures { Reads IsDays text.now result }
+    ensures { ReadsValue IsDays text.now result }
 {
     read_number_between(text, 0, MAX_DAYS)
 }

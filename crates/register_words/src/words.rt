@@ -1,6 +1,6 @@
 //! What the program's words ask for.
 ghost use Rattle.std.specs.Prelude.{◌≡◌, ◌≤◌, length, Ok};
-ghost use Rattle.register_words.specs.Values.{Reads};
+ghost use Rattle.register_words.specs.Values.{ReadsValue};
 ghost use Rattle.register_words.specs.Words.{IsJob, IsTask};
 
 use crate::values::{Bounds, GivenBounds, GivenTerms, Terms, read_days};
@@ -48,7 +48,7 @@ pub enum GivenJob<'a> {
 impl GivenJob<'_> {
     /// The job, where each text is a value.
     pub fn read(&self) -> Option<Job>
-        ensures { Reads IsJob self.now result }
+        ensures { ReadsValue IsJob self.now result }
     {
         match *self {
             GivenJob::Init => Some(Job::Init),
@@ -77,7 +77,7 @@ pub enum GivenTask<'a> {
 impl<'a> GivenTask<'a> {
     /// The task, where each text is a value.
     pub fn read(&self) -> Option<Task<'a>>
-        ensures { Reads IsTask self.now result }
+        ensures { ReadsValue IsTask self.now result }
     {
         match *self {
             GivenTask::RunInMemory => Some(Task::RunInMemory),
@@ -303,7 +303,7 @@ fn job_by<'a>(
 }
 
 /// The file and the job that the words give.
-fn read_command(alloc: Global, words: &[String]) -> Result<(&str, GivenJob<'_>), Error> {
+fn read_given_job(alloc: Global, words: &[String]) -> Result<(&str, GivenJob<'_>), Error> {
     let mut command = keyreg_command(alloc)?;
     job_by(&mut command, words)
 }
@@ -319,6 +319,6 @@ pub fn read_words(alloc: Global, words: &[String]) -> Result<GivenTask<'_>, Erro
     if words.len() <= 1 {
         return Ok(GivenTask::RunInMemory);
     }
-    let (file, job) = read_command(alloc, words)?;
+    let (file, job) = read_given_job(alloc, words)?;
     Ok(GivenTask::InFile { file, job })
 }

@@ -9,7 +9,7 @@ use Rattle.sqlite_trees.specs.declared.error.StoreError.{StoreError}
 use Rattle.sqlite.specs.State.{State, HasCleanDisk, QueriesRow, QueriesRowInside, Begins, store_error, FailsToQuery}
 use Rattle.sqlite.specs.State.{Shown, ShowsRows, Shows, IsNotRun, IsUnchanged, IsRolledBack, KeepsCommit, Survives}
 use Rattle.sqlite.proofs.InsideLemmas.{unchanged_keeps}
-use Rattle.sql_steps.specs.Steps.{Change, StepsBy}
+use Rattle.sql_steps.specs.Steps.{DatabaseChange, StepsBy}
 
 -- no cause of the store is a text without a meaning
 pub never_input : (fault : _) (cause : StoreError) → ¬ ◌≡◌ {A = Error} (SqlInputError fault) (store_error cause)
@@ -88,14 +88,14 @@ module _ (old new : State) where
   inside_keeps inside sql params r h = search (arith, row_stays, query_keeps, unchanged_keeps)
 
   -- a query that gave a row, and what is made of that
-  pub asks_row : {T E : Type 0} (Changes : T → Change) (value : T) (sql : List ℕ) (params row : Row)
+  pub asks_row : {T E : Type 0} (Changes : T → DatabaseChange) (value : T) (sql : List ℕ) (params row : Row)
       → (QueriesRow sql params old new (Ok row) → Changes value old.now new.now)
       → (HasCleanDisk new → QueriesRowInside sql params old new (Ok row)) → Survives old new (λ _. ⊥)
       → StepsBy {E = E} Changes old new (Ok value)
   asks_row Changes value sql params row found asked survives = search (arith, row_stays, inside_keeps)
 
   -- a query whose text has no meaning
-  pub asks_meaningless : {T E : Type 0} (Changes : T → Change) (value : T) (sql : List ℕ) (params : Row) (e : Error)
+  pub asks_meaningless : {T E : Type 0} (Changes : T → DatabaseChange) (value : T) (sql : List ℕ) (params : Row) (e : Error)
       (fault : _) → e ≡ SqlInputError fault
       → (new.now ≡ old.now → Changes value old.now new.now)
       → (HasCleanDisk new → QueriesRowInside sql params old new (Err e)) → Survives old new (λ _. ⊥)
@@ -104,7 +104,7 @@ module _ (old new : State) where
       search (arith, meaningless_same, inside_keeps)
 
   -- a query whose answer, or the lack of one, is a failure
-  pub asks_fails : {T E : Type 0} (Changes : T → Change) (sql : List ℕ) (params : Row) (r : Result Row Error)
+  pub asks_fails : {T E : Type 0} (Changes : T → DatabaseChange) (sql : List ℕ) (params : Row) (r : Result Row Error)
       (q : Result T E) → IsErr q
       → (HasCleanDisk new → QueriesRowInside sql params old new r) → Survives old new (λ _. ⊥)
       → StepsBy Changes old new q

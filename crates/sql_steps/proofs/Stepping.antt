@@ -11,13 +11,13 @@ use Rattle.sqlite.proofs.InsideLemmas.{inside_keeps, keeps_then}
 use Rattle.sqlite.proofs.StateLemmas.{survives_then, survives_weaker}
 use Rattle.sqlite_trees.specs.declared.store.Store as store
 use Rattle.sqlite.specs.Held.{Held, state}
-use Rattle.sql_steps.specs.Steps.{Change, StepsBy, TransactsBy}
+use Rattle.sql_steps.specs.Steps.{DatabaseChange, StepsBy, TransactsBy}
 use Rattle.sql_steps.specs.Within.Steps.{Then}
 
 -- ---- one statement
 
 -- a write
-pub writes : (Made : Change) (sql : List ℕ) (params : Row) (old new : State) (r : Result ℕ Error)
+pub writes : (Made : DatabaseChange) (sql : List ℕ) (params : Row) (old new : State) (r : Result ℕ Error)
     → ((count : ℕ) → Executes sql params old new (Ok count) → Made old.now new.now)
     → (HasCleanDisk new → IsTrue old.in_transaction → ExecutesInside 0 sql params old new r)
     → Survives old new (λ _. ⊥) → StepsBy (λ (_ : ℕ). Made) old new r
@@ -26,41 +26,41 @@ writes Made sql params old new r does ran survives = search (arith, inside_keeps
 -- ---- steps
 
 -- nothing was done
-pub stays : {T E : Type 0} (Changes : T → Change) (a : State) (value : T) → Changes value a.now a.now
+pub stays : {T E : Type 0} (Changes : T → DatabaseChange) (a : State) (value : T) → Changes value a.now a.now
     → Survives a a (λ _. ⊥) → StepsBy {E = E} Changes a a (Ok value)
 stays Changes a value same survives = search arith
 
 -- a failure claims no change, whatever the step was
-pub fails : {A B E F : Type 0} (First : A → Change) (Next : B → Change) (a b : State) (r : Result A E) (q : Result B F)
+pub fails : {A B E F : Type 0} (First : A → DatabaseChange) (Next : B → DatabaseChange) (a b : State) (r : Result A E) (q : Result B F)
     → IsErr q → StepsBy First a b r → StepsBy Next a b q
 fails First Next a b r q failed one = search arith
 
 -- another value, and a weaker word for the change
-pub steps_as : {A B E F : Type 0} (First : A → Change) (Next : B → Change) (a b : State) (x : A) (y : B)
+pub steps_as : {A B E F : Type 0} (First : A → DatabaseChange) (Next : B → DatabaseChange) (a b : State) (x : A) (y : B)
     → ((old new : Database) → First x old new → Next y old new) → StepsBy {E = E} First a b (Ok x)
     → StepsBy {E = F} Next a b (Ok y)
 steps_as First Next a b x y weaker one = search arith
 
 -- a weaker word for the change, whatever the result is
-pub steps_weaker : {A E : Type 0} (First Next : A → Change) (a b : State) (r : Result A E)
+pub steps_weaker : {A E : Type 0} (First Next : A → DatabaseChange) (a b : State) (r : Result A E)
     → ((x : A) (old new : Database) → First x old new → Next x old new) → StepsBy First a b r → StepsBy Next a b r
 steps_weaker First Next a b r weaker one = search (arith, steps_as, fails)
 
 -- a write whose count nobody asks for
-pub runs : {E : Type 0} (Made : Change) (sql : List ℕ) (params : Row) (old new : State) (count : ℕ)
+pub runs : {E : Type 0} (Made : DatabaseChange) (sql : List ℕ) (params : Row) (old new : State) (count : ℕ)
     → ((count : ℕ) → Executes sql params old new (Ok count) → Made old.now new.now)
     → (HasCleanDisk new → IsTrue old.in_transaction → ExecutesInside 0 sql params old new (Ok count))
     → Survives old new (λ _. ⊥) → StepsBy {E = E} (λ (_ : Unit {0}). Made) old new (Ok tt)
 runs Made sql params old new count does ran survives = search (arith, steps_as, writes)
 
 -- a step that went on, and then another
-pub steps_then : {A B E F : Type 0} (First : A → Change) (Next : B → Change) (a b c : State) (x : A) (r : Result B F)
+pub steps_then : {A B E F : Type 0} (First : A → DatabaseChange) (Next : B → DatabaseChange) (a b c : State) (x : A) (r : Result B F)
     → StepsBy {E = E} First a b (Ok x) → StepsBy Next b c r → StepsBy (λ y. Then (First x) (Next y)) a c r
 steps_then First Next a b c x r one two = search (arith, keeps_then, survives_then)
 
 -- ---- one transaction
 
-module _ (Made : Change) (old : State) where
+module _ (Made : DatabaseChange) (old : State) where
   -- the transaction that begins there
   abbrev Inner : State
   Inner = record old { in_transaction = true }
@@ -69,13 +69,13 @@ module _ (Made : Change) (old : State) where
   Left trees = (db : Database) × Made old.now db × (trees ≡ db.trees)
 
   -- a step that failed, or one that nothing came of, and then the rollback
-  pub rolls_back : {A B E F : Type 0} (Tried : A → Change) (mid new : State) (r : Result A E) (q : Result B F)
+  pub rolls_back : {A B E F : Type 0} (Tried : A → DatabaseChange) (mid new : State) (r : Result A E) (q : Result B F)
       → IsErr q → StepsBy Tried Inner mid r → (HasCleanDisk new → IsRolledBack mid new) → Survives mid new (λ _. ⊥)
       → TransactsBy Made old new q
   rolls_back Tried mid new r q failed step undone dropped = search (arith, survives_then)
 
   -- the steps, and then the commit
-  pub commits : {A E : Type 0} (Tried : A → Change) (mid new : State) (x : A) (r : Result (Unit {0}) Error)
+  pub commits : {A E : Type 0} (Tried : A → DatabaseChange) (mid new : State) (x : A) (r : Result (Unit {0}) Error)
       → ((db : Database) → Tried x old.now db → Made old.now db) → StepsBy {E = E} Tried Inner mid (Ok x)
       → (HasCleanDisk new
       → OnOk r (IsTrue mid.in_transaction × Shows mid new mid.now mid.now false × KeepsCounts mid new
@@ -86,7 +86,7 @@ module _ (Made : Change) (old : State) where
 
 -- ---- steps that are given up, whatever they gave
 
-module _ {A E : Type 0} (Tried : A → Change) (old mid new : State) (r : Result A E)
+module _ {A E : Type 0} (Tried : A → DatabaseChange) (old mid new : State) (r : Result A E)
     (step : StepsBy Tried (record old { in_transaction = true }) mid r) (undone : HasCleanDisk new
     → IsRolledBack mid new)
     (dropped : Survives mid new (λ _. ⊥)) where
@@ -97,17 +97,17 @@ module _ {A E : Type 0} (Tried : A → Change) (old mid new : State) (r : Result
   given_up_survives = survives_weaker old new _ (λ _. ⊥) (λ clean trees left. left.1) gives_up.stop
 
 -- another value of the same outcome
-pub transacts_as : {A B E F : Type 0} (Made : Change) (old new : State) (x : A) (y : B)
+pub transacts_as : {A B E F : Type 0} (Made : DatabaseChange) (old new : State) (x : A) (y : B)
     → TransactsBy {E = E} Made old new (Ok x) → TransactsBy {E = F} Made old new (Ok y)
 transacts_as Made old new x y one = record { accepted = one.accepted; failed = λ clean shown. tt; stop = one.stop }
 
-pub fails_as : {A B E F : Type 0} (Made : Change) (old new : State) (e : E) (q : Result B F) → IsErr q
+pub fails_as : {A B E F : Type 0} (Made : DatabaseChange) (old new : State) (e : E) (q : Result B F) → IsErr q
     → TransactsBy {T = A} Made old new (Err e) → TransactsBy Made old new q
 fails_as Made old new e q failed one = search arith
 
 -- After a success a stop leaves the new alone.
 pub leaves_alone : {S A E : Type 0} (g : store.Ghosts S) (settled : (s : S) (db : Trees)
-    → IsTrue (g.view s).is_open → g.recovers s db → db ≡ (g.view s).committed) (Made : Change) (old : State)
+    → IsTrue (g.view s).is_open → g.recovers s db → db ≡ (g.view s).committed) (Made : DatabaseChange) (old : State)
     (new : Held S) (r : Result A E)
     → TransactsBy Made old (state g new) r → HasCleanDisk (state g new)
     → OnOk r ((trees : Trees) → (state g new).may_leave trees → trees ≡ (state g new).now.trees)

@@ -1,7 +1,7 @@
 -- What a turn at a reader or a writer leaves of its counts.
 use Rattle.std.specs.Prelude.{◌≡◌, ◌⊎◌, ℕ, ◌+◌, ◌-◌, ◌≤◌, ◌^◌, max, min, Bool, true}
 
--- one more, but none past the last of a `u64`
+-- A count with one added, but none past the last of a `u64`. Own.
 abbrev pub one_more : ℕ → ℕ
 one_more count = max count (min (count + 1) (2 ^ 64 - 1))
 

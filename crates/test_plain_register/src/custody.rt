@@ -4,12 +4,15 @@ ghost use Rattle.std.specs.Prelude.{◌≡◌, ◌+◌, ◌<◌, ◌≤◌, ◌^
 ghost use Rattle.std.specs.Prelude.{ℕ, IfOk, if◌then◌else◌};
 ghost use Rattle.register_requests.specs.declared.request.Request.{Request};
 ghost use Rattle.register_core.specs.KeyName.{key_name, names_at};
-ghost use Rattle.register_core.specs.Custody.{is_about, stays_custodian, custodian_of, custodians};
-ghost use Rattle.register_core.specs.Custody.{ends_by, is_ended, approval_of, approvals};
-ghost use Rattle.register_core.specs.Within.Custody.{listed};
+ghost use Rattle.register_core.specs.Custody.{is_about, stays_custodian, custodians};
+ghost use Rattle.register_core.specs.Within.Custody.{custodian_of};
+ghost use Rattle.register_core.specs.Custody.{ends_by, is_ended, approvals};
+ghost use Rattle.register_core.specs.Within.Custody.{approval_of};
+ghost use Rattle.register_core.specs.Within.Custody.{name_list};
 ghost use Rattle.register_core.specs.Custody.{need};
 ghost use Rattle.register_core.specs.Effect.{need_after};
-ghost use Rattle.register_requests.specs.Subject.{key_of, is_key};
+ghost use Rattle.register_requests.specs.Subject.{is_key};
+ghost use Rattle.register_requests.specs.Within.Subject.{key_concerned};
 
 use crate::history::dates;
 use register_core::{Command, Name, Names, Quorum, Request};
@@ -47,7 +50,7 @@ fn stays_custodian(key: u32, name: &Name, later: &[Request]) -> bool
 /// The custodian of the key that the request adds, where none of the later ones adds it anew or
 /// removes it.
 fn custodian_of(key: u32, request: &Request, later: &[Request]) -> Option<Name>
-    ensures { listed result ≡ names_at key (custodian_of request.now later.now) }
+    ensures { name_list result ≡ names_at key (custodian_of request.now later.now) }
 {
     match &request.command {
         Command::AddCustodian { key: of, name }
@@ -114,7 +117,7 @@ fn approval_of(history: &[Request], at: usize, key: u32) -> Option<Name>
     requires small { length history.now + 1 < 2 ^ 32 }
     requires within { at < length history.now }
     ensures { (q : Request) → q ≡ slice_index_or history.now at q →
-        listed result ≡
+        name_list result ≡
         names_at key (approval_of (take at history.now) q (drop (at + 1) history.now)) }
 {
     let request = &history[at];
@@ -144,7 +147,7 @@ pub(crate) fn approvals(alloc: Global, history: &[Request], key: u32) -> Result<
 /// What the owner of the key asks for after the command, whatever number of keys was made before
 /// it.
 fn need_with(before: Option<Quorum>, key: u32, command: &Command) -> Option<Quorum>
-    ensures { (made : ℕ) → result ≡ (if is_key key (key_of made command.now)
+    ensures { (made : ℕ) → result ≡ (if is_key key (key_concerned made command.now)
         then need_after before command.now else before) }
 {
     match *command {

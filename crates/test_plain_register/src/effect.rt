@@ -1,12 +1,13 @@
 //! What a command makes of a key's dates.
 ghost use Rattle.std.specs.Prelude.{◌≡◌};
-ghost use Rattle.register_core.specs.Effect.{date_after_edit, dates_after, deactivated};
-ghost use Rattle.register_core.specs.Effect.{compromised};
+ghost use Rattle.register_core.specs.Effect.{date_after_edit, dates_after};
+ghost use Rattle.register_core.specs.Within.Effect.{deactivated};
+ghost use Rattle.register_core.specs.Within.Effect.{compromised};
 
 use lifecycle_core::Dates;
 use moment_core::Moment;
 use period_core::{Period, dates_with_defaults, defaulted_dates_cut_to_limits};
-use register_core::{Command, Edit, given_dates};
+use register_core::{Command, Edit};
 
 /// The dates of a key that is deactivated at the moment: its originator use ends no later.
 fn deactivated(at: Moment, dates: &Dates) -> Dates
@@ -51,12 +52,18 @@ pub(crate) fn dates_after(period: Period, dates: &Dates, at: Moment, command: &C
     ensures { result ≡ dates_after period dates.now at command.now }
 {
     match *command {
-        Command::Register {
-            activation: active,
-            protect_stop: stop,
-            deactivation: end,
-            ..
-        } => dates_with_defaults(period, given_dates(at, active, stop, end)),
+        Command::Register(new) => {
+            let given = Dates {
+                initial: at,
+                activation: new.activation,
+                protect_stop: new.protect_stop,
+                deactivation: new.deactivation,
+                destroy: None,
+                compromise: None,
+                compromise_occurrence: None,
+            };
+            dates_with_defaults(period, given)
+        }
         Command::Activate { .. } => {
             let activation = Some(at);
             defaulted_dates_cut_to_limits(

@@ -2,17 +2,20 @@
 //! owner and the dates of each key.
 ghost use Rattle.std.specs.Prelude.{◌≡◌, ◌+◌, ◌^◌, ◌<◌, ◌≤◌, [], length};
 ghost use Rattle.std.specs.Prelude.{unwrap_or, IsSome, if◌then◌else◌};
-ghost use Rattle.register_core.specs.History.{latest, count, period, set_period, type, owner, dates};
-ghost use Rattle.register_requests.specs.Subject.{key_of, is_key};
+ghost use Rattle.register_core.specs.History.{latest, count, period, set_period, type, owner};
+ghost use Rattle.register_core.specs.History.{dates};
+ghost use Rattle.register_requests.specs.Subject.{is_key};
+ghost use Rattle.register_requests.specs.Within.Subject.{key_concerned};
 ghost use Rattle.register_requests.specs.Within.Subject.{made_by};
-ghost use Rattle.register_core.specs.Effect.{kind_after, owner_after, dates_after, period_after};
+ghost use Rattle.register_core.specs.Effect.{owner_after, dates_after, period_after};
+ghost use Rattle.register_core.specs.Within.Effect.{kind_after};
 ghost use Rattle.register_core.specs.Effect.{unset_dates};
 
 use crate::effect::dates_after;
 use lifecycle_core::Dates;
 use moment_core::Moment;
 use period_core::{KeyType, Period, period_or_default};
-use register_core::{Command, Name, Request, given_dates};
+use register_core::{Command, Name, Registration, Request};
 
 /// The latest moment of a history.
 pub fn latest(history: &[Request]) -> Moment
@@ -27,10 +30,10 @@ pub fn latest(history: &[Request]) -> Moment
 /// The key that a command makes, where this many keys were made before it, or names.
 pub(crate) fn key_of(made: u32, command: &Command) -> Option<u32>
     requires { made + 1 < 2 ^ 32 }
-    ensures { result ≡ key_of made command.now }
+    ensures { result ≡ key_concerned made command.now }
 {
     match command {
-        Command::Register { .. } => Some(made + 1),
+        Command::Register(_) => Some(made + 1),
         _ => command.key(),
     }
 }
@@ -41,7 +44,7 @@ fn made_by(command: &Command) -> u32
     ensures within { result ≤ 1 }
 {
     match command {
-        Command::Register { .. } => 1,
+        Command::Register(_) => 1,
         _ => 0,
     }
 }
@@ -62,7 +65,7 @@ pub fn count(history: &[Request]) -> u32
 /// Whether a command makes or names the key, where this many keys were made before it.
 fn concerns(key: u32, made: u32, command: &Command) -> bool
     requires { made + 1 < 2 ^ 32 }
-    ensures { result ≡ is_key key (key_of made command.now) }
+    ensures { result ≡ is_key key (key_concerned made command.now) }
 {
     match key_of(made, command) {
         Some(other) => other == key,
@@ -73,11 +76,11 @@ fn concerns(key: u32, made: u32, command: &Command) -> bool
 /// The type of the key after the command.
 fn kind_with(before: KeyType, key: u32, made: u32, command: &Command) -> KeyType
     requires { made + 1 < 2 ^ 32 }
-    ensures { result ≡ (if is_key key (key_of made command.now)
+    ensures { result ≡ (if is_key key (key_concerned made command.now)
         then kind_after before command.now else before) }
 {
     match *command {
-        Command::Register { kind, .. } if concerns(key, made, command) => kind,
+        Command::Register(new) if concerns(key, made, command) => new.kind,
         _ => before,
     }
 }
@@ -99,13 +102,13 @@ pub fn kind_of_key(history: &[Request], key: u32) -> KeyType
 /// The owner of the key after the command, or `None` before its first.
 fn owner_with(before: Option<Name>, key: u32, made: u32, command: &Command) -> Option<Name>
     requires { made + 1 < 2 ^ 32 }
-    ensures value { unwrap_or result [] ≡ (if is_key key (key_of made command.now)
+    ensures value { unwrap_or result [] ≡ (if is_key key (key_concerned made command.now)
         then owner_after (unwrap_or before []) command.now else unwrap_or before []) }
     ensures kept { IsSome before → IsSome result }
     ensures first { key ≡ made + 1 → made_by command.now ≡ 1 → IsSome result }
 {
     match *command {
-        Command::Register { owner, .. } | Command::Assign { owner, .. }
+        Command::Register(Registration { owner, .. }) | Command::Assign { owner, .. }
             if concerns(key, made, command) => { Some(owner) }
         _ => before,
     }
@@ -130,7 +133,15 @@ pub fn owner(history: &[Request], key: u32) -> Option<Name>
 fn unset_dates() -> Dates
     ensures { result ≡ unset_dates }
 {
-    given_dates(Moment::new(0).unwrap(), None, None, None)
+    Dates {
+        initial: Moment::new(0).unwrap(),
+        activation: None,
+        protect_stop: None,
+        deactivation: None,
+        destroy: None,
+        compromise: None,
+        compromise_occurrence: None,
+    }
 }
 
 /// The period of the type after the command, if the office set one.
@@ -171,7 +182,7 @@ fn dates_with(
     request: &Request,
 ) -> Dates
     requires { made + 1 < 2 ^ 32 }
-    ensures { result ≡ (if is_key key (key_of made request.now.command)
+    ensures { result ≡ (if is_key key (key_concerned made request.now.command)
         then dates_after (period history.now kind) before request.now.moment request.now.command
         else before) }
 {

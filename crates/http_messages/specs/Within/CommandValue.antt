@@ -2,8 +2,8 @@
 use Rattle.std.specs.Prelude.{◌≡◌}
 use Rattle.register_requests.specs.declared.command_fields.Fields.{Fields}
 use Rattle.register_requests.specs.declared.command_fields.Shape.{Shape}
-use Rattle.register_requests.specs.Within.Fields.{shape_of}
-use Rattle.register_requests.specs.Request.{AreFieldsInRange}
+use Rattle.register_requests.specs.Fields.{shape_of}
+use Rattle.register_requests.specs.Within.Fields.{AreFieldsInRange}
 use Rattle.serde_json.specs.Data.{Data, Members}
 use Rattle.http_messages.specs.CommandValue.{fields_members}
 

@@ -8,7 +8,7 @@ use Rattle.streams.specs.Watched.{IsFaulted}
 use Rattle.http_messages.specs.declared.asked.AskFault.TheVariants.{ReadFault}
 use Rattle.http_messages.specs.declared.asking.Asking.{Asking}
 use Rattle.http_messages.specs.declared.head.TheConstants.{MAX_EXCHANGE_READS}
-use Rattle.http_messages.specs.CommandBody.{IsInRange}
+use Rattle.http_messages.specs.CommandBody.{IsAskedInRange}
 use Rattle.http_messages.specs.Content.{HasRead, TellsFault}
 
 -- What reading an input gives and leaves: so many bytes were read, of which the asking counts few; what is asked for is
@@ -17,7 +17,7 @@ pub record ReadsInput {R : Type 0} (remaining : R → Option (List ℕ)) (old ne
     (asking : Asking) : Type 0 where
   pub read : HasRead (remaining old.inner) (remaining new.inner) count
   pub few : asking.read < 2 ^ 32
-  pub in_range : IfOk asking.asked (λ o. IfSome o IsInRange)
+  pub in_range : IfOk asking.asked (λ o. IfSome o IsAskedInRange)
   pub tells : TellsFault old.failed new.failed asking.asked
   pub fault : IfErr asking.asked (λ fault. fault ≡ ReadFault → IsFaulted new.failed MAX_EXCHANGE_READS new.turns)
   pub bounded : old.turns ≤ MAX_EXCHANGE_READS → new.turns ≤ MAX_EXCHANGE_READS

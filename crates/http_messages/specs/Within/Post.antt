@@ -1,7 +1,7 @@
 -- What a whole head says of the request before its body is read.
 use Rattle.std.specs.Prelude.{◌≡◌, ◌≤◌, Some}
 use Rattle.httparse.specs.Grammar.{RequestHead}
-use Rattle.http_messages.specs.HeaderFields.{Lines}
+use Rattle.http_messages.specs.HeaderFields.{HeaderLines}
 use Rattle.http_messages.specs.Route.{IsRouteOf, method_of}
 use Rattle.http_messages.specs.Asked.{lines_of, HasHost, IsPlain, Announces, IsFrom, max_body_length}
 use Rattle.http_messages.specs.declared.route.Route.{Route}
@@ -14,7 +14,7 @@ pub record IsFor (h : RequestHead) (r : Route) : Type 0 where
   pub method : h.method ≡ method_of r
 
 -- the header lines of a POST say this
-pub record Says (lines : Lines) (p : Post) : Type 0 where
+pub record Says (lines : HeaderLines) (p : Post) : Type 0 where
   pub plain : IsPlain lines
   pub length : Announces lines p.length
   pub short : p.length ≤ max_body_length

@@ -1,6 +1,5 @@
 -- What functions within the crate say of one another, beside `specs/Export.antt`.
-use Rattle.std.specs.Prelude.{ℕ, nat_le, List}
-use Rattle.std.specs.Prelude.{IsTrue}
+use Rattle.std.specs.Prelude.{ℕ, nat_le, List, IsTrue}
 use Rattle.std.specs.List.{list_all}
 
 -- ---- rows of fields

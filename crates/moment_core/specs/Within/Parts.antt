@@ -3,8 +3,8 @@ use Rattle.std.specs.Prelude.{ℕ, ◌/◌, ◌%◌, List, ◌++◌, codes}
 use Rattle.moment_core.specs.MomentText.{two_digits, four_digits}
 
 -- a date, with the T that ends it
-abbrev pub date_text : ℕ → ℕ → ℕ → List ℕ
-date_text year month day =
+abbrev pub date_part_text : ℕ → ℕ → ℕ → List ℕ
+date_part_text year month day =
     four_digits year ++ codes "-" ++ two_digits month ++ codes "-" ++ two_digits day ++ codes "T"
 
 -- the time of day of a second of the day

@@ -1,6 +1,5 @@
 -- What functions within the crate say of one another, beside `specs/Fitting.antt`.
-use Rattle.std.specs.Prelude.{◌≡◌, Option}
-use Rattle.std.specs.Prelude.{None, Some, Result, Ok, Err}
+use Rattle.std.specs.Prelude.{◌≡◌, Option, None, Some, Result, Ok, Err}
 
 -- ---- refusals
 

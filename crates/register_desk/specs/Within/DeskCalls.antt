@@ -1,21 +1,37 @@
 -- What the private calls of a desk say of one another.
-use Rattle.std.specs.Prelude.{◌≡◌, ℕ, OnOk, Result}
+use Rattle.std.specs.Prelude.{◌≡◌, ℕ, true, Ok, Err, IfErr, OnOk, Result}
 use Rattle.sqlite_trees.specs.declared.store.Store.{Ghosts}
 use Rattle.register_desk.specs.declared.desk.Desk.{Desk}
 use Rattle.register_desk.specs.declared.end.End.{End}
-use Rattle.register_desk.specs.Desk.{ChangesNothing, Ends, IsOpen, KeepsCounts, KeepsToSteps}
+use Rattle.register_desk.specs.declared.end.End.TheVariants.{Memory, Store, Broken, ReadFault, WriteFault, BadHeader}
+use Rattle.register_desk.specs.Desk.{ChangesNothing, IsOpen, KeepsToSteps}
+
+-- an end that comes of a call of the store
+abbrev pub IsOfStore : End → Type 0
+IsOfStore Memory = Unit {0}
+IsOfStore Store = Unit {0}
+IsOfStore Broken = ⊥
+IsOfStore ReadFault = ⊥
+IsOfStore WriteFault = ⊥
+IsOfStore BadHeader = ⊥
 
 module _ {S : Type 0} {g : Ghosts S} where
-  -- the connection, the latest moment and the number of keys are as they were
-  pub record KeepsAll (old new : Desk S g) : Type 0 where
-    pub connection : new.connection ≡ old.connection
-    pub counts : KeepsCounts old new
+  -- the desk that this end leaves: 31 breaks it
+  abbrev pub left_at : End → Desk S g → Desk S g
+  left_at Store desk = record desk { is_broken = true }
+  left_at end desk = desk
 
--- What a look-up does: it ends as each call of the database, changes nothing, takes at most so many steps where the
+  -- the desk that a call leaves of which this came
+  abbrev pub left_by : {T : Type 0} → Result T End → Desk S g → Desk S g
+  left_by (Ok value) desk = desk
+  left_by (Err end) desk = left_at end desk
+
+-- What a look-up does, before an end of it breaks the desk: that changes nothing, takes at most so many steps where the
 -- desk stands for a history, and where it answers the connection is open.
 pub record LooksUp {S T : Type 0} (g : Ghosts S) (most : ℕ) (old new : Desk S g) (result : Result T End)
     : Type 0 where
-  pub ends : Ends old new result
-  pub reads : ChangesNothing g old new
+  pub mark : new.is_broken ≡ old.is_broken
+  pub ends : IfErr result IsOfStore
+  pub reads : ChangesNothing g old (left_by result new)
   pub steps : KeepsToSteps g most old new
   pub opened : OnOk result (IsOpen g new)

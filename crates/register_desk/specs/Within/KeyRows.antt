@@ -20,6 +20,7 @@ CountsOn keys (ByNumber last) None = keys ≤ last
 CountsOn keys (ByNumber last) (Some row) = row.number ≡ last + 1
 CountsOn keys (ByStop until last run) found = Unit {0}
 
+-- the scan that goes on after this row
 abbrev pub after_row : Scan → KeyRow → Scan
 after_row (ByNumber last) r = ByNumber r.number
 after_row (ByStop until last run) r = ByStop until (cursor_of_row r) (date_run_of_next_key last (stop_of r))

@@ -14,17 +14,15 @@ impl<S: Alter> Desk<S> {
     ghost use Rattle.register_store.specs.TableReads.{HasRequest, seen};
     ghost use Rattle.register_store.specs.Tables.{Tables};
     ghost use Rattle.register_requests.specs.CommandRule.{looks_at_custody};
-    ghost use Rattle.register_desk.specs.Desk.{IsBroken, IsClean, IsWhole, keys_of, latest_of};
-    ghost use Rattle.register_desk.specs.Desk.{ChangesNothing, Ends, IsAnsweredOver, IsOpen};
-    ghost use Rattle.register_desk.specs.Desk.{IsNew, KeepsCounts, LeavesWithRequest};
+    ghost use Rattle.register_desk.specs.Desk.{AppliesOver, AppliesTo, ChangesNothing, Ends};
+    ghost use Rattle.register_desk.specs.Desk.{IsClean, IsNew, IsOpen, IsWhole, KeepsCounts};
     ghost use Rattle.register_desk.specs.Desk.{KeepsToSteps, RepeatsWithin, TakesSteps};
-    ghost use Rattle.register_desk.specs.Desk.{AppliesOver, AppliesTo};
-    ghost use Rattle.register_desk.specs.Within.DeskCalls.{LooksUp};
-    ghost use Rattle.register_desk.specs.Register.{IsOver, Sees, StandsFor};
+    ghost use Rattle.register_desk.specs.Desk.{UnlessChanged, keys_of, latest_of};
+    ghost use Rattle.register_desk.specs.Within.DeskCalls.{IsOfStore, LooksUp, left_by};
+    ghost use Rattle.register_desk.specs.Register.{Sees};
     ghost use Rattle.sql_steps.specs.Steps.{TransactsBy};
-    ghost use Rattle.register_core.specs.Answer.{UnlessAccepted};
     ghost use Rattle.register_core.specs.KeptReply.{kept_with};
-    ghost use Rattle.register_requests.specs.Request.{IsRequest, is_in_range};
+    ghost use Rattle.register_requests.specs.Request.{is_in_range};
     ghost use Rattle.register_core.specs.Verdict.{max_keys};
     ghost use Rattle.register_core.specs.declared.reply.Reply.{Reply};
     ghost use Rattle.register_store.specs.Change.{made_count};
@@ -43,10 +41,13 @@ impl<S: Alter> Desk<S> {
         ensures ends { Ends self.old self.new result }
         ensures clean { IsClean S.Store self.new → IsClean S.Store self.old }
         // Over a history: the answer is the verdict, and the desk stands for what comes of it.
-        ensures to { AppliesTo S.Store request.now 51 self.old self.new result }
+        ensures to { (h : List Request) → AppliesTo S.Store h request.now
+            self.old self.new result }
         // Over tables of no history too what they keep under the caller and number decides, or
         // else a judgement by them. An accepted request makes one change of them; nothing else does.
-        ensures over { AppliesOver S.Store request.now self.old self.new result }
+        ensures over { (t : Tables) → AppliesOver S.Store t request.now
+            self.old self.new result }
+        ensures steps { KeepsToSteps S.Store 51 self.old self.new }
         ensures no_request { is_in_range request.now.command ≡ false → IsWhole self.old
             → result ≡ Ok (Answer.Refused Refusal.BadLine) }
         // The connection is open, so that what stands is seen in full.
@@ -58,10 +59,7 @@ impl<S: Alter> Desk<S> {
         ensures memory { result ≡ Err End.Memory → looks_at_custody request.now.command ≡ true }
         // A repeat and a refusal change nothing, nor does an end other than 31, whatever the tables
         // hold.
-        ensures nothing { IfOk result (λ given.
-            UnlessAccepted given (ChangesNothing S.Store self.old self.new)) }
-        ensures unchanged { IfErr result (λ end. end ≢ End.Store
-            → ChangesNothing S.Store self.old self.new) }
+        ensures unchanged { UnlessChanged result (ChangesNothing S.Store self.old self.new) }
     {
         if self.is_broken {
             return Err(End::Broken);
@@ -69,35 +67,46 @@ impl<S: Alter> Desk<S> {
         if !request.command.is_in_range() {
             return Ok(Answer::Refused(Refusal::BadLine));
         }
+        let answer = self.answer(request);
+        self.break_if_refused(&answer);
+        answer
+    }
+
+    /// Answers a request in its range, and makes the change of one that is accepted. The desk does
+    /// not break yet.
+    fn answer(&mut self, request: &Request) -> Result<Answer, End>
+        requires { IsWhole self.old }
+        ensures mark { self.new.is_broken ≡ self.old.is_broken }
+        ensures ends { IfErr result IsOfStore }
+        ensures clean { IsClean S.Store self.new → IsClean S.Store self.old }
+        ensures over { (t : Tables) → AppliesOver S.Store t request.now
+            self.old (left_by result self.new) result }
+        ensures steps { KeepsToSteps S.Store 51 self.old self.new }
+        ensures opened { OnOk result (IsOpen S.Store self.new) }
+        ensures within { IfOk result (RepeatsWithin (latest_of self.old) (keys_of self.old)) }
+        ensures memory { result ≡ Err End.Memory → looks_at_custody request.now.command ≡ true }
+        ensures unchanged { UnlessChanged result (ChangesNothing S.Store self.old self.new) }
+    {
         match self.look_up_kept_reply(&request.caller, request.number)? {
             Some(before) => Ok(before.answer_to_repeat(request)),
-            None => self.apply_new(request),
+            None => self.answer_new(request),
         }
     }
 
-    /// Applies a request that does not come again.
-    fn apply_new(&mut self, request: &Request) -> Result<Answer, End>
+    /// Answers a request that does not come again.
+    fn answer_new(&mut self, request: &Request) -> Result<Answer, End>
         requires whole { IsWhole self.old }
         requires opened { IsOpen S.Store self.old }
+        ensures mark { self.new.is_broken ≡ self.old.is_broken }
+        ensures ends { IfErr result IsOfStore }
+        ensures clean { IsClean S.Store self.new → IsClean S.Store self.old }
+        ensures over { (t : Tables) → (IsClean S.Store self.new → IsNew t request.now)
+            → AppliesOver S.Store t request.now self.old (left_by result self.new) result }
+        ensures steps { KeepsToSteps S.Store 49 self.old self.new }
         ensures opened { OnOk result (IsOpen S.Store self.new) }
         ensures new { IfOk result (λ given. (first : Reply) → given ≢ Answer.Repeated first) }
         ensures memory { result ≡ Err End.Memory → looks_at_custody request.now.command ≡ true }
-        ensures ends { Ends self.old self.new result }
-        ensures clean { IsClean S.Store self.new → IsClean S.Store self.old }
-        ensures over { (t : Tables) → IsNew t request.now → IsOver S.Store self.old t
-            → IsRequest request.now → IsClean S.Store self.new
-            → IfOk result (λ given. IsAnsweredOver S.Store t request.now given self.new) }
-        ensures still { (t : Tables) → IsOver S.Store self.old t
-            → OnErr result (IsOver S.Store self.new t) }
-        ensures leaves { (t : Tables) → IsNew t request.now → IsOver S.Store self.old t
-            → IsRequest request.now → IsClean S.Store self.new
-            → IfErr result (λ end. end ≡ End.Store
-            → LeavesWithRequest S.Store t request.now self.new) }
-        ensures nothing { IfOk result (λ given.
-            UnlessAccepted given (ChangesNothing S.Store self.old self.new)) }
-        ensures unchanged { IfErr result (λ end. end ≢ End.Store
-            → ChangesNothing S.Store self.old self.new) }
-        ensures steps { KeepsToSteps S.Store 49 self.old self.new }
+        ensures unchanged { UnlessChanged result (ChangesNothing S.Store self.old self.new) }
     {
         let view = self.look_up_needed_view(request)?;
         match decide(&view, request) {
@@ -122,9 +131,9 @@ impl<S: Alter> Desk<S> {
         ensures latest { OnOk result (self.new.latest ≡ accept.now.reply.moment) }
         ensures keys { OnOk result
             (self.new.keys ≡ self.old.keys + made_count accept.now.change) }
-        ensures whole { OnOk result (IsWhole self.new) }
+        ensures mark { self.new.is_broken ≡ self.old.is_broken }
         ensures end { IfErr result (λ end. end ≡ End.Store) }
-        ensures err { OnErr result (KeepsCounts self.old self.new × IsBroken self.new) }
+        ensures err { OnErr result (KeepsCounts self.old self.new) }
     {
         let change = &accept.change;
         let kept = KeptReply::new(request, accept.reply);
@@ -134,7 +143,7 @@ impl<S: Alter> Desk<S> {
                 self.latest = kept.reply.moment;
                 Ok(())
             }
-            Err(_) => Err(self.break_desk()),
+            Err(_) => Err(End::Store),
         }
     }
 
@@ -154,10 +163,10 @@ impl<S: Alter> Desk<S> {
     {
         match find_request(&mut self.connection, caller, number) {
             Ok(Some(kept)) if !kept.reply.is_within_counts(self.latest, self.keys) => {
-                Err(self.break_desk())
+                Err(End::Store)
             }
             Ok(found) => Ok(found),
-            Err(_) => Err(self.break_desk()),
+            Err(_) => Err(End::Store),
         }
     }
 }

@@ -11,7 +11,8 @@ use sqlite::Alter;
 impl<S: Alter> Desk<S> {
     ghost use Rattle.std.specs.Prelude.{◌≡◌, List, [], IfOk, IfErr, Some, None};
     ghost use Rattle.register_requests.specs.declared.request.Request.{Request};
-    ghost use Rattle.register_desk.specs.Desk.{ChangesNothing, IsBroken, IsClean, IsWhole, TakesSteps};
+    ghost use Rattle.register_desk.specs.Desk.{ChangesNothing, IsBroken, IsClean, IsWhole};
+    ghost use Rattle.register_desk.specs.Desk.{TakesSteps};
     ghost use Rattle.register_desk.specs.Register.{StandsFor, tables};
     ghost use Rattle.std.specs.Borrow.{sem};
     ghost use Rattle.key_rows.specs.declared.key_row.KeyRow.{KeyRow};

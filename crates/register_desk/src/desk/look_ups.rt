@@ -15,13 +15,13 @@ use std::alloc::Global;
 impl<S: Alter> Desk<S> {
     ghost use Rattle.std.specs.Prelude.{◌≡◌, ◌≢◌, ◌⊎◌, ◌<◌, Err, IfErr, IfOk, IfSome, None, false};
     ghost use Rattle.std.specs.Prelude.{length, true};
-    ghost use Rattle.register_core.specs.History.{period};
-    ghost use Rattle.register_store.specs.TableReads.{HasKey, HasRow};
+    ghost use Rattle.register_store.specs.TableReads.{HasHeldKey, HasRow};
     ghost use Rattle.register_store.specs.Tables.{Tables};
     ghost use Rattle.register_requests.specs.CommandRule.{looks_at_custody};
-    ghost use Rattle.register_desk.specs.Desk.{IsBroken, IsClean, IsNoKey, IsOpen, IsWhole};
+    ghost use Rattle.register_desk.specs.Desk.{ChangesNothing, IsClean, IsNoKey, IsOpen, IsWhole};
+    ghost use Rattle.register_desk.specs.Desk.{TakesSteps};
     ghost use Rattle.register_desk.specs.Within.Desk.{NamesNoKey};
-    ghost use Rattle.register_desk.specs.Within.DeskCalls.{KeepsAll, LooksUp};
+    ghost use Rattle.register_desk.specs.Within.DeskCalls.{LooksUp};
     ghost use Rattle.register_desk.specs.Register.{Sees};
     ghost use Rattle.register_core.specs.Decision.{IsRightKey};
     ghost use Rattle.register_core.specs.Effect.{needed_period_type};
@@ -72,22 +72,25 @@ impl<S: Alter> Desk<S> {
             set ≡ period_at kind t.periods)) }
     {
         match needed_period_type(key, command) {
-            Some(kind) => self.look_up_set_period(kind),
+            Some(kind) => self.look_up_office_period(kind),
             None => Ok(None),
         }
     }
 
-    /// The usage period that the office set for the type, if it set one, by the tables.
-    pub(super) fn look_up_set_period(&mut self, kind: KeyType) -> Result<Option<Period>, End>
-        requires { IsWhole self.old }
-        ensures looks { LooksUp S.Store 2 self.old self.new result }
-        ensures no_memory { result ≢ Err End.Memory }
-        ensures found { (t : Tables) → Sees S.Store t self.old → IsClean S.Store self.new
-            → IfOk result (λ set. set ≡ period_at kind t.periods) }
+    /// The usage period that the office set for the type, if it set one, by the tables. Whatever came
+    /// of it an open connection sees what it saw.
+    pub(super) fn look_up_office_period(&mut self, kind: KeyType) -> Result<Option<Period>, End>
+        ensures looks { IsWhole self.old → LooksUp S.Store 2 self.old self.new result }
+        ensures reads { ChangesNothing S.Store self.old self.new }
+        ensures mark { self.new.is_broken ≡ self.old.is_broken }
+        ensures steps { TakesSteps 2 self.old self.new }
+        ensures refused { IfErr result (λ end. end ≡ End.Store) }
+        ensures found { (t : Tables) → Sees S.Store t self.old → IsWhole self.old
+            → IsClean S.Store self.new → IfOk result (λ set. set ≡ period_at kind t.periods) }
     {
         match find_office_period(&mut self.connection, kind) {
             Ok(set) => Ok(set),
-            Err(_) => Err(self.break_desk()),
+            Err(_) => Err(End::Store),
         }
     }
 
@@ -111,23 +114,8 @@ impl<S: Alter> Desk<S> {
         let Some(number) = request.command.key() else {
             return Ok(None);
         };
-        let found = self.look_up_key_for_command(&request.command, number)?;
-        self.key_or_break_on_wrong_state(found)
-    }
-
-    /// The key that was found, if one was, whose state is to be the one that its dates have at the
-    /// latest moment. Another breaks the desk.
-    fn key_or_break_on_wrong_state(&mut self, found: Option<Held>) -> Result<Option<Held>, End>
-        requires { IsWhole self.old }
-        ensures same { KeepsAll self.old self.new }
-        ensures unchanged { IfOk result (λ key. self.new ≡ self.old) }
-        ensures given { IfOk result (λ key. key ≡ found) }
-        ensures right { IfOk result (λ key. IsRightKey key self.old.latest) }
-        ensures wrong { IfErr result (λ end. IsRightKey found self.old.latest → ⊥) }
-        ensures broken { IfErr result (λ end. (end ≡ End.Store) × IsBroken self.new) }
-    {
-        match found {
-            Some(held) if !held.row.has_right_state_at(self.latest) => Err(self.break_desk()),
+        match self.look_up_key_for_command(&request.command, number)? {
+            Some(held) if !held.row.has_right_state_at(self.latest) => Err(End::Store),
             found => Ok(found),
         }
     }
@@ -175,6 +163,7 @@ impl<S: Alter> Desk<S> {
     /// The key with this number as it stands in the tables, with its custody, where its destruction
     /// needs so many approvals.
     fn look_up_key_with_custody(&mut self, number: u32, need: Quorum) -> Result<Option<Held>, End>
+        requires { IsWhole self.old }
         ensures looks { LooksUp S.Store 36 self.old self.new result }
         ensures there { IfOk result (λ key. key ≡ None → IsNoKey self.old.keys number) }
         ensures found { (t : Tables) → Sees S.Store t self.old → IsClean S.Store self.new
@@ -194,24 +183,16 @@ impl<S: Alter> Desk<S> {
         1 <= number && number <= self.keys
     }
 
-    /// What was found of the key with this number. That of a key that is counted is to be there; its
-    /// want breaks the desk.
-    fn row_or_break_on_missing_key<T: Drop>(
-        &mut self,
-        number: u32,
-        found: Option<T>,
-    ) -> Result<Option<T>, End>
-        requires { IsWhole self.old }
-        ensures same { KeepsAll self.old self.new }
-        ensures unchanged { IfOk result (λ key. self.new ≡ self.old) }
+    /// What was found of the key with this number. That of a key that is counted is to be there.
+    fn unless_missing<T: Drop>(&self, number: u32, found: Option<T>) -> Result<Option<T>, End>
         ensures given { IfOk result (λ key. key ≡ found) }
-        ensures there { IfOk result (λ key. key ≡ None → IsNoKey self.old.keys number) }
+        ensures there { IfOk result (λ key. key ≡ None → IsNoKey self.now.keys number) }
         ensures gone { IfErr result (λ end.
-            (found ≡ None) × (IsNoKey self.old.keys number → ⊥)) }
-        ensures broken { IfErr result (λ end. (end ≡ End.Store) × IsBroken self.new) }
+            (found ≡ None) × (IsNoKey self.now.keys number → ⊥)) }
+        ensures store { IfErr result (λ end. end ≡ End.Store) }
     {
         if found.is_none() && self.is_counted_key(number) {
-            return Err(self.break_desk());
+            return Err(End::Store);
         }
         Ok(found)
     }
@@ -226,8 +207,8 @@ impl<S: Alter> Desk<S> {
             → IfOk result (HasRow number t) }
     {
         match find_key_row(&mut self.connection, number) {
-            Ok(found) => self.row_or_break_on_missing_key(number, found),
-            Err(_) => Err(self.break_desk()),
+            Ok(found) => self.unless_missing(number, found),
+            Err(_) => Err(End::Store),
         }
     }
 
@@ -241,7 +222,7 @@ impl<S: Alter> Desk<S> {
     {
         match find_key_need(&mut self.connection, number) {
             Ok(found) => Ok(found.unwrap_or(Quorum::LEAST)),
-            Err(_) => Err(self.break_desk()),
+            Err(_) => Err(End::Store),
         }
     }
 
@@ -252,18 +233,14 @@ impl<S: Alter> Desk<S> {
         number: u32,
         need: Quorum,
     ) -> Result<Option<(Held, Purpose)>, End>
+        requires { IsWhole self.old }
         ensures looks { LooksUp S.Store 36 self.old self.new result }
         ensures there { IfOk result (λ key. key ≡ None → IsNoKey self.old.keys number) }
         ensures found { (t : Tables) → Sees S.Store t self.old → IsClean S.Store self.new
-            → IfOk result (HasKey number need t) }
+            → IfOk result (HasHeldKey number need t) }
     {
-        if self.is_broken {
-            return Err(End::Broken);
-        }
-        match load_key(self.alloc, &mut self.connection, number, need) {
-            Ok(found) => self.row_or_break_on_missing_key(number, found),
-            Err(error) => Err(self.break_unless_out_of_memory(error)),
-        }
+        let found = load_key(self.alloc, &mut self.connection, number, need)?;
+        self.unless_missing(number, found)
     }
 }
 

@@ -5,21 +5,19 @@ use crate::end::End;
 use key_rows::Record;
 use lifecycle_core::{Usage, usage};
 use period_core::{KeyType, OfficePeriods, Period, period_or_default};
-use register_store::{StoreError, find_office_period};
 use sqlite::Alter;
 
 impl<S: Alter> Desk<S> {
     ghost use Rattle.std.specs.Prelude.{◌≡◌, ◌≢◌, List, Err, IfOk, IfErr, None};
     ghost use Rattle.register_core.specs.History.{period, set_period};
     ghost use Rattle.register_requests.specs.declared.request.Request.{Request};
-    ghost use Rattle.register_store.specs.Tables.{Tables};
     ghost use Rattle.register_desk.specs.Desk.{IsBroken, IsClean, IsWhole, ChangesNothing, Ends};
     ghost use Rattle.register_desk.specs.Desk.{IsNoKey, KeepsToSteps, TakesSteps, keys_of};
-    ghost use Rattle.register_desk.specs.Register.{StandsFor, Sees};
+    ghost use Rattle.register_desk.specs.Within.DeskCalls.{LooksUp};
+    ghost use Rattle.register_desk.specs.Register.{StandsFor};
     ghost use Rattle.period_core.specs.declared.key_type.KeyType.{KeyType};
     ghost use Rattle.register_desk.specs.Shown.{usage, shown};
     ghost use Rattle.period_core.specs.Office.{set_in};
-    ghost use Rattle.register_core.specs.Settings.{period_at};
 
     /// The key with this number as of the latest accepted moment, or `None` where there is none. It
     /// changes nothing.
@@ -40,6 +38,19 @@ impl<S: Alter> Desk<S> {
         if self.is_broken {
             return Err(End::Broken);
         }
+        let found = self.look_up_record(number);
+        self.break_if_refused(&found);
+        found
+    }
+
+    /// The key with this number, as a reader is shown it.
+    fn look_up_record(&mut self, number: u32) -> Result<Option<Record>, End>
+        requires { IsWhole self.old }
+        ensures looks { LooksUp S.Store 38 self.old self.new result }
+        ensures shown { (h : List Request) → StandsFor S.Store self.old h → IsClean S.Store self.new
+            → IfOk result (λ found. found ≡ shown h number) }
+        ensures there { IfOk result (λ found. found ≡ None → IsNoKey self.old.keys number) }
+    {
         let need = self.look_up_need(number)?;
         match self.look_up_whole_key(number, need)? {
             Some((held, purpose)) => Ok(Some(Record::new(number, held, purpose))),
@@ -63,7 +74,20 @@ impl<S: Alter> Desk<S> {
         if self.is_broken {
             return Err(End::Broken);
         }
-        let set = self.look_up_set_period(kind)?;
+        let found = self.look_up_period(kind);
+        self.break_if_refused(&found);
+        found
+    }
+
+    /// The usage period that keys of the type are held to.
+    fn look_up_period(&mut self, kind: KeyType) -> Result<Period, End>
+        requires { IsWhole self.old }
+        ensures looks { LooksUp S.Store 2 self.old self.new result }
+        ensures no_memory { result ≢ Err End.Memory }
+        ensures found { (h : List Request) → StandsFor S.Store self.old h → IsClean S.Store self.new
+            → IfOk result (λ found. found ≡ period h kind) }
+    {
+        let set = self.look_up_office_period(kind)?;
         Ok(period_or_default(kind, set))
     }
 
@@ -84,37 +108,11 @@ impl<S: Alter> Desk<S> {
         if self.is_broken {
             return Err(End::Broken);
         }
-        match self.look_up_office_periods() {
-            Ok(periods) => Ok(periods),
-            Err(_) => Err(End::Store),
-        }
-    }
-
-    /// What the office set for each type, by the tables.
-    fn look_up_office_periods(&mut self) -> Result<OfficePeriods, StoreError>
-        ensures reads { ChangesNothing S.Store self.old self.new }
-        ensures mark { self.new.is_broken ≡ self.old.is_broken }
-        ensures found { (t : Tables) → Sees S.Store t self.old → IsWhole self.old
-            → IsClean S.Store self.new
-            → IfOk result (λ set. (kind : KeyType) → set_in set kind ≡ period_at kind t.periods) }
-        ensures steps { TakesSteps 14 self.old self.new }
-    {
         let mut periods = OfficePeriods::NONE;
         'kinds: for kind in KeyType::ALL {
             periods.set(kind, self.look_up_office_period(kind)?);
         }
         Ok(periods)
-    }
-
-    /// What the office set for the type, by the tables.
-    fn look_up_office_period(&mut self, kind: KeyType) -> Result<Option<Period>, StoreError>
-        ensures reads { ChangesNothing S.Store self.old self.new }
-        ensures mark { self.new.is_broken ≡ self.old.is_broken }
-        ensures found { (t : Tables) → Sees S.Store t self.old → IsWhole self.old
-            → IsClean S.Store self.new → IfOk result (λ set. set ≡ period_at kind t.periods) }
-        ensures steps { TakesSteps 2 self.old self.new }
-    {
-        find_office_period(&mut self.connection, kind)
     }
 
     /// What the key with this number may be used for at the latest accepted moment, or `None` where
@@ -134,6 +132,20 @@ impl<S: Alter> Desk<S> {
         if self.is_broken {
             return Err(End::Broken);
         }
+        let found = self.look_up_usage(number);
+        self.break_if_refused(&found);
+        found
+    }
+
+    /// What the key with this number may be used for.
+    fn look_up_usage(&mut self, number: u32) -> Result<Option<Usage>, End>
+        requires { IsWhole self.old }
+        ensures looks { LooksUp S.Store 2 self.old self.new result }
+        ensures no_memory { result ≢ Err End.Memory }
+        ensures used { (h : List Request) → StandsFor S.Store self.old h → IsClean S.Store self.new
+            → IfOk result (λ found. found ≡ usage h number) }
+        ensures there { IfOk result (λ found. found ≡ None → IsNoKey self.old.keys number) }
+    {
         match self.look_up_key_row(number)? {
             Some(key) => Ok(Some(usage(&key.row.dates, self.latest))),
             None => Ok(None),

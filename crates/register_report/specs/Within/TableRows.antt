@@ -4,12 +4,12 @@ use Rattle.csv.specs.declared.reader.Reader.{Reader}
 use Rattle.csv.specs.Reading.{ReadRecord, reader_config}
 use Rattle.register_desk.specs.declared.end.End.{End}
 use Rattle.register_desk.specs.declared.end.End.TheVariants.{Memory, Store, Broken, ReadFault, WriteFault, BadHeader}
-use Rattle.register_report.specs.ImportRows.{Row, header}
+use Rattle.register_report.specs.ImportRows.{RowTexts, header}
 use Rattle.register_report.specs.declared.importing.Rows.{Rows}
 use Rattle.register_report.specs.TableRows.{IsPlainTable, IsUnread}
 
 -- a record was read: the table may be read on
-pub record ReadsOn {R : Type 0} (old new : Reader R) : Type 0 where
+pub record ReadsRecord {R : Type 0} (old new : Reader R) : Type 0 where
   pub table : IsPlainTable new
   pub config : reader_config new ≡ reader_config old
 
@@ -26,4 +26,5 @@ module _ {R : Type 0} (remaining : R → Option (List ℕ)) where
   LacksHeader start table reader_failed Broken = ⊥
   LacksHeader start table reader_failed WriteFault = ⊥
   LacksHeader start table reader_failed BadHeader =
-      (found : Bool) × (fields : Row) × ReadRecord remaining start table found fields × (found ≡ true → fields ≢ header)
+      (found : Bool) × (fields : RowTexts) × ReadRecord remaining start table found fields
+      × (found ≡ true → fields ≢ header)

@@ -87,6 +87,7 @@ pub record PutsTable {W S : Type 0} (contents : W → Option (List ℕ)) (g : Gh
 
 -- ---- whole calls
 
+-- how a call ended that came to this
 abbrev pub finish_of : Result (Unit {0}) End → Finish
 finish_of (Ok done) = AtEnd 0
 finish_of (Err end) = Ended end

@@ -7,8 +7,9 @@ use Rattle.lifecycle_core.specs.Reason.{reason_code}
 use Rattle.period_core.specs.Period.{Period}
 use Rattle.register_requests.specs.declared.command_fields.Fields.{Fields}
 use Rattle.register_requests.specs.declared.command_fields.Shape.{Shape}
-use Rattle.register_requests.specs.Request.{AreFieldsInRange, fields_text}
-use Rattle.register_requests.specs.Within.Fields.{shape_of}
+use Rattle.register_requests.specs.Fields.{shape_of}
+use Rattle.register_requests.specs.Within.Fields.{AreFieldsInRange, command_of}
+use Rattle.register_requests.specs.Request.{arguments_text}
 
 -- ---- the text of one field
 
@@ -64,7 +65,7 @@ period_text p = decimal p.originator ++ codes " " ++ decimal p.recipient
 pub record AreFieldsOf (shape : Shape) (bytes : List ℕ) (fields : Fields) : Type 0 where
   pub in_range : AreFieldsInRange fields
   pub shape_is : shape_of fields ≡ shape
-  pub text : bytes ≡ fields_text fields
+  pub text : bytes ≡ arguments_text (command_of fields)
 
 -- what stands after a word: a space with fields after it, or nothing
 abbrev pub after_word : Option (List ℕ) → List ℕ

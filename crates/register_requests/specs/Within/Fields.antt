@@ -1,20 +1,25 @@
--- What functions within the crate say of one another, beside `specs/Fields.antt`.
+-- What functions within the crate, and readers of fields above it, say of one another.
+use Rattle.register_requests.specs.declared.request.Command.{Command}
+use Rattle.register_requests.specs.declared.request.Command.TheVariants.{Register, Activate, SetDates, Revoke, Assign}
+use Rattle.register_requests.specs.declared.request.Command.TheVariants.{AddCustodian, Advance, SetQuorum, SetPeriod}
 use Rattle.register_requests.specs.declared.command_fields.Fields.{Fields}
 use Rattle.register_requests.specs.declared.command_fields.Fields.TheVariants.{Nothing, Key, KeyAndName, KeyAndOwner}
-use Rattle.register_requests.specs.declared.command_fields.Fields.TheVariants.{KeyAndNeed}
-use Rattle.register_requests.specs.declared.command_fields.Fields.TheVariants.{TypeAndPeriod, Registration, DateEdits}
-use Rattle.register_requests.specs.declared.command_fields.Fields.TheVariants.{Revocation}
-use Rattle.register_requests.specs.declared.command_fields.Shape.{Shape}
-use Rattle.register_requests.specs.declared.command_fields.Shape.TheVariants as shapes
+use Rattle.register_requests.specs.declared.command_fields.Fields.TheVariants.{KeyAndNeed, TypeAndPeriod}
+use Rattle.register_requests.specs.declared.command_fields.Fields.TheVariants.{Registration, DateEdits, Revocation}
+use Rattle.register_requests.specs.Request.{IsCommand}
 
--- the shape of fields
-abbrev pub shape_of : Fields → Shape
-shape_of Nothing = shapes.Nothing
-shape_of (Key key) = shapes.Key
-shape_of (KeyAndName key name) = shapes.KeyAndName
-shape_of (KeyAndOwner key owner) = shapes.KeyAndOwner
-shape_of (KeyAndNeed key need) = shapes.KeyAndNeed
-shape_of (TypeAndPeriod kind period) = shapes.TypeAndPeriod
-shape_of (Registration kind owner activation protect_stop deactivation purpose) = shapes.Registration
-shape_of (DateEdits key activation protect_stop deactivation) = shapes.DateEdits
-shape_of (Revocation key reason occurrence) = shapes.Revocation
+-- a command with these fields: what is said of their text and their ranges is said of it
+abbrev pub command_of : Fields → Command
+command_of Nothing = Advance
+command_of (Key key) = Activate key
+command_of (KeyAndName key name) = AddCustodian key name
+command_of (KeyAndOwner key owner) = Assign key owner
+command_of (KeyAndNeed key need) = SetQuorum key need
+command_of (TypeAndPeriod kind period) = SetPeriod kind period
+command_of (Registration new) = Register new
+command_of (DateEdits key activation protect_stop deactivation) = SetDates key activation protect_stop deactivation
+command_of (Revocation key reason occurrence) = Revoke key reason occurrence
+
+-- the fields are in their ranges
+abbrev pub AreFieldsInRange : Fields → Type 0
+AreFieldsInRange fields = IsCommand (command_of fields)

@@ -10,7 +10,7 @@ use Rattle.sqlite_schema.specs.declared.schema.Index.{Index}
 use Rattle.sqlite_schema.specs.declared.schema.Reference.{Reference}
 use Rattle.sqlite_schema.specs.declared.schema.View.{View}
 use Rattle.sqlite_trees.specs.declared.store.Store.{Ghosts}
-use Rattle.sql_steps.specs.Steps.{Change}
+use Rattle.sql_steps.specs.Steps.{DatabaseChange}
 use Rattle.sql_steps.specs.Within.Steps.{Steps}
 use Rattle.register_store.specs.declared.table.TableName.{TableName}
 use Rattle.register_store.specs.declared.table.TableName.TheVariants.{Meta}
@@ -63,7 +63,7 @@ UpdatesMeta old new = HasMetaApart old.schema → WritesMeta old new
 -- ---- one call in a transaction
 
 -- the transaction stays the same one, and where the call succeeds it makes this of the register and that beside it
-pub record Alters {S T E : Type 0} (g : Ghosts S) (Made Beside : Change) (old new : MutBor (Held S))
+pub record Alters {S T E : Type 0} (g : Ghosts S) (Made Beside : DatabaseChange) (old new : MutBor (Held S))
     (result : Result T E) : Type 0 where
   pub same_reference : new.ghost_name ≡ old.ghost_name
   pub made : Steps g (λ _. Made) old.now new.now result

@@ -45,8 +45,8 @@ owners_where false owners = Err NotARegister
 -- ---- rows that pass each by itself
 
 -- nothing is found of a content
-abbrev pub IsAny : {C : Type 0} → C → Unit {0} → Type 0
-IsAny c found = Unit {0}
+abbrev pub IsAnything : {C : Type 0} → C → Unit {0} → Type 0
+IsAnything c found = Unit {0}
 
 -- ---- what is set
 

@@ -4,12 +4,12 @@ use Rattle.sqlite.specs.Effect.{Database}
 use Rattle.sqlite.specs.Schema.{Schema}
 use Rattle.sqlite.specs.State.{State, HasCleanDisk}
 use Rattle.sql_steps.specs.Within.CreatedTables.{Creates, Indexes}
-use Rattle.sql_steps.specs.Steps.{Change}
+use Rattle.sql_steps.specs.Steps.{DatabaseChange}
 use Rattle.register_store.specs.declared.key_index.KeyIndex.{KeyIndex}
 use Rattle.register_store.specs.declared.table.TableName.{TableName}
 use Rattle.register_store.specs.Tables.{fresh, all_tables, table_of, place_of}
 use Rattle.register_store.specs.Within.Tables.{keys}
-use Rattle.register_store.specs.Schema.{no_schema, schema_with, made_indexes, index_of, rows_of}
+use Rattle.register_store.specs.Schema.{no_schema, schema_with, made_indexes, index_of, table_rows}
 use Rattle.register_store.specs.Within.Schema.{schema_after, index_place}
 use Rattle.register_store.specs.Creation.{IsNewRegister, IsThere}
 
@@ -20,12 +20,12 @@ abbrev pub MakesTable : TableName → Database → Database → Type 0
 MakesTable name = Creates (schema_after (place_of name)) (table_of (fresh []) name)
 
 -- in an empty database the first n tables are made, each empty
-pub record HasFirst (n : ℕ) (db : Database) : Type 0 where
+pub record HasFirstTables (n : ℕ) (db : Database) : Type 0 where
   pub schema : db.schema ≡ schema_after n
-  pub empty : (name : TableName) → place_of name < n → rows_of (fresh []) name db ≡ []
+  pub empty : (name : TableName) → place_of name < n → table_rows (fresh []) name db ≡ []
 
 abbrev pub MakesFirst : ℕ → Database → Database → Type 0
-MakesFirst n old new = old.schema ≡ no_schema → HasFirst n new
+MakesFirst n old new = old.schema ≡ no_schema → HasFirstTables n new
 
 -- all of them
 abbrev pub MakesTables : Database → Database → Type 0
@@ -39,10 +39,10 @@ MakesIndex index = Indexes (schema_with (fresh (take (index_place index) made_in
 -- all tables are made, each empty, and the first n of the indexes
 pub record HasIndexes (n : ℕ) (db : Database) : Type 0 where
   pub schema : db.schema ≡ schema_with (fresh (take n made_indexes))
-  pub empty : (name : TableName) → rows_of (fresh []) name db ≡ []
+  pub empty : (name : TableName) → table_rows (fresh []) name db ≡ []
 
 abbrev pub MakesIndexes : ℕ → Database → Database → Type 0
-MakesIndexes n old new = HasFirst (length all_tables) old → HasIndexes n new
+MakesIndexes n old new = HasFirstTables (length all_tables) old → HasIndexes n new
 
 -- all of the indexes
 abbrev pub AddsIndexes : Database → Database → Type 0
@@ -55,7 +55,7 @@ AddsMeta old new = HasIndexes (length made_indexes) old → IsNewRegister new
 -- ---- what a look for tables tells
 
 -- an answer to whether the schema has something; after a "no" it has not, and the database is the same
-abbrev pub Answers : (Schema → Type 0) → Bool → Change
+abbrev pub Answers : (Schema → Type 0) → Bool → DatabaseChange
 Answers Has true old new = Has old.schema
 Answers Has false old new = (Has old.schema → ⊥) × (new ≡ old)
 

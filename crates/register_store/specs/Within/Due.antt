@@ -24,12 +24,12 @@ date_of Activation d = d.activation
 date_of Deactivation d = d.deactivation
 
 -- the key is in that state, and its date is reached at a moment
-abbrev pub is_due : DueDate → ℕ → Key → Bool
-is_due date at k =
+abbrev pub is_date_due : DueDate → ℕ → Key → Bool
+is_date_due date at k =
     (state_code k.row.state == state_code (state_before date)) && is_reached_at (date_of date k.row.dates) at
 
 abbrev pub moved_on : DueDate → ℕ → Key → Key
-moved_on date at k = if is_due date at k then in_state (state_after date) k else k
+moved_on date at k = if is_date_due date at k then in_state (state_after date) k else k
 
 abbrev pub with_each : (Key → Key) → Tables → Tables
 with_each f t = record t { keys = map f t.keys }

@@ -9,7 +9,7 @@ use Rattle.register_store.specs.declared.key_scan.DueCursor.{DueCursor}
 use Rattle.register_store.specs.declared.key_scan.DueSearch.{DueSearch}
 use Rattle.register_store.specs.declared.key_scan.DueSearch.TheVariants.{LaterStop, Past, SameStop}
 use Rattle.register_store.specs.Columns.{key_columns, select}
-use Rattle.register_store.specs.KeyScan.{IsAfter}
+use Rattle.register_store.specs.KeyScan.{IsAfterKey}
 use Rattle.register_store.specs.Tables.{IsKey, Tables, date_cell, numbered}
 
 -- a numbered key that a register may hold
@@ -19,22 +19,22 @@ IsNumbered x = IsKey x.1
 abbrev pub stop_cell : ℕ × Key → ℕ
 stop_cell x = date_cell x.1.row.dates.protect_stop
 
-abbrev pub is_active : ℕ × Key → Bool
-is_active x = state_code x.1.row.state == state_code Active
+abbrev pub is_active_key : ℕ × Key → Bool
+is_active_key x = state_code x.1.row.state == state_code Active
 
 -- Active, with this Protect Stop Date up to that moment, and a higher number
 abbrev pub is_same : ℕ → DueCursor → ℕ × Key → Bool
 is_same until last x =
-    is_active x && ((stop_cell x == last.stop) && (nat_le (stop_cell x) until && not (nat_le x.0 last.number)))
+    is_active_key x && ((stop_cell x == last.stop) && (nat_le (stop_cell x) until && not (nat_le x.0 last.number)))
 
 -- Active, with a later Protect Stop Date up to that moment
 abbrev pub is_later : ℕ → ℕ → ℕ × Key → Bool
-is_later until stop x = is_active x && (not (nat_le (stop_cell x) stop) && nat_le (stop_cell x) until)
+is_later until stop x = is_active_key x && (not (nat_le (stop_cell x) stop) && nat_le (stop_cell x) until)
 
 -- Active, with this Protect Stop Date and a higher number or with a later date, up to that moment
 abbrev pub is_past : ℕ → DueCursor → ℕ × Key → Bool
 is_past until last x =
-    is_active x && (nat_le last.stop (stop_cell x)
+    is_active_key x && (nat_le last.stop (stop_cell x)
     && (nat_le (stop_cell x) until && (not (nat_le (stop_cell x) last.stop) || not (nat_le x.0 last.number))))
 
 -- the text of a search for Active keys of which this holds too
@@ -60,13 +60,13 @@ is_found Past until last = is_past until last
 abbrev pub cell_cursor : ℕ × Key → DueCursor
 cell_cursor x = record { stop = stop_cell x; number = x.0 }
 
-pub record IsFirst (check : ℕ × Key → Bool) (t : Tables) (x : ℕ × Key) : Type 0 where
+pub record IsFirstDue (check : ℕ × Key → Bool) (t : Tables) (x : ℕ × Key) : Type 0 where
   pub there : Has (numbered t.keys) x
   pub passes : check x ≡ true
   pub first : (y : ℕ × Key) → Has (numbered t.keys) y → check y ≡ true
-      → (y ≡ x) ⊎ IsAfter (cell_cursor x) (cell_cursor y)
+      → (y ≡ x) ⊎ IsAfterKey (cell_cursor x) (cell_cursor y)
 
 -- the first of the keys that pass the check, by Protect Stop and number, or none where none passes
 abbrev pub HasFirst : (ℕ × Key → Bool) → Tables → Option (ℕ × Key) → Type 0
 HasFirst check t None = (x : ℕ × Key) → Has (numbered t.keys) x → check x ≡ true → ⊥
-HasFirst check t (Some x) = IsFirst check t x
+HasFirst check t (Some x) = IsFirstDue check t x

@@ -3,7 +3,7 @@ use Rattle.std.specs.Prelude.{◌≡◌, ◌<◌, ◌≤◌, ◌+◌, ℕ, []}
 use Rattle.sqlite.specs.Effect.{Database, IsDatabase}
 use Rattle.register_requests.specs.declared.version.Version.TheVariants.{First, Second}
 use Rattle.register_store.specs.declared.table.TableName.{TableName}
-use Rattle.register_store.specs.Schema.{Holds, rows_of, schema_below}
+use Rattle.register_store.specs.Schema.{Holds, table_rows, schema_below}
 use Rattle.register_store.specs.Tables.{AreApartBelow, IsInRange, Layout, ShowsIn, Tables, content, place_of}
 use Rattle.register_store.specs.Tables.{table_count}
 
@@ -17,10 +17,10 @@ pub record HasTablesBelow (n : ℕ) (t : Tables) (db : Database) : Type 0 where
   pub sound : IsDatabase db
   pub in_range : (name : TableName) → IsInRange name (content name t)
   pub shown : (name : TableName) → place_of name < table_count First
-      → ShowsIn First name (content name t) (rows_of layout name db)
+      → ShowsIn First name (content name t) (table_rows layout name db)
   pub no_periods : t.periods ≡ []
   pub no_needs : t.needs ≡ []
-  pub empty : (name : TableName) → table_count First ≤ place_of name → place_of name < n → rows_of layout name db ≡ []
+  pub empty : (name : TableName) → table_count First ≤ place_of name → place_of name < n → table_rows layout name db ≡ []
 
 -- one table more
 abbrev pub MakesNext : TableName → Database → Database → Type 0

@@ -45,9 +45,9 @@ more_set (Period kind period) t = record t { periods = t.periods ++ record { kin
 more_set (Need key need) t = record t { needs = t.needs ++ record { key = key; need = need } ∷ [] }
 
 -- it is set, in the place of what was set before, if something was
-abbrev pub with_set : Setting → Tables → Tables
-with_set (Period kind period) t = with_period_set kind period t
-with_set (Need key need) t = record t { needs = with_need key need t.needs }
+abbrev pub with_setting : Setting → Tables → Tables
+with_setting (Period kind period) t = with_period_set kind period t
+with_setting (Need key need) t = record t { needs = with_need key need t.needs }
 
 -- ---- names at keys
 

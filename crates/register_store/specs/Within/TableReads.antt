@@ -23,7 +23,7 @@ use Rattle.register_store.specs.Columns.{key_columns}
 use Rattle.register_store.specs.Within.Roles.{names_of}
 use Rattle.register_store.specs.Tables.{Tables}
 use Rattle.register_store.specs.StepCount.{counted}
-use Rattle.register_store.specs.Within.StepCount.{row_steps}
+use Rattle.register_store.specs.Within.StepCount.{taken_row_steps}
 use Rattle.register_store.specs.TableReads.{ShowsKey, seen}
 
 -- ---- what is found in tables
@@ -89,13 +89,13 @@ pub record FindsOne {S T : Type 0} (g : Ghosts S) (sql : List ℕ) (params : Row
   pub answer : Result Row Error
   pub row : HasCleanDisk (seen g new) → QueriesRow sql params (seen g old) (seen g new) answer
   pub survives : Survives (seen g old) (seen g new) (CommitsShowing sql params (seen g old))
-  pub steps : new.steps ≡ counted (row_steps answer) old.steps
+  pub steps : new.steps ≡ counted (taken_row_steps answer) old.steps
   pub given : AnswersBy Gives answer result
 
 -- what the row shows, or none where there is no row
-abbrev pub IsRowOf : {A : Type 0} → (Row → A → Type 0) → Result Row Error → Option A → Type 0
-IsRowOf {A} ShowsOne (Ok row) found = (x : A) × (found ≡ Some x) × ShowsOne row x
-IsRowOf ShowsOne (Err error) found = (error ≡ QueryReturnedNoRows) × (found ≡ None)
+abbrev pub IsShownBy : {A : Type 0} → (Row → A → Type 0) → Result Row Error → Option A → Type 0
+IsShownBy {A} ShowsOne (Ok row) found = (x : A) × (found ≡ Some x) × ShowsOne row x
+IsShownBy ShowsOne (Err error) found = (error ≡ QueryReturnedNoRows) × (found ≡ None)
 
 -- the row shows none that is in its range
 abbrev pub ShowsNone : {A : Type 0} → (A → Type 0) → (Row → A → Type 0) → Result Row Error → Type 0

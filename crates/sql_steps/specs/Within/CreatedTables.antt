@@ -5,7 +5,7 @@ use Rattle.sqlite.specs.Table.{Table}
 use Rattle.sqlite.specs.Change.{created, indexed, next_tree, KeepsRows}
 use Rattle.sqlite.specs.Effect.{Database}
 use Rattle.sqlite_schema.specs.declared.schema.Index.{Index}
-use Rattle.sql_steps.specs.Steps.{Change}
+use Rattle.sql_steps.specs.Steps.{DatabaseChange}
 
 -- the table is new and empty, and each other table is as it was
 pub record Created (before : Schema) (table : Table) (old new : Database) : Type 0 where
@@ -14,7 +14,7 @@ pub record Created (before : Schema) (table : Table) (old new : Database) : Type
   pub others : KeepsRows before.tables old.trees new.trees
 
 -- the table is made where the schema is this one
-abbrev pub Creates : Schema → Table → Change
+abbrev pub Creates : Schema → Table → DatabaseChange
 Creates before table old new = old.schema ≡ before → Created before table old new
 
 -- the index is new, and each table is as it was
@@ -23,5 +23,5 @@ pub record Indexed (before : Schema) (table : Table) (index : Index) (old new : 
   pub tables : KeepsRows before.tables old.trees new.trees
 
 -- the index of the table is made where the schema is this one
-abbrev pub Indexes : Schema → Table → Index → Change
+abbrev pub Indexes : Schema → Table → Index → DatabaseChange
 Indexes before table index old new = old.schema ≡ before → Indexed before table index old new

@@ -4,6 +4,7 @@ ghost use Rattle.std.specs.Prelude.{Some};
 
 use register_desk::{Desk, End, Finish};
 use register_program::{Attendance, Client, Listener, Network, ReadHalf, WriteHalf, serve_at};
+use register_words::Bounds;
 use sqlite::MemStore;
 use std::alloc::{AllocError, Global};
 use std::cell::Cell;
@@ -160,7 +161,11 @@ fn served(alloc: Global, call: Call, before: u64) -> Result<(Finish, u64, u64), 
         },
     };
     let mut attendance = Attendance::new();
-    let finish = serve_at(alloc, &mut desk, &network, 8420, 2, &mut attendance);
+    let bounds = Bounds {
+        port: 8420,
+        exchanges: 2,
+    };
+    let finish = serve_at(alloc, &mut desk, &network, &bounds, &mut attendance);
     Ok((finish, desk.latest().seconds(), made.get()))
 }
 

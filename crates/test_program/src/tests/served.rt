@@ -4,7 +4,7 @@ use super::files::{is_made, remove};
 use disk_files::{MachineListener, MachineNetwork};
 use moment_core::Moment;
 use register_desk::{Desk, Finish};
-use register_program::{Attendance, Clocks, MachineClock, Network, Now, serve_on};
+use register_program::{Attendance, MachineClock, Means, Network, Now, serve_on};
 use sqlite::MemStore;
 use std::cell::Cell;
 use std::io::{self, ErrorKind, Write};
@@ -51,19 +51,13 @@ fn serve(
     exchanges: u32,
 ) -> Finish {
     let moments = Still(Moment::new(100));
-    let clocks = Clocks {
+    let means = Means {
+        listener,
         timer: rt,
         moments: &moments,
     };
     let mut attendance = Attendance::new();
-    serve_on(
-        rt.alloc(),
-        desk,
-        listener,
-        &clocks,
-        exchanges,
-        &mut attendance,
-    )
+    serve_on(rt.alloc(), desk, &means, exchanges, &mut attendance)
 }
 
 const AT_END: Finish = Finish::AtEnd { rest: 0 };
@@ -139,19 +133,13 @@ fn latest_after_two(rt: &HostRuntime) -> Result<u64, Fail> {
     let first = send(rt, &listener, ADVANCE.as_bytes())?;
     let second = send(rt, &listener, ADVANCE_AGAIN.as_bytes())?;
     let moments = Rising(Cell::new(100));
-    let clocks = Clocks {
+    let means = Means {
+        listener: &listener,
         timer: rt,
         moments: &moments,
     };
     let mut attendance = Attendance::new();
-    let _ = serve_on(
-        rt.alloc(),
-        &mut desk,
-        &listener,
-        &clocks,
-        2,
-        &mut attendance,
-    );
+    let _ = serve_on(rt.alloc(), &mut desk, &means, 2, &mut attendance);
     drop(first);
     drop(second);
     Ok(desk.latest().seconds())

@@ -18,7 +18,8 @@ use Rattle.disk_files.proofs.disk_files.checkpoint_store.Goals as goal
 -- nothing is new in what a stop leaves, and where the log was copied the database file alone holds it too
 closes_by : {D : Type 0} {g : Ghosts D} (old last : FileStore D g) (log : LogCopy)
     → (IsClean (view last) → IsClean (view old))
-    → (log ≡ Broken → IsClean (view last) → ((view old).is_broken ≡ false) × ((view last).is_broken ≡ true)) → ((db : Trees) → recovers last db → recovers old db)
+    → (log ≡ Broken → IsClean (view last) → ((view old).is_broken ≡ false) × ((view last).is_broken ≡ true))
+    → ((db : Trees) → recovers last db → recovers old db)
     → (IsClean (view last) → IsTrue (view old).is_numbered → (log ≡ Broken → IsTrue (view last).is_numbered)
     → IsTrue (view last).is_numbered)
     → (log ≡ Copied → IsClean (view last) → IsTrue (view last).is_numbered → AreDatabases (recovers last)
@@ -44,7 +45,8 @@ closes_by old last log clean shut outcomes numbered holds = record {
 
 pub returns-then-is_broken : goal.returns-then-is_broken
 returns-then-is_broken g c =
-    closes_by c.args.store c.args.store Kept (λ none. none) (λ is. absurd (cc is)) (λ db may. may) (λ none was known. was)
+    closes_by c.args.store c.args.store Kept (λ none. none) (λ is. absurd (cc is)) (λ db may. may)
+    (λ none was known. was)
     (λ is. absurd (cc is))
 
 pub returns-in-Ok : goal.returns-in-Ok

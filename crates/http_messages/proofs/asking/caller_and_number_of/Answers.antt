@@ -3,7 +3,7 @@ use Rattle.std.proofs.Common.{◌≡◌, ℕ, List, ◌∷◌, [], None, Some, r
 use Rattle.std.specs.Prelude.{decimal}
 use Rattle.register_requests.specs.Name.{IsName}
 use Rattle.http_messages.specs.Asked.{IsFrom}
-use Rattle.http_messages.specs.HeaderFields.{Lines}
+use Rattle.http_messages.specs.HeaderFields.{HeaderLines}
 use Rattle.http_messages.proofs.InOrder.{if_none}
 use Rattle.http_messages.proofs.asking.caller_and_number_of.Goals as goal
 
@@ -11,7 +11,7 @@ one_is : (a b : List ℕ) (vs : List (List ℕ)) → vs ≡ a ∷ [] → vs ≡ 
 one_is a b vs e f = cc
 
 -- nobody is named
-abbrev AreOfNobody : Lines → Type 0
+abbrev AreOfNobody : HeaderLines → Type 0
 AreOfNobody lines = (caller : List ℕ) (number : ℕ) → IsFrom lines caller number → ⊥
 
 pub returns-in_err-only_value-clause-none : goal.returns-in_err-only_value-clause-none

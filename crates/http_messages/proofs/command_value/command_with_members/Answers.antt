@@ -5,11 +5,11 @@ use Rattle.register_requests.specs.declared.command_fields.CommandKind.{CommandK
 use Rattle.register_requests.specs.declared.command_fields.Fields.{Fields}
 use Rattle.register_requests.specs.declared.command_fields.Shape.{Shape}
 use Rattle.register_requests.specs.declared.request.Command.{Command}
-use Rattle.register_requests.specs.CommandKind.{command_shape}
-use Rattle.register_requests.specs.CommandRule.{kind_of}
-use Rattle.register_requests.specs.Fields.{fields_of, command_with}
-use Rattle.register_requests.specs.Request.{IsCommand, AreFieldsInRange}
-use Rattle.register_requests.proofs.Commands.{made, has_shape, some_made}
+use Rattle.register_requests.specs.CommandKind.{command_shape, kind_of}
+use Rattle.register_requests.specs.Fields.{command_with, fields_of}
+use Rattle.register_requests.specs.Within.Fields.{AreFieldsInRange}
+use Rattle.register_requests.specs.Request.{IsCommand}
+use Rattle.register_requests.proofs.Commands.{made, has_shape, some_made, in_range_of, is_command}
 use Rattle.http_messages.specs.Within.CommandValue.{HasMembers, IsShaped}
 use Rattle.http_messages.proofs.command_value.command_with_members.Goals as goal
 
@@ -34,7 +34,8 @@ module _ (kind : CommandKind) (ms : Members) (shape : Shape) (is_shape : shape �
   some_command f None is has = tt
   some_command f (Some c) is has =
       let of = made f kind c (sym is) in
-      (subst AreFieldsInRange (sym of.fields_are) has.0, of.kind_is, subst (HasMembers ms) (sym of.fields_are) has.2)
+      let fields = sym of.fields_are in
+      (is_command c (subst AreFieldsInRange fields has.0), of.kind_is, subst (HasMembers ms) fields has.2)
 
   always_some : (f : Fields) (o : Option Command) → o ≡ command_with kind f → IsShaped (command_shape kind) ms f
       → IfNone o (NoneHas kind ms)
@@ -49,7 +50,7 @@ module _ (kind : CommandKind) (ms : Members) (shape : Shape) (is_shape : shape �
 
   no_command : (o : Option Fields) → o ≡ None → IfNone o ((f : Fields) → IsShaped shape ms f → ⊥) → NoneHas kind ms
   no_command None is none c in_range same has =
-      none (fields_of c) (in_range, has_shape c ∙ ap command_shape same ∙ sym is_shape, has)
+      none (fields_of c) (in_range_of c in_range, has_shape c ∙ ap command_shape same ∙ sym is_shape, has)
   no_command (Some f) is none c in_range same has = absurd cc
 
 pub returns-in-Some-clause-found : goal.returns-in-Some-clause-found

@@ -1,5 +1,5 @@
-use Rattle.std.proofs.Common.{◌≡◌, ℕ, List, Option}
-use Rattle.serde_json.specs.Data.{Members}
+use Rattle.std.proofs.Common.{◌≡◌, ◌≢◌, ℕ, Option}
+use Rattle.serde_json.specs.Data.{Data, Members}
 use Rattle.period_core.specs.declared.key_type.KeyType.{KeyType}
 use Rattle.period_core.specs.Period.{Period}
 use Rattle.lifecycle_core.specs.declared.reason.Reason.{Reason}
@@ -9,8 +9,10 @@ use Rattle.register_requests.specs.declared.command_fields.Fields.TheVariants.{R
 use Rattle.register_requests.specs.declared.command_fields.Shape.{Shape}
 use Rattle.register_requests.specs.declared.command_fields.Shape.TheVariants as shapes
 use Rattle.register_requests.specs.declared.request.Edit.{Edit}
-use Rattle.register_requests.specs.Request.{AreFieldsInRange}
-use Rattle.http_messages.specs.Within.CommandValue.{HasMembers, IsShaped}
+use Rattle.register_requests.specs.declared.request.Registration.{Registration as Registered}
+use Rattle.register_requests.specs.Within.Fields.{AreFieldsInRange}
+use Rattle.http_messages.specs.CommandValue.{fields_members}
+use Rattle.http_messages.specs.Within.CommandValue.{IsShaped}
 use Rattle.http_messages.proofs.InOrder.{none_then}
 use Rattle.http_messages.proofs.command_value.fields_of_shape.Goals as goal
 
@@ -20,27 +22,27 @@ NoneHas shape ms = (f : Fields) → IsShaped shape ms f → ⊥
 
 module _ {shape : Shape} {ms : Members} where
   no_period : shape ≡ shapes.TypeAndPeriod
-      → ((t : KeyType) (p : Period) → AreFieldsInRange (TypeAndPeriod t p) → HasMembers ms (TypeAndPeriod t p) → ⊥)
-      → NoneHas shape ms
-  no_period is none (TypeAndPeriod t p) has = none t p has.0 has.2
+      → ((t : KeyType) (p : Period) (k : Data) → AreFieldsInRange (TypeAndPeriod t p)
+      → ms ≢ fields_members k (TypeAndPeriod t p)) → NoneHas shape ms
+  no_period is none (TypeAndPeriod t p) has = none t p has.2.0 has.0 has.2.1
   no_period is none f has = absurd (let same = has.1 in cc (is, same))
 
   no_registration : shape ≡ shapes.Registration
-      → ((t : KeyType) (n : List ℕ) (a p d : Option ℕ) (u : List ℕ) → AreFieldsInRange (Registration t n a p d u)
-      → HasMembers ms (Registration t n a p d u) → ⊥) → NoneHas shape ms
-  no_registration is none (Registration t n a p d u) has = none t n a p d u has.0 has.2
+      → ((new : Registered) (k : Data) → AreFieldsInRange (Registration new)
+      → ms ≢ fields_members k (Registration new)) → NoneHas shape ms
+  no_registration is none (Registration new) has = none new has.2.0 has.0 has.2.1
   no_registration is none f has = absurd (let same = has.1 in cc (is, same))
 
   no_edits : shape ≡ shapes.DateEdits
-      → ((key : ℕ) (a p d : Edit) → AreFieldsInRange (DateEdits key a p d) → HasMembers ms (DateEdits key a p d) → ⊥)
-      → NoneHas shape ms
-  no_edits is none (DateEdits key a p d) has = none key a p d has.0 has.2
+      → ((key : ℕ) (a p d : Edit) (k : Data) → AreFieldsInRange (DateEdits key a p d)
+      → ms ≢ fields_members k (DateEdits key a p d)) → NoneHas shape ms
+  no_edits is none (DateEdits key a p d) has = none key a p d has.2.0 has.0 has.2.1
   no_edits is none f has = absurd (let same = has.1 in cc (is, same))
 
   no_revocation : shape ≡ shapes.Revocation
-      → ((key : ℕ) (r : Reason) (d : Option ℕ) → AreFieldsInRange (Revocation key r d)
-      → HasMembers ms (Revocation key r d) → ⊥) → NoneHas shape ms
-  no_revocation is none (Revocation key r d) has = none key r d has.0 has.2
+      → ((key : ℕ) (r : Reason) (d : Option ℕ) (k : Data) → AreFieldsInRange (Revocation key r d)
+      → ms ≢ fields_members k (Revocation key r d)) → NoneHas shape ms
+  no_revocation is none (Revocation key r d) has = none key r d has.2.0 has.0 has.2.1
   no_revocation is none f has = absurd (let same = has.1 in cc (is, same))
 
 pub returns-in-TypeAndPeriod-clause-none : goal.returns-in-TypeAndPeriod-clause-none

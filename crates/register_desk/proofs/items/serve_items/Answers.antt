@@ -122,7 +122,8 @@ returns-in-Err-clause-serves g c = record {
 pub returns-in-Err-clause-writer : goal.returns-in-Err-clause-writer
 returns-in-Err-clause-writer g c =
     leaves_sound g.W.Write.contents c.args.writer.now c.loop-item.writer _ c.loop-item.invariant.wrote
-    c.loop-item.invariant.flushed c.loop-item.invariant.idle_bounded (of_reading_sound c.in-Err.end c.in-Err.ensures.of_reading)
+    c.loop-item.invariant.flushed c.loop-item.invariant.idle_bounded
+    (of_reading_sound c.in-Err.end c.in-Err.ensures.of_reading)
 
 pub returns-in-Err-clause-desk : goal.returns-in-Err-clause-desk
 returns-in-Err-clause-desk g c =

@@ -4,10 +4,10 @@ use Rattle.register_desk.proofs.memory.run_new.Goals as goal
 pub returns-clause-runs : goal.returns-clause-runs
 returns-clause-runs g c nothing honest bytes items rest known cut = record {
   desk = c.run.new.desk;
-  over = (c.run.ensures.runs bytes items rest known cut).agrees [] (c.in-Ok.ensures.stands nothing) (honest _);
+  over = (c.run.ensures.runs bytes items rest known cut).agrees [] (c.in-Ok.ensures.made.stands nothing) (honest _);
   sound = λ is.
       let broken = c.run.ensures.desk.was_broken is in
-      let whole = c.in-Ok.ensures.whole in
+      let whole = c.in-Ok.ensures.made.whole in
       absurd (cc);
 }
 

@@ -18,7 +18,8 @@ returns-in-Ok-None-clause-exchanges g c = record {
       served_after g.S.Store c.args.moment c.args.desk.now c.args.desk.now c.read_asked-asking.result.asked _
       (g.W.Write.contents c.args.writer.now.inner) _ _ c.read_asked-asking.result.read
       (ap (λ (w : Watched g.row.W.Denot). g.W.Write.contents w.inner) c.reset_turn_counts-2.ensures)
-      (sent_nothing g.S.Store c.args.moment c.args.desk.now c.args.desk.now c.read_asked-asking.result.asked _ c.ended_without_bytes.result
+      (sent_nothing g.S.Store c.args.moment c.args.desk.now c.args.desk.now c.read_asked-asking.result.asked _
+      c.ended_without_bytes.result
       (search rules) refl c.ended_without_bytes.ensures));
 }
 
@@ -75,7 +76,8 @@ unfolding returns-in-Err-ReadFault-clause-exchanges
 returns-in-Err-ReadFault-clause-leaves g c =
     let is_moment : IsMoment c.args.moment = search rules in
     leaves_one g.S.Store c.args.moment c.args.desk.now c.args.desk.now is_moment c.read_asked-asking.result.asked
-    c.with_read-in-Err-ReadFault.result _ _ c.read_asked-asking.ensures.in_range (returns-in-Err-ReadFault-clause-exchanges
+    c.with_read-in-Err-ReadFault.result _ _ c.read_asked-asking.ensures.in_range
+    (returns-in-Err-ReadFault-clause-exchanges
     g c).serves
 
 pub returns-in-Err-ReadFault-clause-clean : goal.returns-in-Err-ReadFault-clause-clean
@@ -117,7 +119,8 @@ returns-clause-exchanges g c = record {
       (ap (λ (w : Watched g.row.W.Denot). g.W.Write.contents w.inner) c.reset_turn_counts-2.ensures)
       (elim c.match-asking.branch [
         | in-Ok-Some w ↦ sent_answer g.S.Store c.args.moment c.args.desk.now c.match-asking.desk
-            c.read_asked-asking.result.asked _ _ _ c.send_reply.result c.match-asking.answered _ _ w.desk-is w.answered-is
+            c.read_asked-asking.result.asked _ _ _ c.send_reply.result c.match-asking.answered _ _ w.desk-is
+            w.answered-is
             w.answer_asked-answered.ensures.acts c.send_reply.ensures.sends c.send_reply.ensures.ends (search rules)
         | in-Err-Memory w ↦ sent_memory g.S.Store c.args.moment c.args.desk.now c.match-asking.desk
             c.read_asked-asking.result.asked _ _ c.send_reply.result c.match-asking.answered

@@ -15,12 +15,12 @@ returns-clause-acts g c =
     acts_text _ c.args.moment _ _ _ c.answer_reply_text.result c.text_or_end.result
     (went_applied _ c.args.moment _ _ _ (λ h. history h (Some request ∷ []))
     (λ h. ap (λ q. history h (Some q ∷ [])) (sym is)) c.in_ok-answer.ensures.clean c.in_ok-answer.ensures.ends
-    (λ h stands clean. c.in_ok-answer.ensures.to.stands h stands in_range clean))
+    (λ h stands clean. ((c.in_ok-answer.ensures.to h).answers stands in_range clean).stands))
     (changes_answered _ _ _ c.in_ok-answer.answer c.answer_reply_text.result c.text_or_end.result
-    c.in_ok-answer.ensures.nothing c.answer_reply_text.ensures c.text_or_end.ensures.ok c.text_or_end.ensures.err)
+    c.in_ok-answer.ensures.unchanged c.answer_reply_text.ensures c.text_or_end.ensures.ok c.text_or_end.ensures.err)
     (λ rejection same. absurd (cc))
     (λ h stands clean. outcome_told (outcome c.in_ok-answer.answer) _ c.answer_reply_text.result
-    (ap outcome (c.in_ok-answer.ensures.to.answer h stands in_range clean ∙ ap (answer h) is))
+    (ap outcome (((c.in_ok-answer.ensures.to h).answers stands in_range clean).answer_is ∙ ap (answer h) is))
     c.answer_reply_text.ensures)
     c.text_or_end.ensures.ok c.text_or_end.ensures.err
 
@@ -32,8 +32,8 @@ returns-in_err-answer-clause-acts g c =
     let ended = err_from_is_err_and c.from_residual.result c.from_residual.ensures.1 in
     applied_ends _ c.args.moment _ _ _ c.in_err-answer.field-0.0 _ refl (λ rejection same. absurd (cc))
     c.in_err-answer.ensures.clean
-    c.in_err-answer.ensures.ends c.in_err-answer.ensures.to.still
+    c.in_err-answer.ensures.ends (λ h. (c.in_err-answer.ensures.to h).still)
     (λ h. history h (Some request ∷ [])) (λ h. ap (λ q. history h (Some q ∷ [])) (sym is))
-    (λ h stands clean store. c.in_err-answer.ensures.to.leaves h stands in_range clean store)
+    (λ h stands clean store. (c.in_err-answer.ensures.to h).leaves stands in_range clean store)
     c.in_err-answer.ensures.unchanged
     (inl refl) (ended.1 ∙ ap Err ended.2)

@@ -34,7 +34,8 @@ returns-in_err-desk-clause-exports g c =
 pub returns-clause-desk : goal.returns-clause-desk
 returns-clause-desk g c =
     breaks_none g.F.Opened.Store c.close_desk-files.result.1 c.in_ok-desk.desk c.export-outcome.new.desk
-    c.in_ok-desk.ensures.whole c.close_desk-files.ensures.mark c.export-outcome.result.end c.export-outcome.ensures.alone
+    c.in_ok-desk.ensures.whole c.close_desk-files.ensures.mark c.export-outcome.result.end
+    c.export-outcome.ensures.alone
 
 pub returns-clause-ends : goal.returns-clause-ends
 returns-clause-ends g c = record { writer = c.export-outcome.ensures.writer; ends = c.export-outcome.ensures.ends }

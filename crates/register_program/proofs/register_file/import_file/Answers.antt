@@ -39,7 +39,7 @@ returns-clause-imports g c =
       anyway = lives_anyway _ _ _ _ run.result c.close_desk-files.result.1 c.close_desk-files.result.0 _ _
           c.in_ok-desk.desk run.new.desk c.in_ok-desk.ensures.whole c.close_desk-files.ensures.closes
           c.close_desk-files.ensures.clean run.ensures.clean c.in_ok-desk.ensures.stands c.in_ok-desk.ensures.nothing
-          (λ is. let none = run.ensures.bad_header is in (ap g.W.Write.contents none.writer, none.replies))
+          (λ is. let none = run.ensures.ends.bad_header is in (ap g.W.Write.contents none.writer, none.replies))
           run.ensures.lives;
     }
 
@@ -54,4 +54,4 @@ returns-clause-desk g c =
     c.in_ok-desk.ensures.whole c.close_desk-files.ensures.mark c.import-outcome.result.end c.import-outcome.ensures.desk
 
 pub returns-clause-ends : goal.returns-clause-ends
-returns-clause-ends g c = record { reads = c.import-outcome.ensures.cause; writer = c.import-outcome.ensures.writer }
+returns-clause-ends g c = record { reads = c.import-outcome.ensures.ends.cause; writer = c.import-outcome.ensures.writer }

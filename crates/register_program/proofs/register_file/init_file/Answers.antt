@@ -1,7 +1,6 @@
 use Rattle.std.proofs.Common.{[], arith, refl}
-use Rattle.register_desk.specs.Register.{tables}
 use Rattle.register_desk.specs.OpenRefusal.{connection_in, refusal_in}
-use Rattle.register_desk.proofs.Found.{finds_nothing, finds_register, leaves_alone}
+use Rattle.register_desk.proofs.Found.{finds_nothing, leaves_alone, shows_table}
 use Rattle.register_program.proofs.OfDesk.{of_desk}
 use Rattle.register_program.proofs.Refusing.{made_closed, made_none, refuses_making}
 use Rattle.register_program.proofs.register_file.init_file.Goals as goal
@@ -11,25 +10,25 @@ returns g c = record {
   leaves = λ none clean.
       let after = c.close_desk-closed.ensures.clean clean in
       let desk = c.in_ok-desk in
-      let stands = desk.ensures.stands
-      (finds_nothing _ _ none (c.in_ok-connection.ensures.shows (desk.ensures.clean after))) in
-      let alone = leaves_alone g.F.Opened.Store [] desk.desk stands desk.ensures.whole after in
+      let stands = desk.ensures.made.stands
+      (finds_nothing _ _ none (c.in_ok-connection.ensures.shows (desk.ensures.made.clean after))) in
+      let alone = leaves_alone g.F.Opened.Store [] desk.desk stands desk.ensures.made.whole after in
       of_desk (c.close_desk-closed.ensures.closes clean) (λ may leaves. leaves.one_of [] [] alone);
   made = λ clean.
       let desk = c.in_ok-desk in
       let after = c.close_desk-closed.ensures.clean clean in
       record {
         old = c.in_ok-connection.connection;
-        shows = c.in_ok-connection.ensures.shows (desk.ensures.clean after);
+        shows = c.in_ok-connection.ensures.shows (desk.ensures.made.clean after);
         none = λ there. (desk.ensures.spares there).refused after;
         leaves = of_desk (c.close_desk-closed.ensures.closes clean)
-            (λ may leaves. leaves.made c.in_ok-connection.connection (desk.ensures.leaves_new after));
+            (λ may leaves. leaves.made c.in_ok-connection.connection (desk.ensures.made.leaves_new after));
       };
   spares = λ h holds clean.
       let desk = c.in_ok-desk in
       let after = c.close_desk-closed.ensures.clean clean in
-      let had = finds_register h _ _ holds (c.in_ok-connection.ensures.shows (desk.ensures.clean after)) in
-      (desk.ensures.spares_register holds.version (tables h) had.holds).refused after;
+      let there = shows_table h _ _ holds (c.in_ok-connection.ensures.shows (desk.ensures.made.clean after)) in
+      (desk.ensures.spares there).refused after;
   refuses = tt;
 }
 
@@ -47,7 +46,7 @@ returns-in_err-desk g c =
     c.from_residual-in_err-desk.ensures.1
     (λ refused gives. refuses_making _ _ _ _ g.met.F.Files.opens_again
     c.in_ok-connection.connection (connection_in unopened) c.in_ok-connection.ensures.shows
-    (λ clean. omega (arith, it.leaves.stop.clean, clean)) (refusal_in unopened) it.refused (λ is. (it.there is).there)
-    it.leaves_there it.leaves_made (λ there. (it.spares there).leaves)
-    (λ version h had. (it.spares_register version (tables h) had.holds).leaves) unopened
+    (λ clean. omega (arith, it.refused.leaves.stop.clean, clean)) (refusal_in unopened) it.refused.reason
+    (λ is. (it.refused.there is).there)
+    it.refused.leaves_there it.refused.leaves_made (λ there. (it.spares there).leaves) unopened
     refused gives refl refl)

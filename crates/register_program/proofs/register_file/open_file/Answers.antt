@@ -13,7 +13,7 @@ returns g c =
     record {
       stands = λ h lawful holds clean.
           desk.stands holds.version h (lawful_there h _ holds lawful)
-          (finds_register h _ _ holds (shows (omega (arith, desk.stop.clean, clean)))) clean;
+          (finds_register h _ _ holds (shows (omega (arith, desk.stop.clean, clean))) lawful) clean;
       whole = desk.whole;
       nothing = λ none clean.
           let passed = desk.passed clean in
@@ -36,7 +36,7 @@ returns-in_err-desk g c =
     c.from_residual-in_err-desk.ensures.1
     (λ refused gives. refuses_opened _ _ _ _ g.met.F.Files.opens_again
     c.in_ok-connection.connection (connection_in unopened) c.in_ok-connection.ensures.shows
-    (λ clean. omega (arith, it.stop.clean, clean)) (refusal_in unopened) it.refused it.blames_none
-    it.leaves_refused
-    (λ version h lawful had. it.leaves_stored (stored_in version h) had (meet_checks version h lawful)) unopened
+    (λ clean. omega (arith, it.stop.clean, clean)) (refusal_in unopened) it.refused.reason it.refused.blames_none
+    it.refused.leaves
+    (λ version h lawful had. it.refused.leaves_stored (stored_in version h) had (meet_checks version h lawful)) unopened
     refused gives refl refl)

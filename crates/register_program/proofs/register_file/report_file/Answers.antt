@@ -38,7 +38,8 @@ returns-in_err-desk-clause-reports g c =
 pub returns-clause-desk : goal.returns-clause-desk
 returns-clause-desk g c =
     breaks_none g.F.Opened.Store c.close_desk-files.result.1 c.in_ok-desk.desk c.rotation-outcome.new.desk
-    c.in_ok-desk.ensures.whole c.close_desk-files.ensures.mark c.rotation-outcome.result.end c.rotation-outcome.ensures.alone
+    c.in_ok-desk.ensures.whole c.close_desk-files.ensures.mark c.rotation-outcome.result.end
+    c.rotation-outcome.ensures.alone
 
 pub returns-clause-ends : goal.returns-clause-ends
 returns-clause-ends g c = record { writer = c.rotation-outcome.ensures.writer; ends = c.rotation-outcome.ensures.ends }

@@ -22,7 +22,7 @@ returns-clause-runs g c =
       anyway = lives_anyway _ _ _ _ run.result c.close_desk-files.result.1 c.close_desk-files.result.0 _ _
           c.in_ok-desk.desk run.new.desk c.in_ok-desk.ensures.whole c.close_desk-files.ensures.closes
           c.close_desk-files.ensures.clean run.ensures.clean c.in_ok-desk.ensures.stands c.in_ok-desk.ensures.nothing
-          (λ is. absurd (run.ensures.no_header is)) run.ensures.lives;
+          (λ is. absurd (run.ensures.ends.no_header is)) run.ensures.lives;
     }
 
 pub returns-in_err-desk-clause-runs : goal.returns-in_err-desk-clause-runs

@@ -37,5 +37,6 @@ returns-in_err-desk-clause-serves g c =
 
 pub returns-clause-desk : goal.returns-clause-desk
 returns-clause-desk g c =
-    rw (c.ended_without_bytes.ensures) (breaks_as g.F.Opened.Store c.close_desk-files.result.1 c.in_ok-desk.desk c.serve_at-end.new.desk
+    rw (c.ended_without_bytes.ensures)
+    (breaks_as g.F.Opened.Store c.close_desk-files.result.1 c.in_ok-desk.desk c.serve_at-end.new.desk
     c.in_ok-desk.ensures.whole c.close_desk-files.ensures.mark c.serve_at-end.result c.serve_at-end.ensures.desk)

@@ -5,7 +5,7 @@ use Rattle.register_program.proofs.serving.serve_at.Goals as goal
 
 pub returns-in_default : goal.returns-in_default
 returns-in_default g c = record {
-  leaves = λ h stands whole clean. served_nothing g.S.Store h c.args.exchanges _ stands whole clean;
+  leaves = λ h stands whole clean. served_nothing g.S.Store h c.args.bounds.now.exchanges _ stands whole clean;
   clean = λ clean. clean;
   ends = tt;
   cause = search rules;

@@ -1,8 +1,8 @@
 use Rattle.std.proofs.Common.{ℕ, ◌+◌, ◌≤◌, ◌∙◌, ap, arith, refl, rules, sym}
 use Rattle.register_program.specs.declared.attendance.Attendance.{Attendance}
-use Rattle.register_program.proofs.Served.{ends_serving, explains_end, not_store, served_none, served_next, served_all, served_last}
+use Rattle.register_program.proofs.Served.{ends_serving, explains_end, not_store, served_none, served_next, served_all}
+use Rattle.register_program.proofs.Served.{served_last, goes_on_by, leaves_at_end, leaves_at_fault, leaves_by}
 use Rattle.register_desk.proofs.Goings.{still}
-use Rattle.register_program.proofs.Served.{goes_on_by, leaves_at_end, leaves_at_fault, leaves_by}
 use Rattle.register_program.proofs.serving.serve_on.Goals as goal
 
 pub exchanges-init : goal.exchanges-init
@@ -21,16 +21,19 @@ exchanges-preserved g c = record {
       c.serve_connection-connection.new.desk c.serve_connection-connection.result.outcome.end
       (c.exchanges.invariant.so_far h stands whole (c.serve_connection-connection.ensures.clean clean))
       c.serve_connection-connection.ensures.leaves clean
-      (not_store c.serve_connection-connection.result.outcome.end (sym c.may_serve_on.ensures ∙ c.if-not-may_serve_on.false));
+      (not_store c.serve_connection-connection.result.outcome.end
+      (sym c.may_serve_on.ensures ∙ c.if-not-may_serve_on.false));
   clean = λ clean. c.exchanges.invariant.clean (c.serve_connection-connection.ensures.clean clean);
   within = omega (arith, c.exchanges-test.true);
   accepted = ap (λ (a : Attendance). a.accepted) (c.in-Some-tell_moment.ensures.tells ∙ c.in-Some.ensures.counts)
       ∙ ap (λ (n : ℕ). n + 1) c.exchanges.invariant.accepted;
   sound = ap (λ (a : Attendance). a.failed) (c.in-Some-tell_moment.ensures.tells ∙ c.in-Some.ensures.counts)
       ∙ c.exchanges.invariant.sound;
-  goes_on = goes_on_by _ _ c.exchanges.desk _ c.serve_connection-connection.result.outcome.end c.exchanges.invariant.goes_on
+  goes_on = goes_on_by _ _ c.exchanges.desk _ c.serve_connection-connection.result.outcome.end
+      c.exchanges.invariant.goes_on
       c.serve_connection-connection.ensures.desk
-      (not_store c.serve_connection-connection.result.outcome.end (sym c.may_serve_on.ensures ∙ c.if-not-may_serve_on.false));
+      (not_store c.serve_connection-connection.result.outcome.end
+      (sym c.may_serve_on.ensures ∙ c.if-not-may_serve_on.false));
 }
 
 pub returns-in_default : goal.returns-in_default

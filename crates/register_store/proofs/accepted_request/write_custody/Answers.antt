@@ -5,7 +5,7 @@ use Rattle.sql_steps.proofs.Stepping.{stays}
 use Rattle.register_core.specs.declared.change.CustodyChange.TheVariants.{Kept}
 use Rattle.register_store.specs.Change.{with_custody}
 use Rattle.register_store.specs.declared.counted.StepCount.{StepCount}
-use Rattle.register_store.specs.Within.StepCount.{Writes}
+use Rattle.register_store.specs.Within.StepCount.{WritesInside}
 use Rattle.register_store.specs.TableChanges.{Makes}
 use Rattle.register_store.specs.Within.TableChanges.{Always}
 use Rattle.register_store.proofs.Readings.{survives_none}
@@ -15,8 +15,8 @@ use Rattle.register_store.proofs.accepted_request.write_custody.Goals as goal
 module _ {A E : Type 0} {sees : A → State} {name : A → ℕ} {most : ℕ} {asked made : CustodyChange} {old new : A}
     {before after : StepCount} {r : Result (Unit {0}) E} where
   written : (number : ℕ) → asked ≡ made → most ≤ 2
-      → Writes sees name most (Makes Always (with_custody number made)) old new before after r
-      → Writes sees name 2 (Makes Always (with_custody number asked)) old new before after r
+      → WritesInside sees name most (Makes Always (with_custody number made)) old new before after r
+      → WritesInside sees name 2 (Makes Always (with_custody number asked)) old new before after r
   written number is few did = search arith
 
 pub returns-in-CustodianAdded : goal.returns-in-CustodianAdded

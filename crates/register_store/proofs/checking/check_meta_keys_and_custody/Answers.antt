@@ -54,21 +54,21 @@ returns-in_err-custodians-clause-checks g c =
     (custodians_stop found _ _ _ c.check_and_list_custodians.ensures.survives owners two c.in_err-custodians.field-0.0
     c.from_residual-in_err-custodians.result is c.in_err-custodians.ensures.checks)
 
-pub returns-in_err-check_approvals-clause-checks : goal.returns-in_err-check_approvals-clause-checks
-returns-in_err-check_approvals-clause-checks g c =
+pub returns-in_err-check_approval_rows-clause-checks : goal.returns-in_err-check_approval_rows-clause-checks
+returns-in_err-check_approval_rows-clause-checks g c =
     let lists = c.in_ok-custodians.custodians in
     let three = names_pass c.in_ok-found.found _ _ _ c.check_and_read_meta.ensures.survives c.in_ok-found.ensures.checks
     c.check_keys_and_list_owners.ensures.survives c.in_ok-owners.owners
     c.in_ok-owners.ensures.checks _ c.check_and_list_custodians.ensures.survives lists
     c.in_ok-custodians.ensures.checks in
-    let is = c.from_residual-in_err-check_approvals.ensures.1 in
-    stops_first (before Request) _ _ c.in_err-check_approvals.field-0.0 c.from_residual-in_err-check_approvals.result is
+    let is = c.from_residual-in_err-check_approval_rows.ensures.1 in
+    stops_first (before Request) _ _ c.in_err-check_approval_rows.field-0.0 c.from_residual-in_err-check_approval_rows.result is
     (silent_stop Approval (λ t. KnowsCustodians t.tables.custodians lists)
     (KnowsNames c.in_ok-found.found (state g.S.Store c.args.connection.now) c.in_ok-owners.owners lists) _ _ _
     (λ t k. k.1)
-    three c.check_approvals.ensures.survives (λ t k. in_both Approval (omega arith) t.version)
-    c.in_err-check_approvals.field-0.0
-    c.from_residual-in_err-check_approvals.result is c.in_err-check_approvals.ensures.checks)
+    three c.check_approval_rows.ensures.survives (λ t k. in_both Approval (omega arith) t.version)
+    c.in_err-check_approval_rows.field-0.0
+    c.from_residual-in_err-check_approval_rows.result is c.in_err-check_approval_rows.ensures.checks)
 
 pub returns-clause-checks : goal.returns-clause-checks
 returns-clause-checks g c =
@@ -80,5 +80,5 @@ returns-clause-checks g c =
     c.in_ok-owners.ensures.checks _ c.check_and_list_custodians.ensures.survives lists
     c.in_ok-custodians.ensures.checks in
     let four = silent_pass Approval (λ t. KnowsCustodians t.tables.custodians lists) Knows _ _ _ (λ t k. k.1) three
-    c.check_approvals.ensures.survives (λ t c p. p) (λ t c k. k) c.in_ok-check_approvals.ensures.checks in
+    c.check_approval_rows.ensures.survives (λ t c p. p) (λ t c k. k) c.in_ok-check_approval_rows.ensures.checks in
     chain_as (before Request) Knows (KnowsCounts found) _ _ (λ t k. k.0.0) four

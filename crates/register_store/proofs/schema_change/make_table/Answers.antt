@@ -2,7 +2,7 @@ use Rattle.std.proofs.Common.{[], arith}
 use Rattle.sqlite.specs.Held.{state}
 use Rattle.sql_steps.proofs.Stepping.{runs}
 use Rattle.register_store.specs.Within.Migration.{MakesNext}
-use Rattle.register_store.specs.Within.Tables.{create_text}
+use Rattle.register_store.specs.Tables.{create_statement}
 use Rattle.register_store.proofs.Beside.{table_adds}
 use Rattle.register_store.proofs.Creating.{makes_table}
 use Rattle.register_store.proofs.NewTables.{makes_next}
@@ -13,7 +13,7 @@ returns-clause-made g c = grind (arith, runs, makes_table)
 
 pub returns-clause-next : goal.returns-clause-next
 returns-clause-next g c new =
-    runs (MakesNext c.args.table) (create_text c.args.table) [] (state g.S.Store c.args.tx.now.conn.now)
+    runs (MakesNext c.args.table) (create_statement c.args.table) [] (state g.S.Store c.args.tx.now.conn.now)
     (state g.S.Store c.execute.new.self.conn.now) c.in_ok-execute.field-0 (makes_next c.args.table new _ _)
     (λ clean inside. rw c.create_sql.ensures at (c.in_ok-execute.ensures.runs clean inside))
     c.in_ok-execute.ensures.survives

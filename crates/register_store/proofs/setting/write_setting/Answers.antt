@@ -4,7 +4,7 @@ use Rattle.sql_steps.specs.Steps.{StepsBy}
 use Rattle.register_store.specs.declared.setting.Setting.{Setting}
 use Rattle.register_store.specs.declared.setting.Setting.TheVariants.{Need, Period}
 use Rattle.register_store.specs.TableChanges.{Makes}
-use Rattle.register_store.specs.Within.TableChanges.{Always, HasNoneSet, more_set, with_set, without_set}
+use Rattle.register_store.specs.Within.TableChanges.{Always, HasNoneSet, more_set, with_setting, without_set}
 use Rattle.register_store.proofs.KeyedChange.{put_anew}
 use Rattle.register_store.proofs.SettingTexts.{needs_are, periods_are}
 use Rattle.register_store.proofs.Wrote.{wrote}
@@ -13,7 +13,7 @@ use Rattle.register_store.proofs.setting.write_setting.Goals as goal
 set_anew : {X Y E F : Type 0} (setting : Setting) (old mid new : State) (x : X) (r : Result Y F)
     → StepsBy {E = E} (λ _. Makes Always (without_set setting)) old mid (Ok x)
     → StepsBy (λ _. Makes (HasNoneSet setting) (more_set setting)) mid new r
-    → StepsBy (λ _. Makes Always (with_set setting)) old new r
+    → StepsBy (λ _. Makes Always (with_setting setting)) old new r
 set_anew (Period kind period) = put_anew periods_are (record { kind = kind; period = period })
 set_anew (Need key need) = put_anew needs_are (record { key = key; need = need })
 

@@ -3,7 +3,7 @@ use Rattle.sqlite_trees.specs.declared.store.Store.{Ghosts}
 use Rattle.register_store.specs.declared.counted.Counted.{Counted}
 use Rattle.register_store.specs.declared.error.StoreError.{StoreError}
 use Rattle.register_store.specs.declared.stored_key.Role.TheVariants.{Custodian, Approver}
-use Rattle.register_store.specs.TableReads.{seen, load_steps, Calls, CallsOver, ReadsBy, HasKey, HasRow}
+use Rattle.register_store.specs.TableReads.{seen, load_steps, Calls, CallsOver, ReadsBy, HasHeldKey, HasRow}
 use Rattle.register_store.specs.Within.TableReads.{count_at, HasNames}
 use Rattle.register_store.specs.Tables.{Tables}
 use Rattle.register_store.proofs.Readings.{calls_then, calls_weaker, reads_as, reads_fail, reads_then}
@@ -23,7 +23,7 @@ returns-in_err-custodians-clause-reads g c =
     let both = reads_then (HasRow c.args.number) (HasNames Custodian c.args.number) a b d c.in_ok-key.field-0
     (Err c.in_err-custodians.field-0.0) c.in_ok-key.ensures.reads c.in_err-custodians.ensures.reads in
     reads_fail (λ t names. HasRow c.args.number t c.in_ok-key.field-0 × HasNames Custodian c.args.number t names)
-    (HasKey c.args.number c.args.need) a d c.in_err-custodians.field-0.0 c.from_residual-in_err-custodians.result
+    (HasHeldKey c.args.number c.args.need) a d c.in_err-custodians.field-0.0 c.from_residual-in_err-custodians.result
     c.from_residual-in_err-custodians.ensures.1 both
 
 pub returns-in_err-approvals-clause-reads : goal.returns-in_err-approvals-clause-reads
@@ -55,7 +55,7 @@ returns-clause-reads g c =
     let three = reads_then First (HasNames Approver number) a d e c.in_ok-custodians.custodians
     (Ok c.in_ok-approvals.approvals) two c.in_ok-approvals.ensures.reads in
     reads_as (λ t names. First t c.in_ok-custodians.custodians × HasNames Approver number t names)
-    (HasKey number c.args.need) a e c.in_ok-approvals.approvals _
+    (HasHeldKey number c.args.need) a e c.in_ok-approvals.approvals _
     (search arith)
     three
 

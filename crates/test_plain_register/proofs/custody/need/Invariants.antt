@@ -1,5 +1,5 @@
 use Rattle.std.proofs.Common.{◌≡◌, take}
-use Rattle.register_core.specs.Custody.{set_need}
+use Rattle.register_core.specs.Within.Custody.{set_need}
 use Rattle.test_plain_register.proofs.custody.need.Given as goal
 
 abbrev pub invariant-loop-request : goal.invariant-loop-request

@@ -4,4 +4,4 @@ use Rattle.register_core.specs.declared.reply.Refusal.{Refusal}
 use Rattle.register_core.proofs.reply.Refusal.title.Goals as goal
 
 pub returns-in-Full-clause-number : goal.returns-in-Full-clause-number
-returns-in-Full-clause-number c = ap (λ (refusal : Refusal). (refusal_title refusal).number) (sym c.in-Full.is)
+returns-in-Full-clause-number c = ap (λ (refusal : Refusal). (refusal_title refusal).0) (sym c.in-Full.is)

@@ -1,12 +1,12 @@
-use Rattle.std.proofs.Common.{rules}
+use Rattle.std.proofs.Common.{refl, rules}
 use Rattle.register_store.specs.TableReads.{HasRequest}
 use Rattle.register_desk.proofs.Readings.{found_in, looks_well}
 use Rattle.register_desk.proofs.desk.Desk.look_up_kept_reply.Goals as goal
 
 pub returns-in-Ok-clause-looks : goal.returns-in-Ok-clause-looks
 returns-in-Ok-clause-looks g c =
-    looks_well g.S.Store _ 2 _ _ _ _ _ c.requires c.in-Ok.ensures.reads
-    (λ h stands clean. c.find_request.ensures.counted)
+    looks_well g.S.Store _ 2 _ _ _ c.requires _ c.in-Ok.ensures.reads (λ h stands clean. c.find_request.ensures.counted)
+    c.in-Ok.found _ refl
 
 pub returns-in-Ok-clause-kept : goal.returns-in-Ok-clause-kept
 returns-in-Ok-clause-kept g c t sees clean =
@@ -17,9 +17,3 @@ returns-in-Ok-clause-kept g c t sees clean =
 
 pub returns-in-Ok-clause-within : goal.returns-in-Ok-clause-within
 returns-in-Ok-clause-within g c = search rules fits 100
-
-pub returns-in-Ok-Some-clause-no_memory : goal.returns-in-Ok-Some-clause-no_memory
-returns-in-Ok-Some-clause-no_memory g c = search rules
-
-pub returns-in-Ok-Some-clause-looks : goal.returns-in-Ok-Some-clause-looks
-returns-in-Ok-Some-clause-looks g c = search rules

@@ -1,9 +1,9 @@
+use Rattle.std.proofs.Common.{refl}
 use Rattle.register_desk.proofs.Readings.{looks_where}
 use Rattle.register_desk.proofs.desk.Desk.look_up_key_row.Goals as goal
 
 pub returns-in-Ok-clause-looks : goal.returns-in-Ok-clause-looks
 returns-in-Ok-clause-looks g c =
-    looks_where g.S.Store _ 2 _ _ _ _ _ _ c.requires c.in-Ok.ensures.reads (λ h stands clean.
-    c.find_key_row.ensures.counted)
-    c.row_or_break_on_missing_key.ensures.same c.row_or_break_on_missing_key.ensures.unchanged
-    c.row_or_break_on_missing_key.ensures.broken
+    looks_where g.S.Store _ 2 _ _ _ c.requires _ c.in-Ok.ensures.reads
+    (λ h stands clean. c.find_key_row.ensures.counted)
+    c.in-Ok.found _ refl c.unless_missing.ensures.store

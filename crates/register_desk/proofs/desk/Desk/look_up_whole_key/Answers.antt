@@ -1,16 +1,21 @@
+use Rattle.std.proofs.Common.{Err, ap, refl, ◌∙◌}
+use Rattle.std.proofs.lemmas.Result.{err_from_is_err_and}
 use Rattle.register_desk.proofs.Readings.{looks_failed, looks_where}
 use Rattle.register_desk.proofs.Taken.{loads_few}
 use Rattle.register_desk.proofs.desk.Desk.look_up_whole_key.Goals as goal
 
-pub returns-in-Ok-clause-looks : goal.returns-in-Ok-clause-looks
-returns-in-Ok-clause-looks g c =
-    looks_where g.S.Store _ 36 _ _ _ _ _ _ c.if-self.false c.in-Ok.ensures.reads (loads_few g.S.Store c.args.number
-    c.args.self.now c.load_key.new.connection c.if-self.false c.in-Ok.ensures.reads.clean c.load_key.ensures.counted)
-    c.row_or_break_on_missing_key.ensures.same c.row_or_break_on_missing_key.ensures.unchanged
-    c.row_or_break_on_missing_key.ensures.broken
+pub returns-clause-looks : goal.returns-clause-looks
+returns-clause-looks g c =
+    looks_where g.S.Store _ 36 _ _ _ c.requires _ c.in_ok-found.ensures.reads
+    (loads_few g.S.Store c.args.number c.args.self.now c.load_key.new.connection c.requires
+    c.in_ok-found.ensures.reads.clean c.load_key.ensures.counted)
+    c.in_ok-found.found _ refl c.unless_missing.ensures.store
 
-pub returns-in-Err-clause-looks : goal.returns-in-Err-clause-looks
-returns-in-Err-clause-looks g c =
-    looks_failed g.S.Store _ 36 _ _ _ _ _ _ c.if-self.false c.in-Err.ensures.reads (loads_few g.S.Store c.args.number
-    c.args.self.now c.load_key.new.connection c.if-self.false c.in-Err.ensures.reads.clean c.load_key.ensures.counted)
-    c.break_unless_out_of_memory.ensures.same c.break_unless_out_of_memory.ensures.memory c.break_unless_out_of_memory.ensures.store
+pub returns-in_err-found-clause-looks : goal.returns-in_err-found-clause-looks
+returns-in_err-found-clause-looks g c =
+    let reads = c.in_err-found.ensures.reads in
+    let ended = err_from_is_err_and c.from_residual.result c.from_residual.ensures.1 in
+    rw (ended.1 ∙ ap Err ended.2) (looks_failed g.S.Store _ 36 _ _ _ c.requires _ reads
+    (loads_few g.S.Store c.args.number c.args.self.now c.load_key.new.connection c.requires reads.clean
+    c.load_key.ensures.counted)
+    _ c.in_err-found.field-0.0 refl)

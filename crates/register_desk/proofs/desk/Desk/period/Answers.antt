@@ -1,19 +1,19 @@
-use Rattle.std.proofs.Common.{◌≡◌, Option, Result, Ok, IfOk, ap, subst, ◌∙◌}
-use Rattle.period_core.specs.Period.{Period, period_or_default}
-use Rattle.register_core.proofs.Settled.{periods_are}
-use Rattle.register_desk.specs.declared.end.End.{End}
-use Rattle.register_desk.specs.Register.{tables}
+use Rattle.register_desk.proofs.Readings.{clean_so, ends_so, reads_so, steps_so}
 use Rattle.register_desk.proofs.desk.Desk.period.Goals as goal
 
--- what was told is what was found
-told_so : (other set : Option Period) (told : Result (Option Period) End) → told ≡ Ok set
-    → IfOk told (λ found. found ≡ other) → set ≡ other
-told_so other set told is found =
-    subst (λ (result : Result (Option Period) End). IfOk result (λ found. found ≡ other)) is found
+pub returns-clause-ends : goal.returns-clause-ends
+returns-clause-ends g c =
+    let looks = c.look_up_period-found.ensures.looks in
+    ends_so g.S.Store 2 _ _ _ _ c.break_if_refused.ensures looks.ends c.if-self.false looks.mark
+
+pub returns-clause-reads : goal.returns-clause-reads
+returns-clause-reads g c = reads_so g.S.Store 2 _ _ _ _ c.break_if_refused.ensures c.look_up_period-found.ensures.looks
+
+pub returns-clause-steps : goal.returns-clause-steps
+returns-clause-steps g c =
+    steps_so g.S.Store 2 _ _ _ _ c.break_if_refused.ensures c.look_up_period-found.ensures.looks.steps
 
 pub returns-clause-found : goal.returns-clause-found
 returns-clause-found g c h stands clean =
-    let set = told_so _ c.in_ok-set.set c.look_up_set_period.result c.in_ok-set.was
-    (c.look_up_set_period.ensures.found (tables h) stands.over.sees clean) in
-    c.period_or_default.ensures
-    ∙ ap (λ (told : Option Period). period_or_default told c.args.kind) (set ∙ periods_are h c.args.kind)
+    c.look_up_period-found.ensures.found h stands
+    (clean_so g.S.Store 2 c.args.self.now _ _ _ c.break_if_refused.ensures clean)

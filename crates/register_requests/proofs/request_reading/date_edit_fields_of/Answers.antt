@@ -1,8 +1,0 @@
-use Rattle.std.proofs.Common.{None}
-use Rattle.register_requests.proofs.Texts.{made_stands}
-use Rattle.register_requests.proofs.Lines.{date_edits}
-use Rattle.register_requests.proofs.request_reading.date_edit_fields_of.Goals as goal
-
-pub returns-in_err-key : goal.returns-in_err-key
-returns-in_err-key c =
-    rw c.from_residual.ensures (made_stands date_edits c.args.bytes.now None c.in_err-key.ensures)
