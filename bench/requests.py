@@ -21,8 +21,8 @@ of the file, but for the third kind; each caller's numbers rise. What grows with
 of the engine's pages.
 
 `keyreg` reads lines, decides and writes replies, each before the next line is read. *python* does the same over `sqlite3`,
-with the rules that these requests meet. The *bare* program, bare_requests.rt.txt, gives the statements of an accepted request to the
-kit's `sqlite`: it knows the values before, and has no line to read, nothing to decide and no reply to write. All three
+with the rules that these requests meet. The *bare* program, bare_requests.rt.txt, gives the statements of an accepted request to
+the kit's `sqlite`: it knows the values before, and has no line to read, nothing to decide and no reply to write. All three
 hold the file's lock as long as they run, keep a log beside the file, copy it into the file when it has 1000 pages, keep
 2000 pages in memory, and sync at each commit: the kit twice, since it trusts no checksum to refuse a torn write, and
 SQLite once (synchronous = FULL).

@@ -12,7 +12,7 @@ shorter periods of two types at the latest moment, so that the report has long k
 same rows are read by
 
     keyreg           the command, by its own searches, each line flushed before the next row is read
-    bare             bare_tables.rt.txt: one SELECT given to the kit's `sqlite`, whose cells it adds up and does not write
+    bare             bare_tables.rt.txt: one SELECT given to the kit's `sqlite`; it adds its cells up and writes none
     python           the same SELECT by its `sqlite3`, and `csv` for an export: it writes what `keyreg` does, in large pieces
     python, flushed  the same, each line flushed before the next row is read
     python, tested   as python, over a register that it opens as `opened.py` does: all rows are put to the tests first

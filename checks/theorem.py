@@ -308,7 +308,8 @@ def theorem_page():
                      for places in (STEP, OPENING))
     number, lines, _ = totals()
     return HEAD.format(says=readme_sentence(), step=step, opening=opening, law="\n".join(root.text),
-                       statement="\n".join(definitions.definition(STATEMENT).text), number=f"{number:,}", lines=f"{lines:,}")
+                       statement="\n".join(definitions.definition(STATEMENT).text),
+                       number=f"{number:,}", lines=f"{lines:,}")
 
 
 def definitions_page():
