@@ -15,8 +15,8 @@ import sources
 import terms
 from sources import read
 
-USE = re.compile(r"\s*(?:ghost )?use Rattle\.(\w+)\.(?:specs\.|(?=proofs\.))([\w.-]+?)"
-                 r"(?:\.\{(.*)\}| as ([\w-]+));?\s*$")
+USE = re.compile(r"\s*(?:ghost )?use Rattle\.(\w+)\.(?:specs|(?=proofs))\.?([\w.-]*?)"
+                 r"(?:\.?\{(.*)\}| as ([\w-]+));?\s*$")
 HEAD = re.compile(r"( *)(?:(?:(?:abbrev|unfoldable)(?: pub)?|pub) (\S+) :|(?:pub )?(?:record|data) ([A-Z]\w*)\b)")
 MODULE = re.compile(r"module _ (.*)$")
 # Words of which the walk did not find what they stand for: their crate, their file, the word. Behind one there may be a
@@ -70,9 +70,10 @@ class Imports:
             if alias:
                 self.files[alias] = (crate, path)
             for name in (names or "").split(","):
-                meant, _, other = name.partition(" as ")
-                if meant.strip():
-                    self.words[(other or meant).strip()] = (crate, path, meant.strip())
+                place, _, other = name.strip().partition(" as ")
+                file, _, meant = place.rpartition(".")
+                if meant:
+                    self.words[other or meant] = (crate, ".".join(filter(None, (path, file))), meant)
         self.signs = {part: word for word in self.words if "◌" in word for part in word.split("◌") if part}
 
     def meaning(self, word):

@@ -2,17 +2,12 @@
 use Rattle.std.proofs.Common.{◌≡◌, Bool, List, [], ◌∷◌, Option, None, Some, ℕ, cond, inl, inr, subst, subst₂, sym}
 use Rattle.std.proofs.Math.Logic.{∥∥₁_map}
 use Rattle.std.specs.Prelude.{IfSome}
-use Rattle.sqlite.specs.WalFiles.{outcomes}
+use Rattle.sqlite.specs.Files.{HoldsDatabase, AreFoundIn, IsCleanLeft, IsNothing, IsUnderWay, LeavesFiles, image_of}
+use Rattle.sqlite.specs.{WalFiles.outcomes, declared.file.Leftover.Leftover, Recovery.Image, Tree.Trees}
 use Rattle.sqlite_disk.specs.Events.{Event, replay, settled}
-use Rattle.sqlite_disk.specs.History.{MayLeave}
-use Rattle.sqlite_disk.specs.declared.Disk.{Ghosts}
-use Rattle.sqlite_disk.specs.declared.Files.{Files}
-use Rattle.sqlite.specs.declared.file.Leftover.{Leftover}
+use Rattle.sqlite_disk.specs.{History.MayLeave, declared.Disk.Ghosts, declared.Files.Files}
 use Rattle.sqlite.specs.declared.file.Leftover.TheVariants as left
 use Rattle.sqlite.proofs.FileLemmas.{is_something}
-use Rattle.sqlite.specs.Files.{HoldsDatabase, AreFoundIn, IsCleanLeft, IsNothing, IsUnderWay, LeavesFiles, image_of}
-use Rattle.sqlite.specs.Recovery.{Image}
-use Rattle.sqlite.specs.Tree.{Trees}
 use Rattle.register_desk.proofs.Found.{finds_empty}
 use Rattle.register_desk.specs.DatabaseFiles.{HoldsNothing}
 use Rattle.register_program.specs.Closing.{StandsAs}

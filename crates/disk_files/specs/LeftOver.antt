@@ -1,14 +1,10 @@
 -- What may be left of files on a disk that could not be opened.
 use Rattle.std.specs.Prelude.{◌≡◌, Option, None, Some}
 use Rattle.sqlite_disk.specs.declared.Disk.{Ghosts}
-use Rattle.sqlite_store.specs.FileStore.{recovers}
-use Rattle.sqlite_store.specs.Unopened.{state_of}
-use Rattle.sqlite.specs.declared.file.Leftover.{Leftover}
-use Rattle.sqlite.specs.declared.file.Leftover.TheVariants as left
+use Rattle.sqlite_store.specs.{FileStore.recovers, Unopened.state_of}
 use Rattle.sqlite.specs.Files.{HoldsDatabase, IsCleanLeft}
-use Rattle.sqlite.specs.Recovery.{Image}
-use Rattle.sqlite.specs.Tree.{Trees}
-use Rattle.sqlite.specs.WalFiles.{outcomes}
+use Rattle.sqlite.specs.{declared.file.Leftover.Leftover, Recovery.Image, Tree.Trees, WalFiles.outcomes}
+use Rattle.sqlite.specs.declared.file.Leftover.TheVariants as left
 
 -- the database that the files held, if they held one, they hold
 abbrev pub KeepsDatabase : Image → Image → Type 0

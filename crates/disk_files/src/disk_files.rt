@@ -1,6 +1,5 @@
 //! The files of a register on the machine's disk.
-ghost use Rattle.sqlite.specs.WalFiles.{image_at};
-ghost use Rattle.sqlite.specs.Files.{over_files};
+ghost use Rattle.sqlite.specs.{WalFiles.image_at, Files.over_files};
 ghost use Rattle.sqlite_store.specs.FileStore as files;
 ghost use Rattle.register_desk.specs.OpenRefusal.{RefusesNoTable};
 ghost use Rattle.register_program.specs.Closing.{ClosesFiles};

@@ -1,23 +1,18 @@
 -- What answers a body answers the input that it stands in.
-use Rattle.std.proofs.Common.{◌≡◌, ◌≢◌, ℕ, ◌+◌, ◌≤◌, List, [], ◌++◌, length, take, min, Option, Some, None}
-use Rattle.std.proofs.Common.{sym, ap, subst, ◌∙◌, arith, append_assoc, length-append, length-take}
+use Rattle.std.proofs.Common.{◌≡◌, ◌≢◌, ℕ, ◌+◌, ◌≤◌, List, [], ◌++◌, length, take, min, Option, Some, None, sym, ap}
+use Rattle.std.proofs.Common.{subst, ◌∙◌, arith, append_assoc, length-append, length-take}
+use Rattle.std.proofs.lemmas.List.{take-append-le, append-nil, take_min}
 use Rattle.std.specs.Prelude.{IfOk, IsSomeAnd, IsUtf8, Ok}
 use Rattle.std.specs.Io.KnownBytes.{Consumes, IsAtEnd}
-use Rattle.std.proofs.lemmas.List.{take-append-le, append-nil, take_min}
-use Rattle.serde_json.specs.Data.{Data}
-use Rattle.serde_json.specs.Read.{read}
-use Rattle.register_requests.specs.declared.request.Command.{Command}
-use Rattle.register_requests.specs.Request.{IsCommand}
-use Rattle.http_messages.specs.CommandValue.{command_data}
-use Rattle.httparse.specs.Grammar.{RequestHead}
-use Rattle.http_messages.specs.declared.asked.Asked.{Asked}
-use Rattle.http_messages.specs.declared.asking.Asking.{Asking}
+use Rattle.serde_json.specs.{Data.Data, Read.read}
+use Rattle.register_requests.specs.{declared.request.Command.Command, Request.IsCommand}
 use Rattle.http_messages.specs.declared.asked.Asked.TheVariants.{Reject, Apply}
 use Rattle.http_messages.specs.declared.asked.Rejection.TheVariants.{BadRequest}
-use Rattle.http_messages.specs.declared.asking.Post as post
-use Rattle.http_messages.specs.declared.route.Route.TheVariants.{Requests}
-use Rattle.http_messages.specs.Within.Post.{IsFor, Says}
 use Rattle.http_messages.specs.Asked.{AsksBody, AsksAfter, cut_short, lines_of, no_command, command, sent}
+use Rattle.http_messages.specs.{CommandValue.command_data, declared.asked.Asked.Asked, declared.asking.Asking.Asking}
+use Rattle.http_messages.specs.{declared.route.Route.TheVariants.Requests, Within.Post.IsFor, Within.Post.Says}
+use Rattle.httparse.specs.Grammar.{RequestHead}
+use Rattle.http_messages.specs.declared.asking.Post as post
 use Rattle.http_messages.specs.Asked as rule
 
 one_value : (v w : Data) → Some v ≡ Some w → v ≡ w

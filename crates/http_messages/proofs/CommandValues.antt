@@ -1,25 +1,52 @@
--- Two commands with one JSON value are the same.
-use Rattle.std.proofs.Common.{◌≡◌, ℕ, Option, None, Some, refl, sym, ap, ◌∙◌}
-use Rattle.std.specs.Prelude.{codes, decimal}
-use Rattle.serde_json.specs.Data.{Data, Members, number, object, string, unsigned}
+-- The members of an object, one after the other, and what holds of a reader that gives none.
+use Rattle.std.proofs.Common.{◌≡◌, List, ℕ, Option, None, Some, IfNone, IfSome, refl, sym, ap, ◌∙◌}
+use Rattle.std.specs.{Option.MatchOption, Prelude.codes, Prelude.decimal}
+use Rattle.serde_json.specs.Data.{Data, number, string, object, Members, member, unsigned}
 use Rattle.serde_json.specs.Find.{get}
-use Rattle.lifecycle_core.specs.declared.reason.Reason.{Reason}
-use Rattle.lifecycle_core.specs.Reason.{reason_code}
-use Rattle.period_core.specs.declared.key_type.KeyType.{KeyType}
-use Rattle.period_core.specs.KeyType.{key_type_text}
-use Rattle.period_core.specs.Period.{Period, of_months}
+use Rattle.lifecycle_core.specs.{declared.reason.Reason.Reason, Reason.reason_code}
+use Rattle.period_core.specs.{declared.key_type.KeyType.KeyType, KeyType.key_type_text, Period.Period, Period.of_months}
 use Rattle.register_requests.specs.CommandKind.{kind_of, command_shape}
 use Rattle.register_requests.specs.declared.command_fields.CommandKind.{CommandKind}
-use Rattle.register_requests.specs.declared.request.Command.{Command}
-use Rattle.register_requests.specs.declared.command_fields.Fields.{Fields}
 use Rattle.register_requests.specs.declared.command_fields.Fields.TheVariants.{Nothing, TypeAndPeriod, Registration}
 use Rattle.register_requests.specs.declared.command_fields.Fields.TheVariants.{DateEdits, Revocation}
-use Rattle.register_requests.specs.Fields.{fields_of, shape_of}
-use Rattle.register_requests.specs.declared.request.Edit.{Edit}
 use Rattle.register_requests.specs.declared.request.Edit.TheVariants.{Keep, Clear, Set}
-use Rattle.register_requests.proofs.Commands.{has_shape, same_command}
+use Rattle.register_requests.specs.{declared.request.Command.Command, declared.command_fields.Fields.Fields}
+use Rattle.register_requests.specs.{Fields.fields_of, Fields.shape_of, declared.request.Edit.Edit}
+use Rattle.register_requests.proofs.Commands.{has_shape, one_registration, same_command}
 use Rattle.register_requests.proofs.FieldTexts.{command_kinds, key_types, reasons, one_text}
 use Rattle.http_messages.specs.CommandValue.{command_data, fields_members, kind_data, date_data, edit_data}
+
+infixl 10 ◌past◌
+-- what is left past the first
+pub ◌past◌ : {k : List ℕ} {a b : Data} {all rest more : Members} → all ≡ member k b more
+    → all ≡ member k a rest → rest ≡ more
+whole past first = cc (first, whole)
+
+infixr 10 ◌before◌
+-- the first, before what is known to stand after it
+pub ◌before◌ : {k : List ℕ} {a : Data} {all rest more : Members} → all ≡ member k a rest → rest ≡ more
+    → all ≡ member k a more
+first before others = cc (first, others)
+
+pub if_none : {A : Type 0} (o : Option A) (P : Type 0) → P → IfNone o P
+if_none None P p = p
+if_none (Some x) P p = tt
+
+-- what follows from what is said of the one case or the other
+pub some_by : {A : Type 0} (P : Type 0) (Q R : A → Type 0) (o : Option A) → MatchOption o P Q → ((x : A) → Q x → R x)
+    → IfSome o R
+some_by P Q R None says follows = tt
+some_by P Q R (Some x) says follows = follows x says
+
+pub none_by : {A : Type 0} (P R : Type 0) (Q : A → Type 0) (o : Option A) → MatchOption o P Q → (P → R) → IfNone o R
+none_by P R Q None says follows = follows says
+none_by P R Q (Some x) says follows = tt
+
+pub none_then : {A : Type 0} (o : Option A) (P Q : Type 0) → (P → Q) → IfNone o P → IfNone o Q
+none_then None P Q f p = f p
+none_then (Some x) P Q f p = tt
+
+-- ---- Two commands with one JSON value are the same.
 
 -- ---- the kind of a value
 
@@ -88,14 +115,8 @@ same_members kind (Registration new) (Registration other) same e =
     let protect_stops = one_date new.protect_stop other.protect_stop cc in
     let deactivations = one_date new.deactivation other.deactivation cc in
     let purposes : new.purpose ≡ other.purpose = cc in
-    λ i. Registration (record {
-      kind = types i;
-      owner = owners i;
-      activation = activations i;
-      protect_stop = protect_stops i;
-      deactivation = deactivations i;
-      purpose = purposes i;
-    })
+    ap (λ r. Registration r)
+    (one_registration new other types owners activations protect_stops deactivations purposes)
 same_members kind (DateEdits key a p d) (DateEdits other a2 p2 d2) same e =
     let activations = one_edit a a2 cc in
     let protect_stops = one_edit p p2 cc in

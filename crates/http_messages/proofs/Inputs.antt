@@ -1,23 +1,20 @@
 -- What was found in the bytes that were read is so of the whole input.
 use Rattle.std.proofs.Common.{◌≡◌, ℕ, ◌+◌, ◌-◌, ◌≤◌, inl, inr, List, ◌++◌, length, take, drop, Option, Some, None, refl}
 use Rattle.std.proofs.Common.{sym, ap, subst, ◌∙◌, arith, append_assoc, length-append, length-take, Result, Ok}
-use Rattle.std.specs.Prelude.{IfOk, IsSomeAnd}
-use Rattle.std.specs.Io.KnownBytes.{Consumes}
 use Rattle.std.proofs.Math.Seq.{take-append-add}
 use Rattle.std.proofs.lemmas.List.{append-nil, length-map}
-use Rattle.httparse.specs.declared.spans.HeaderSpan.{HeaderSpan}
-use Rattle.httparse.specs.declared.spans.RequestSpans.{RequestSpans}
+use Rattle.std.proofs.lemmas.Result.{IfOk-weaker}
+use Rattle.std.specs.{Prelude.IfOk, Prelude.IsSomeAnd, Io.KnownBytes.Consumes}
 use Rattle.httparse.specs.Grammar.{RequestHead, ReadsRequest, HasNoRequest, NeverHasRequest, MayBecomeRequest}
 use Rattle.httparse.specs.Spans.{IsRequestAt, IsRequestWithin, header_bytes, name_and_value}
+use Rattle.httparse.specs.{declared.spans.HeaderSpan.HeaderSpan, declared.spans.RequestSpans.RequestSpans}
 use Rattle.httparse.proofs.GrammarLemmas.{ReadsRequest-append}
 use Rattle.http_messages.specs.Head.{prefix, max_head_length, max_headers, HasManyLines, HasHead, HasBadHead}
 use Rattle.http_messages.specs.Head.{HasLargeHead, BreaksOff}
 use Rattle.http_messages.specs.HeadSearch.{FindsBad, FindsLarge, FindsHead}
-use Rattle.std.proofs.lemmas.Result.{IfOk-weaker}
 use Rattle.http_messages.specs.declared.asked.AskFault.{AskFault}
-use Rattle.http_messages.specs.declared.asked.Asked.{Asked}
-use Rattle.http_messages.specs.declared.asking.Asking.{Asking}
 use Rattle.http_messages.specs.Asked.{Asks, AsksFor, AsksAfter, whole_head}
+use Rattle.http_messages.specs.{declared.asked.Asked.Asked, declared.asking.Asking.Asking}
 use Rattle.http_messages.proofs.Answering.{left_is, left_at_end}
 
 never_more : (bytes more : List ℕ) → NeverHasRequest bytes → NeverHasRequest (bytes ++ more)

@@ -1,11 +1,9 @@
 pub mod Prefixes
 pub mod Routing
 pub mod Lines
-pub mod HeadChecked
 pub mod Answering
 pub mod Inputs
 pub mod HeadLaws
-pub mod InOrder
 pub mod NoFloats
 pub mod CommandValues
 pub mod OneAnswer

@@ -1,17 +1,12 @@
 -- The values of one line more.
-use Rattle.std.proofs.Common.{◌≡◌, ℕ, ◌+◌, ◌<◌, List, [], ◌∷◌, ◌++◌, Bool, true, false, cond, map}
-use Rattle.std.proofs.Common.{length, take, get_or, refl, ap, ◌∙◌}
+use Rattle.std.proofs.Common.{◌≡◌, ℕ, ◌+◌, ◌<◌, List, [], ◌∷◌, ◌++◌, Bool, true, false, cond, map, length, take, get_or}
+use Rattle.std.proofs.Common.{refl, ap, ◌∙◌}
 use Rattle.std.proofs.lemmas.List.{take_more, map-append, append-nil}
-use Rattle.httparse.specs.declared.spans.HeaderSpan.{HeaderSpan}
-use Rattle.httparse.specs.Spans.{header_bytes}
+use Rattle.httparse.specs.{declared.spans.HeaderSpan.HeaderSpan, Spans.header_bytes}
 use Rattle.http_messages.specs.HeaderFields.{HeaderLines, is_named, values_of}
 
 abbrev one_value : Bool → List ℕ → List (List ℕ)
 one_value v value = cond v (value ∷ []) []
-
-split_cond : (v : Bool) (x : List ℕ) (xs : List (List ℕ)) → cond v (x ∷ xs) xs ≡ one_value v x ++ xs
-split_cond true x xs = refl
-split_cond false x xs = refl
 
 prefix_cond : (v : Bool) (x : List ℕ) (xs ys : List (List ℕ))
     → cond v (x ∷ (xs ++ ys)) (xs ++ ys) ≡ cond v (x ∷ xs) xs ++ ys

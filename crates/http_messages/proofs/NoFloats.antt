@@ -3,8 +3,7 @@ use Rattle.std.proofs.Common.{◌≡◌, Bool, false, ℕ, List, [], ◌∷◌, 
 use Rattle.std.specs.Prelude.{◌||◌}
 use Rattle.serde_json.specs.Written.{has_float}
 use Rattle.key_rows.specs.declared.record.Record.{Record}
-use Rattle.http_messages.specs.CommandValue.{date_data}
-use Rattle.http_messages.specs.AnswerValue.{names_data, key_data}
+use Rattle.http_messages.specs.{CommandValue.date_data, AnswerValue.names_data, AnswerValue.key_data}
 
 pub dates_have_none : (date : Option ℕ) → has_float (date_data date) ≡ false
 dates_have_none None = refl

@@ -1,28 +1,22 @@
 -- The definition allows one answer to an input, but in the place that is left open.
 use Rattle.std.proofs.Common.{◌≡◌, ℕ, ◌<◌, ◌≤◌, ◌^◌, ◌⊎◌, inl, inr, List, [], ◌∷◌, ◌++◌, take, Some, refl, sym, ap}
 use Rattle.std.proofs.Common.{subst, ◌∙◌, arith, codes}
-use Rattle.std.specs.Prelude.{decimal}
-use Rattle.std.specs.Str.Parse.{digits_value}
 use Rattle.std.proofs.lemmas.List.{append_cancel_left, append_cancel_right}
 use Rattle.std.proofs.lemmas.Fmt.{decimal_injective}
+use Rattle.std.specs.{Prelude.decimal, Str.Parse.digits_value}
 use Rattle.httparse.specs.Grammar.{RequestHead}
-use Rattle.matchit.specs.Seek.{first}
-use Rattle.matchit.specs.Router.{RouteOf}
+use Rattle.matchit.specs.{Seek.first, Router.RouteOf}
 use Rattle.http_messages.specs.declared.route.RoutePattern.{RoutePattern}
-use Rattle.http_messages.specs.declared.route.Route.{Route}
 use Rattle.http_messages.specs.declared.route.Route.TheVariants.{Requests, Show, Usage}
-use Rattle.register_requests.specs.declared.request.Command.{Command}
-use Rattle.http_messages.specs.declared.asked.Asked.{Asked}
 use Rattle.http_messages.specs.declared.asked.Asked.TheVariants.{Reject, Apply}
 use Rattle.http_messages.specs.declared.asked.Rejection.TheVariants.{MethodNotAllowed}
-use Rattle.http_messages.specs.HeadLaws.{IsLeftOpen}
 use Rattle.http_messages.specs.Route.{IsRoute, IsRouteOf, route_text, method_of, routes}
-use Rattle.http_messages.specs.Within.Route.{pattern_of}
-use Rattle.http_messages.specs.CommandBody.{IsBodyOf}
-use Rattle.http_messages.specs.HeaderFields.{HeaderLines}
 use Rattle.http_messages.specs.Asked.{Announces, IsFrom, Asks, AsksAfter, AsksPost, AsksBody, bad_head, large_head}
 use Rattle.http_messages.specs.Asked.{whole_head, no_host, no_path, no_method, show, usage, post, encoded, no_length}
 use Rattle.http_messages.specs.Asked.{bad_length, large_body, no_sender, sent, cut_short, no_command, command, lines_of}
+use Rattle.http_messages.specs.{declared.route.Route.Route, declared.asked.Asked.Asked, HeadLaws.IsLeftOpen}
+use Rattle.http_messages.specs.{Within.Route.pattern_of, CommandBody.IsBodyOf, HeaderFields.HeaderLines}
+use Rattle.register_requests.specs.declared.request.Command.{Command}
 use Rattle.http_messages.proofs.CommandValues.{one_command_data}
 use Rattle.http_messages.proofs.Routing.{finds_route, value_is, row_of, fits_number}
 use Rattle.http_messages.proofs.HeadLaws.{one_head, whole_not_bad, whole_not_large}
@@ -147,9 +141,6 @@ module _ (lines : HeaderLines) (rest : List ℕ) where
 -- ---- heads
 
 module _ (h : RequestHead) (rest : List ℕ) where
-  other_route : (r s : Route) (P : Type 0) → IsRouteOf h.target (Some r) → IsRouteOf h.target (Some s) → (r ≡ s → ⊥) → P
-  other_route r s P p q ne = absurd (ne (same_route h.target r s p q))
-
   same_after : (a b : Asked) → AsksAfter h rest a → AsksAfter h rest b → a ≡ b
   same_after a b (no_host p) (no_host q) = refl
   same_after a b (no_host p) (no_path q u) = absurd (p q)

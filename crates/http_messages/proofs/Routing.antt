@@ -2,24 +2,20 @@
 use Rattle.std.proofs.Common.{◌≡◌, ℕ, zero, suc, ◌+◌, ◌-◌, ◌<◌, ◌≤◌, ◌^◌, List, [], ◌∷◌, ◌++◌, Bool, true, false, cond}
 use Rattle.std.proofs.Common.{◌&&◌, length, take, drop, Option, Some, None, refl, sym, ap, ◌∙◌, arith, codes}
 use Rattle.std.proofs.Common.{length-append, take-append-drop, ◌/◌, ◌%◌, lit<}
-use Rattle.std.specs.Prelude.{◌==◌, ◌≢◌, decimal, ltb, nat_eq, IfNone, IfSome, IsUtf8}
-use Rattle.std.specs.List.{AllByRecursion}
-use Rattle.std.specs.Str.{bytes_eq}
 use Rattle.std.proofs.lemmas.Slice.Eq.{bytes_eq-Decides}
 use Rattle.std.proofs.lemmas.Str.{IsUtf8-append, IsUtf8-from_ascii}
-use Rattle.std.specs.Cmp.Lexicographic.{pointwise}
 use Rattle.std.proofs.lemmas.List.{drop_at, take_at, append-nil}
 use Rattle.std.proofs.lemmas.Fmt.{decimal_by_steps, IsAscii-decimal}
-use Rattle.matchit.specs.Rows.{RowsOf}
-use Rattle.matchit.specs.Router.{RouteOf}
+use Rattle.std.specs.Prelude.{◌==◌, decimal, ltb, nat_eq, IsUtf8}
+use Rattle.std.specs.{List.AllByRecursion, Str.bytes_eq, Cmp.Lexicographic.pointwise}
 use Rattle.matchit.specs.Seek.{first, seek, step, own, or_else, param_step, longest_suffix, segment, has_slash, cuts}
 use Rattle.matchit.specs.Seek.{better, with_suffix}
-use Rattle.http_messages.specs.declared.route.Route.{Route}
+use Rattle.matchit.specs.{Rows.RowsOf, Router.RouteOf}
 use Rattle.http_messages.specs.declared.route.Route.TheVariants.{Requests, Show, Usage}
 use Rattle.http_messages.specs.declared.route.RoutePattern.{RoutePattern}
-use Rattle.register_requests.specs.Request.{IsKeyNumber}
 use Rattle.http_messages.specs.Route.{IsRoute, route_text, routes, key_route, usage_row, requests_row}
-use Rattle.http_messages.specs.Within.Route.{pattern_of}
+use Rattle.http_messages.specs.{declared.route.Route.Route, Within.Route.pattern_of}
+use Rattle.register_requests.specs.Request.{IsKeyNumber}
 
 abbrev pub IsDigit : ℕ → Type 0
 IsDigit b = (48 ≤ b) × (b < 58)

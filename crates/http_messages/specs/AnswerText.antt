@@ -1,8 +1,7 @@
 -- The replies with which the register answers, as JSON. The statuses are RFC 9110's, section 15;
 -- which refusal has which is this register's own.
 use Rattle.std.specs.Prelude.{ℕ, None, Result, Ok, Err}
-use Rattle.serde_json.specs.Data.{Data}
-use Rattle.serde_json.specs.Written.{compact_text}
+use Rattle.serde_json.specs.{Data.Data, Written.compact_text}
 use Rattle.lifecycle_core.specs.declared.usage_types.Usage.{Usage}
 use Rattle.register_core.specs.declared.reply.Reply as core
 use Rattle.register_core.specs.declared.reply.Refusal.{Refusal}

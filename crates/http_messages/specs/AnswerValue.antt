@@ -1,15 +1,12 @@
 -- The JSON values of what is answered, each member in the order of their names' bytes.
 use Rattle.std.specs.Prelude.{ℕ, List, [], ◌∷◌, map, codes, Option, Some, None}
-use Rattle.lifecycle_core.specs.declared.state.State.{State}
 use Rattle.lifecycle_core.specs.declared.usage_types.Usage.{Usage}
-use Rattle.lifecycle_core.specs.State.{state_text}
-use Rattle.lifecycle_core.specs.Usage.{process_text}
+use Rattle.lifecycle_core.specs.{declared.state.State.State, State.state_text, Usage.process_text}
 use Rattle.period_core.specs.KeyType.{key_type_text}
-use Rattle.register_core.specs.declared.reply.Reply.{Reply}
-use Rattle.register_core.specs.declared.reply.Refusal.{Refusal}
-use Rattle.register_core.specs.declared.reply.Refusal.TheVariants.{MomentBehind, WrongState}
-use Rattle.register_core.specs.declared.reply.Refusal.TheVariants.{PeriodTooLong, ApprovalsMissing}
+use Rattle.register_core.specs.declared.reply.Refusal.TheVariants.{MomentBehind, WrongState, PeriodTooLong}
+use Rattle.register_core.specs.declared.reply.Refusal.TheVariants.{ApprovalsMissing}
 use Rattle.register_core.specs.Reply.{refusal_name, refusal_number}
+use Rattle.register_core.specs.{declared.reply.Reply.Reply, declared.reply.Refusal.Refusal}
 use Rattle.key_rows.specs.declared.record.Record.{Record}
 use Rattle.serde_json.specs.Data.{Data, null, boolean, string, array, object}
 use Rattle.serde_json.specs.View.{items_of}

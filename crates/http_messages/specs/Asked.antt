@@ -2,21 +2,15 @@
 -- and of no step in which it is read.
 use Rattle.std.specs.Prelude.{◌≡◌, ◌≢◌, ℕ, ◌<◌, ◌≤◌, List, [], ◌∷◌, length, take, map, codes, decimal, Option, Some}
 use Rattle.std.specs.Prelude.{None}
-use Rattle.httparse.specs.Grammar.{RequestHead}
-use Rattle.httparse.specs.Spans.{name_and_value}
-use Rattle.http_messages.specs.Head.{HasHead, HasBadHead, HasLargeHead}
-use Rattle.http_messages.specs.Route.{IsRouteOf, method_of}
-use Rattle.register_requests.specs.Name.{IsName}
-use Rattle.register_requests.specs.Number.{IsNumber}
+use Rattle.httparse.specs.{Grammar.RequestHead, Spans.name_and_value}
 use Rattle.http_messages.specs.HeaderFields.{HeaderLines, values_of, IsLength}
-use Rattle.http_messages.specs.CommandBody.{IsBodyOf}
-use Rattle.http_messages.specs.declared.asked.Asked.{Asked}
 use Rattle.http_messages.specs.declared.asked.Asked.TheVariants.{Reject, ShowKey, ShowUsage, Apply}
 use Rattle.http_messages.specs.declared.asked.Rejection.TheVariants.{BadRequest, NoRoute, MethodNotAllowed}
 use Rattle.http_messages.specs.declared.asked.Rejection.TheVariants.{LengthRequired, TooLarge}
-use Rattle.http_messages.specs.declared.route.Route.{Route}
 use Rattle.http_messages.specs.declared.route.Route.TheVariants.{Requests, Show, Usage}
-use Rattle.register_requests.specs.declared.request.Command.{Command}
+use Rattle.http_messages.specs.{Head.HasHead, Head.HasBadHead, Head.HasLargeHead, Route.IsRouteOf, Route.method_of}
+use Rattle.http_messages.specs.{CommandBody.IsBodyOf, declared.asked.Asked.Asked, declared.route.Route.Route}
+use Rattle.register_requests.specs.{Name.IsName, Number.IsNumber, declared.request.Command.Command}
 
 -- the names and the values of a head's header lines
 abbrev pub lines_of : RequestHead → HeaderLines

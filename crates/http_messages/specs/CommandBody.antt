@@ -1,14 +1,9 @@
 -- Which command a body is, and the ranges of what is sent.
 use Rattle.std.specs.Prelude.{◌≡◌, ℕ, List, Some, IsUtf8}
 use Rattle.serde_json.specs.Read.{read}
-use Rattle.register_requests.specs.declared.request.Command.{Command}
-use Rattle.register_requests.specs.Name.{IsName}
-use Rattle.register_requests.specs.Number.{IsNumber}
-use Rattle.register_requests.specs.Request.{IsCommand}
-use Rattle.http_messages.specs.declared.asked.Asked.{Asked}
+use Rattle.register_requests.specs.{declared.request.Command.Command, Name.IsName, Number.IsNumber, Request.IsCommand}
 use Rattle.http_messages.specs.declared.asked.Asked.TheVariants.{Reject, ShowKey, ShowUsage, Apply}
-use Rattle.http_messages.specs.declared.asked.Sent.{Sent}
-use Rattle.http_messages.specs.CommandValue.{command_data}
+use Rattle.http_messages.specs.{declared.asked.Asked.Asked, declared.asked.Sent.Sent, CommandValue.command_data}
 
 -- the body is JSON, and its value is the command's
 pub record IsBodyOf (body : List ℕ) (c : Command) : Type 0 where

@@ -1,8 +1,7 @@
 -- What comes of reading an input, and of reading a body.
 use Rattle.std.specs.Prelude.{◌≡◌, ℕ, Bool, true, false, List, length, Option, Result, Err}
 use Rattle.std.specs.Io.KnownBytes.{Consumes}
-use Rattle.http_messages.specs.declared.asked.AskFault.{AskFault}
-use Rattle.http_messages.specs.declared.asked.AskFault.TheVariants.{ReadFault}
+use Rattle.http_messages.specs.{declared.asked.AskFault.AskFault, declared.asked.AskFault.TheVariants.ReadFault}
 
 -- so many bytes were read
 abbrev pub HasRead : Option (List ℕ) → Option (List ℕ) → ℕ → Type 0

@@ -1,9 +1,8 @@
 -- That the definition of the exchange tells a whole head from none, and where it leaves 400 and 413 open.
 use Rattle.std.specs.Prelude.{◌≡◌, ℕ, ◌⊎◌, List}
 use Rattle.httparse.specs.Grammar.{RequestHead, EndsInTarget}
-use Rattle.http_messages.specs.declared.asked.Asked.{Asked}
-use Rattle.http_messages.specs.Asked.{Asks}
 use Rattle.http_messages.specs.Head.{prefix, HasHead, HasBadHead, HasLargeHead, HasManyLines}
+use Rattle.http_messages.specs.{declared.asked.Asked.Asked, Asked.Asks}
 
 -- An input has one whole head at most, and where it has one its head is neither bad nor too large. A head is both only
 -- where the bytes that are looked at end within the target, or have too many header lines.

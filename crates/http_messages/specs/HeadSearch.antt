@@ -1,13 +1,11 @@
 -- What a look for a head finds in the bytes that were read.
 use Rattle.std.specs.Prelude.{◌≡◌, ℕ, ◌<◌, ◌⊎◌, List, [], length, Option}
 use Rattle.std.specs.Io.KnownBytes.{IsAtEnd}
-use Rattle.httparse.specs.declared.spans.HeaderSpan.{HeaderSpan}
-use Rattle.httparse.specs.declared.spans.RequestSpans.{RequestSpans}
 use Rattle.httparse.specs.Grammar.{RequestHead, HasNoRequest, NeverHasRequest, MayBecomeRequest}
 use Rattle.httparse.specs.Spans.{IsRequestAt, IsRequestWithin}
-use Rattle.http_messages.specs.Head.{max_head_length, HasManyLines}
-use Rattle.http_messages.specs.declared.head.HeadSearch.{HeadSearch}
+use Rattle.httparse.specs.{declared.spans.HeaderSpan.HeaderSpan, declared.spans.RequestSpans.RequestSpans}
 use Rattle.http_messages.specs.declared.head.HeadSearch.TheVariants.{Whole, Nothing, Bad, TooLarge}
+use Rattle.http_messages.specs.{Head.max_head_length, Head.HasManyLines, declared.head.HeadSearch.HeadSearch}
 
 -- the bytes read begin with the head h, and the spans are its parts
 pub record FindsHead (bytes : List ℕ) (headers : List HeaderSpan) (spans : RequestSpans) : Type 0 where

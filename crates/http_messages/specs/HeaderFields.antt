@@ -1,11 +1,8 @@
 -- The header lines of a name, without regard to case, and what their values say.
 use Rattle.std.specs.Prelude.{◌≡◌, ℕ, ◌<◌, ◌≤◌, List, [], ◌∷◌, length, map, Bool, codes, if◌then◌else◌}
-use Rattle.std.specs.Str.{bytes_eq}
-use Rattle.std.specs.Str.Parse.{digits_value}
-use Rattle.std.specs.Char.{to_ascii_lowercase, is_ascii_digit}
+use Rattle.std.specs.{Str.bytes_eq, Str.Parse.digits_value, Char.to_ascii_lowercase, Char.is_ascii_digit}
 use Rattle.httparse.specs.Grammar.{AllPass}
-use Rattle.http_messages.specs.declared.header_fields.HeaderFields.{HeaderFields}
-use Rattle.http_messages.specs.declared.header_fields.Values.{Values}
+use Rattle.http_messages.specs.{declared.header_fields.HeaderFields.HeaderFields, declared.header_fields.Values.Values}
 use Rattle.http_messages.specs.declared.header_fields.Values.TheVariants as found
 
 -- the names and the values of header lines

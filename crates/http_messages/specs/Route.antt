@@ -1,11 +1,9 @@
 -- The routes, by the text of each.
 use Rattle.std.specs.Prelude.{◌≡◌, ◌≢◌, ℕ, List, [], ◌∷◌, ◌++◌, Option, Some, None, codes, decimal}
-use Rattle.matchit.specs.Rows.{RowsOf}
-use Rattle.matchit.specs.Router.{RouteOf}
+use Rattle.matchit.specs.{Rows.RowsOf, Router.RouteOf}
 use Rattle.register_requests.specs.Request.{IsKeyNumber}
-use Rattle.http_messages.specs.declared.route.Route.{Route}
 use Rattle.http_messages.specs.declared.route.Route.TheVariants.{Requests, Show, Usage}
-use Rattle.http_messages.specs.declared.route.RoutePattern.{RoutePattern}
+use Rattle.http_messages.specs.{declared.route.Route.Route, declared.route.RoutePattern.RoutePattern}
 use Rattle.http_messages.specs.declared.route.RoutePattern.TheVariants as kept
 
 -- the target that a route is spelled by

@@ -3,22 +3,19 @@ ghost use Rattle.std.specs.Prelude.{◌≡◌, ◌≢◌, ◌<◌, ◌≤◌, �
 ghost use Rattle.std.specs.Prelude.{IfErr, OnOk, IfSome, IfNone, ◌↔◌, ◌+◌, [], map, min, take};
 ghost use Rattle.std.specs.Prelude.{drop, Ok, Err, IsSomeAnd};
 ghost use Rattle.std.specs.Io.KnownBytes.{Consumes, IsAtEnd};
-ghost use Rattle.serde_json.specs.Data.{Data};
-ghost use Rattle.serde_json.specs.Read.{read};
-ghost use Rattle.serde_json.specs.View.{view};
+ghost use Rattle.serde_json.specs.{Data.Data, Read.read, View.view};
 ghost use Rattle.streams.specs.Watched.{IsFaulted};
 ghost use Rattle.http_messages.specs.Content.{HasRead, TellsFault};
 ghost use Rattle.http_messages.specs.Within.Content.{GetsBody, ReadsInput};
 ghost use Rattle.http_messages.specs.declared.head.TheConstants.{MAX_EXCHANGE_READS};
-ghost use Rattle.httparse.specs.Grammar.{RequestHead};
-ghost use Rattle.httparse.specs.Spans.{IsRequestAt, IsRequestWithin, header_bytes};
-ghost use Rattle.http_messages.specs.CommandBody.{IsAskedInRange};
 ghost use Rattle.http_messages.specs.Asked.{AsksFor, AsksBody, AsksAfter, AsksPost, HasHost};
 ghost use Rattle.http_messages.specs.Asked.{IsFrom, max_body_length};
 ghost use Rattle.http_messages.specs.HeaderFields.{AreGathered, IsLength, HeaderLines};
 ghost use Rattle.http_messages.specs.Within.Post.{IsFor, Says};
 ghost use Rattle.http_messages.specs.declared.asked.Asked.TheVariants.{Reject};
-ghost use Rattle.http_messages.specs.Route.{routes};
+ghost use Rattle.http_messages.specs.{CommandBody.IsAskedInRange, Route.routes};
+ghost use Rattle.httparse.specs.Grammar.{RequestHead};
+ghost use Rattle.httparse.specs.Spans.{IsRequestAt, IsRequestWithin, header_bytes};
 
 use crate::asked::{AskFault, Asked, Rejection, Sent};
 use crate::command_value::command_of;

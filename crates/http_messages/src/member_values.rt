@@ -1,19 +1,14 @@
 //! What the value of a member of a JSON object stands for.
-ghost use Rattle.std.specs.Prelude.{◌≡◌, ◌≢◌, ◌↔◌, ◌<◌, ◌^◌, ℕ, List};
-ghost use Rattle.std.specs.Prelude.{Option, IsTrue, IfSome, IfNone};
-ghost use Rattle.serde_json.specs.Data.{string};
-ghost use Rattle.serde_json.specs.View.{view};
+ghost use Rattle.std.specs.Prelude.{◌≡◌, ◌≢◌, ◌↔◌, ◌<◌, ◌^◌, ℕ, List, Option, IsTrue, IfSome};
+ghost use Rattle.std.specs.Prelude.{IfNone};
+ghost use Rattle.serde_json.specs.{Data.string, View.view};
 ghost use Rattle.moment_core.specs.Moment.{IsMoment};
-ghost use Rattle.lifecycle_core.specs.declared.reason.Reason.{Reason};
-ghost use Rattle.lifecycle_core.specs.Reason.{reason_code};
-ghost use Rattle.period_core.specs.Period.{Period, IsPeriod};
+ghost use Rattle.lifecycle_core.specs.{declared.reason.Reason.Reason, Reason.reason_code};
 ghost use Rattle.period_core.specs.declared.key_type.KeyType.{KeyType};
-ghost use Rattle.period_core.specs.KeyType.{key_type_text};
-ghost use Rattle.register_requests.specs.Name.{IsName};
-ghost use Rattle.register_requests.specs.Purpose.{IsPurpose};
-ghost use Rattle.register_requests.specs.Quorum.{IsQuorum};
+ghost use Rattle.period_core.specs.{Period.Period, Period.IsPeriod, KeyType.key_type_text};
 ghost use Rattle.register_requests.specs.Request.{IsDate, IsEdit, IsKeyNumber};
 ghost use Rattle.register_requests.specs.declared.request.Edit.{Edit};
+ghost use Rattle.register_requests.specs.{Name.IsName, Purpose.IsPurpose, Quorum.IsQuorum};
 ghost use Rattle.http_messages.specs.CommandValue.{number_data, date_data, edit_data};
 
 use lifecycle_core::Reason;

@@ -1,14 +1,8 @@
 //! The texts of replies, and the JSON values in them.
 ghost use Rattle.std.specs.Prelude.{◌≡◌, ◌++◌, [], ◌∷◌, None, Some, IfOk, string_bytes, codes};
-ghost use Rattle.std.specs.Prelude.{length};
-ghost use Rattle.std.specs.Prelude.{false, Ok, Err, OnOk};
+ghost use Rattle.std.specs.Prelude.{length, false, Ok, Err, OnOk};
 ghost use Rattle.http.specs.StatusCode.{IsStatusCode};
 ghost use Rattle.register_core.specs.Answer.{outcome};
-ghost use Rattle.http_messages.specs.HttpReply.{reply_bytes};
-ghost use Rattle.http_messages.specs.Rejection.{reply_of};
-ghost use Rattle.serde_json.specs.Data.{string, object, put as with_member};
-ghost use Rattle.serde_json.specs.View.{view, members_view};
-ghost use Rattle.serde_json.specs.Written.{has_float};
 ghost use Rattle.http_messages.specs.AnswerText.{json_reply, key_reply, outcome_reply};
 ghost use Rattle.http_messages.specs.AnswerText.{refusal_status, usage_reply};
 ghost use Rattle.http_messages.specs.AnswerValue.{state_data, reply_data, refusal_data, usage_data};
@@ -16,6 +10,9 @@ ghost use Rattle.http_messages.specs.AnswerValue.{names_data, key_data, name_mem
 ghost use Rattle.http_messages.specs.AnswerValue.{refused_member};
 ghost use Rattle.http_messages.specs.Within.AnswerValue.{date_members};
 ghost use Rattle.http_messages.specs.CommandValue.{date_data, members_of};
+ghost use Rattle.http_messages.specs.{HttpReply.reply_bytes, Rejection.reply_of};
+ghost use Rattle.serde_json.specs.Data.{string, object, put as with_member};
+ghost use Rattle.serde_json.specs.{View.view, View.members_view, Written.has_float};
 
 use crate::asked::Rejection;
 use http::StatusCode;

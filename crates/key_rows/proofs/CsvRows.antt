@@ -1,10 +1,10 @@
 -- The rows that csv's writer writes are those of an export.
 use Rattle.std.proofs.Common.{◌≡◌, ℕ, ◌<◌, Bool, true, false, List, [], ◌∷◌, ◌++◌, length, refl, ap, ◌∙◌, arith}
-use Rattle.std.specs.Prelude.{◌==◌, ◌||◌, nat_le, if◌then◌else◌, flat_map, map}
-use Rattle.std.specs.List.{list_any, list_all, join_with_byte, AllByRecursion}
 use Rattle.std.proofs.lemmas.Bool.{and_parts, eqb-true}
 use Rattle.std.proofs.lemmas.Bool.Decides.{nat_tests}
 use Rattle.std.proofs.lemmas.List.{append-nil}
+use Rattle.std.specs.Prelude.{◌==◌, ◌||◌, nat_le, if◌then◌else◌, flat_map, map}
+use Rattle.std.specs.List.{list_any, list_all, join_with_byte, AllByRecursion}
 use Rattle.csv.specs.Writing as kit
 use Rattle.csv.specs.Writing.{default_writer, escaped, fields_text, needs_byte}
 use Rattle.key_rows.specs.Export.{comma, quote, row_end, doubled, field_text, csv_row}

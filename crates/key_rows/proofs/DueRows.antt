@@ -1,13 +1,13 @@
 -- The rows that are due, gathered one after another, and the laws about them.
-use Rattle.std.proofs.Common.{◌≡◌, ◌≢◌, ◌⊎◌, inl, inr, ℕ, Bool, true, not, List, [], ◌∷◌, ◌++◌, length}
-use Rattle.std.proofs.Common.{refl, sym, ap, subst, ◌∙◌, arith, slice_index_or, append-nil, length-append}
-use Rattle.std.specs.Prelude.{filter}
-use Rattle.std.specs.List.{Contains}
-use Rattle.std.proofs.lemmas.List.Elements.{All-contains, All-contains_itself, All-filter, All-push, Contains-append_cases}
-use Rattle.std.proofs.lemmas.List.Elements.{Contains-append_left, Contains-push, Contains-push_cases, filter_passes}
+use Rattle.std.proofs.Common.{◌≡◌, ◌≢◌, ◌⊎◌, inl, inr, ℕ, Bool, true, not, List, [], ◌∷◌, ◌++◌, length, refl, sym, ap}
+use Rattle.std.proofs.Common.{subst, ◌∙◌, arith, slice_index_or, append-nil, length-append}
+use Rattle.std.proofs.lemmas.List.Elements.{All-contains, All-contains_itself, All-filter, All-push}
+use Rattle.std.proofs.lemmas.List.Elements.{Contains-append_cases, Contains-append_left, Contains-push}
+use Rattle.std.proofs.lemmas.List.Elements.{Contains-push_cases, filter_passes}
 use Rattle.std.proofs.lemmas.List.Kept.{AllPairs-filter}
 use Rattle.std.proofs.lemmas.List.Quantifiers.{all_pairs_push}
 use Rattle.std.proofs.lemmas.List.Sorted.{Contains-permutation, IsPermutation-filter_both, IsPermutation-sym}
+use Rattle.std.specs.{Prelude.filter, List.Contains}
 use Rattle.key_rows.specs.declared.key_row.KeyRow.{KeyRow}
 use Rattle.key_rows.specs.DueRows.{is_due, IsBefore, IsAfter, AreInOrder, AreDue, AreThose, AreFirstDue, HaveOwnNumbers}
 use Rattle.key_rows.proofs.DueOrder.{apart, begun, ordered}
@@ -94,14 +94,6 @@ fewer wide narrow all rows those p q within =
     stays_left narrow rows r (every wide all rows p r e.0 (within r e.0 e.1)) e.1)
 
 -- ---- one after another
-
--- none are the first
-pub none_first : (all : List KeyRow) (until : ℕ) → AreFirstDue all until []
-none_first all until = record {
-  in_order = λ i j d lt within. absurd (omega arith);
-  each = λ r (i, below, is). absurd (omega arith);
-  others = λ r there due. inr (λ i d below. absurd (omega arith));
-}
 
 -- With the next of them they are the first: it comes after all of them, and before each other that is due after them.
 pub next_first : (all : List KeyRow) (until : ℕ) (rows : List KeyRow) (r : KeyRow) → AreFirstDue all until rows

@@ -1,17 +1,14 @@
 -- What a hole with a width writes.
-use Rattle.std.proofs.Common.{◌≡◌, ℕ, zero, suc, ◌-◌, ◌^◌, Bool, true, false, List, [], ◌∷◌, ◌++◌}
-use Rattle.std.proofs.Common.{length, refl, ap, ◌∙◌, append_assoc, arith}
-use Rattle.std.specs.Prelude.{decimal, codes, if◌then◌else◌}
-use Rattle.std.specs.List.{repeat}
+use Rattle.std.proofs.Common.{◌≡◌, ℕ, zero, suc, ◌-◌, ◌^◌, Bool, true, false, List, [], ◌∷◌, ◌++◌, length, refl, ap}
+use Rattle.std.proofs.Common.{◌∙◌, append_assoc, arith}
 use Rattle.std.proofs.lemmas.List.{append-nil}
 use Rattle.std.specs.Fmt.{styled_decimal, styled_text, format_spec, padded_integral, padded, char_count, take_chars}
-use Rattle.period_core.specs.declared.key_type.KeyType.{KeyType}
-use Rattle.period_core.specs.KeyType.{key_type_text}
+use Rattle.std.specs.{Prelude.decimal, Prelude.codes, Prelude.if◌then◌else◌, List.repeat}
+use Rattle.period_core.specs.{declared.key_type.KeyType.KeyType, KeyType.key_type_text}
 use Rattle.period_core.proofs.Types.{of_each_type}
 use Rattle.lifecycle_core.specs.State.{is_reached_at}
-use Rattle.key_rows.specs.declared.key_row.KeyRow.{KeyRow}
-use Rattle.key_rows.specs.Export.{date_cell_text}
 use Rattle.key_rows.specs.Report.{left, right, spaces, report_mark, report_line}
+use Rattle.key_rows.specs.{declared.key_row.KeyRow.KeyRow, Export.date_cell_text}
 
 -- a hole that is filled up to a width, from the left or from the right
 abbrev to_left : ℕ → List ℕ → List ℕ

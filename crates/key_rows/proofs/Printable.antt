@@ -1,18 +1,15 @@
 -- The texts in an export and in a report have no control character.
 use Rattle.std.proofs.Common.{◌≡◌, ℕ, ◌+◌, ◌/◌, ◌%◌, ◌^◌, ◌<◌, Bool, true, List, [], ◌∷◌, ◌++◌, refl, ◌∙◌, arith}
-use Rattle.std.specs.Prelude.{nat_le, nat_lt, ◌&&◌, decimal, Option, None, Some}
-use Rattle.std.specs.List.{list_all}
-use Rattle.std.specs.Str.{IsAscii}
 use Rattle.std.proofs.lemmas.Bool.{and_parts, and_from}
 use Rattle.std.proofs.lemmas.Bool.Decides.{nat_tests}
 use Rattle.std.proofs.lemmas.List.Folds.{list_all-append}
 use Rattle.std.proofs.lemmas.Str.Ascii.{IsAscii-nil, IsAscii-cons}
 use Rattle.std.proofs.lemmas.Fmt.{decimal_by_steps}
+use Rattle.std.specs.Prelude.{nat_le, nat_lt, ◌&&◌, decimal, Option, None, Some}
+use Rattle.std.specs.{List.list_all, Str.IsAscii}
 use Rattle.moment_core.specs.MomentText.{moment_text}
-use Rattle.register_requests.specs.Name.{IsName, is_name_byte}
-use Rattle.register_requests.specs.Purpose.{IsPurpose, is_purpose_byte}
-use Rattle.key_rows.specs.Export.{date_cell_text}
-use Rattle.key_rows.specs.Within.Export.{IsPrintable}
+use Rattle.register_requests.specs.{Name.IsName, Name.is_name_byte, Purpose.IsPurpose, Purpose.is_purpose_byte}
+use Rattle.key_rows.specs.{Export.date_cell_text, Within.Export.IsPrintable}
 
 -- ---- all bytes of a text
 

@@ -1,23 +1,17 @@
 -- What csv's writer has of a row, field by field.
-use Rattle.std.proofs.Common.{◌≡◌, ◌≢◌, ℕ, ◌+◌, ◌-◌, ◌^◌, ◌<◌, Bool, true, false, List, [], ◌∷◌}
-use Rattle.std.proofs.Common.{◌++◌, length, min, refl, sym, ap, subst, ◌∙◌, arith, length-append}
-use Rattle.std.specs.Prelude.{◌||◌, ◌&&◌, not, if◌then◌else◌, Option, None, Some, Result, Ok, Err}
-use Rattle.std.specs.Prelude.{OnOk, IfOk, MatchResult, is_ok, Vec}
-use Rattle.std.specs.declared.alloc.Global.{Global}
-use Rattle.std.specs.Io.KnownBytes.{Appends}
-use Rattle.std.specs.List.{AllByRecursion}
+use Rattle.std.proofs.Common.{◌≡◌, ◌≢◌, ℕ, ◌+◌, ◌-◌, ◌^◌, ◌<◌, Bool, true, false, List, [], ◌∷◌, ◌++◌, length, min}
+use Rattle.std.proofs.Common.{refl, sym, ap, subst, ◌∙◌, arith, length-append}
 use Rattle.std.proofs.lemmas.Bool.{ne_eqb}
+use Rattle.std.specs.Prelude.{◌||◌, ◌&&◌, not, if◌then◌else◌, Option, None, Some, Result, Ok, Err, OnOk, IfOk}
+use Rattle.std.specs.Prelude.{MatchResult, is_ok, Vec}
+use Rattle.std.specs.{declared.alloc.Global.Global, Io.KnownBytes.Appends, List.AllByRecursion}
 use Rattle.csv.specs.Writing as kit
 use Rattle.csv.specs.Writing.{default_writer, writer_setup, fields_written, text_written, row_body, next_sep, tail_text}
+use Rattle.csv.specs.{declared.writer.Writer.Writer, declared.writer.WriterBuilder.WriterBuilder}
 use Rattle.csv.specs.declared.writer.QuoteStyle.TheVariants as style
-use Rattle.csv.specs.declared.writer.Writer.{Writer}
-use Rattle.csv.specs.declared.writer.WriterBuilder.{WriterBuilder}
 use Rattle.csv.proofs.WriteFacts.{row-more}
-use Rattle.key_rows.specs.declared.cell.Cell.{Cell}
-use Rattle.key_rows.specs.Within.Cell.{cell_text}
-use Rattle.key_rows.specs.Export.{row_end, csv_row}
-use Rattle.key_rows.specs.Within.Export.{IsPrintable}
-use Rattle.key_rows.specs.Within.RowWriter.{HasFields, written}
+use Rattle.key_rows.specs.{declared.cell.Cell.Cell, Within.Cell.cell_text, Export.row_end, Export.csv_row}
+use Rattle.key_rows.specs.{Within.Export.IsPrintable, Within.RowWriter.HasFields, Within.RowWriter.written}
 use Rattle.key_rows.proofs.CsvRows.{same_row}
 
 -- ---- results

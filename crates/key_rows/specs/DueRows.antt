@@ -2,11 +2,8 @@
 use Rattle.std.specs.Prelude.{◌≡◌, ◌≢◌, ◌⊎◌, ◌==◌, ◌&&◌, ◌||◌, ◌<◌, ℕ, Bool, true, List, All, Contains, filter}
 use Rattle.std.specs.Prelude.{IsPermutation, unwrap_or}
 use Rattle.std.specs.List.{AllPairs}
-use Rattle.lifecycle_core.specs.declared.state.State.TheVariants.{Active}
-use Rattle.lifecycle_core.specs.State.{is_reached_at, state_code}
-use Rattle.period_core.specs.declared.key_type.KeyType.{KeyType}
-use Rattle.period_core.specs.Fitting.{is_either_use_too_long}
-use Rattle.period_core.specs.Period.{Period}
+use Rattle.lifecycle_core.specs.{declared.state.State.TheVariants.Active, State.is_reached_at, State.state_code}
+use Rattle.period_core.specs.{declared.key_type.KeyType.KeyType, Fitting.is_either_use_too_long, Period.Period}
 use Rattle.key_rows.specs.declared.key_row.KeyRow.{KeyRow}
 
 -- the key is Active, and its Protect Stop Date is reached at this moment (SP 800-57 Part 1: a key

@@ -1,12 +1,11 @@
 -- The text of an export: a header, and one row for each key. Its form is this register's own;
 -- fields are quoted as RFC 4180 says.
-use Rattle.std.specs.Prelude.{ℕ, ◌==◌, ◌||◌, if◌then◌else◌, List, [], ◌∷◌, ◌++◌, map}
-use Rattle.std.specs.Prelude.{flat_map, codes, decimal, Option, None, Some}
+use Rattle.std.specs.Prelude.{ℕ, ◌==◌, ◌||◌, if◌then◌else◌, List, [], ◌∷◌, ◌++◌, map, flat_map, codes, decimal, Option}
+use Rattle.std.specs.Prelude.{None, Some}
 use Rattle.std.specs.List.{list_any, join_with_byte}
 use Rattle.moment_core.specs.MomentText.{moment_text}
 use Rattle.period_core.specs.KeyType.{key_type_text}
-use Rattle.lifecycle_core.specs.declared.dates.Dates.{Dates}
-use Rattle.lifecycle_core.specs.State.{state_text}
+use Rattle.lifecycle_core.specs.{declared.dates.Dates.Dates, State.state_text}
 use Rattle.key_rows.specs.declared.key_row.KeyRow.{KeyRow}
 
 -- ---- rows of fields

@@ -1,13 +1,10 @@
 -- The text of a report on the keys that are due for rotation. Its form is this register's own.
-use Rattle.std.specs.Prelude.{ℕ, ◌+◌, ◌-◌, ◌*◌, min, if◌then◌else◌, List, ◌++◌, length, replicate}
-use Rattle.std.specs.Prelude.{flat_map, codes, decimal}
-use Rattle.moment_core.specs.Calendar.{day_seconds}
-use Rattle.moment_core.specs.Moment.{last_second}
-use Rattle.moment_core.specs.MomentText.{moment_text}
+use Rattle.std.specs.Prelude.{ℕ, ◌+◌, ◌-◌, ◌*◌, min, if◌then◌else◌, List, ◌++◌, length, replicate, flat_map, codes}
+use Rattle.std.specs.Prelude.{decimal}
+use Rattle.moment_core.specs.{Calendar.day_seconds, Moment.last_second, MomentText.moment_text}
 use Rattle.period_core.specs.KeyType.{key_type_text}
 use Rattle.lifecycle_core.specs.State.{is_reached_at}
-use Rattle.key_rows.specs.declared.key_row.KeyRow.{KeyRow}
-use Rattle.key_rows.specs.Export.{date_cell_text}
+use Rattle.key_rows.specs.{declared.key_row.KeyRow.KeyRow, Export.date_cell_text}
 
 -- the last moment of a report for so many days from the latest moment on
 abbrev pub horizon : ℕ → ℕ → ℕ

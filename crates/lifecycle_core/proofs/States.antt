@@ -1,7 +1,7 @@
 -- The six states.
 use Rattle.lifecycle_core.specs.declared.state.State.{State}
-use Rattle.lifecycle_core.specs.declared.state.State.TheVariants.{PreActive, Active, Deactivated}
-use Rattle.lifecycle_core.specs.declared.state.State.TheVariants.{Compromised, Destroyed, DestroyedCompromised}
+use Rattle.lifecycle_core.specs.declared.state.State.TheVariants.{PreActive, Active, Deactivated, Compromised}
+use Rattle.lifecycle_core.specs.declared.state.State.TheVariants.{Destroyed, DestroyedCompromised}
 
 -- what holds of the six holds of each state
 pub of_each_state : (P : State → Type 0) → P PreActive → P Active → P Deactivated → P Compromised → P Destroyed

@@ -1,14 +1,12 @@
 -- Which pairs are transitions, by a check, and the paths along which time takes a key.
-use Rattle.std.specs.Prelude.{◌≡◌, ℕ, ◌≤◌, Bool, true, false, not, ◌&&◌, if◌then◌else◌, Option, Some, None, is_some}
-use Rattle.std.specs.Prelude.{[], ◌∷◌, refl}
+use Rattle.std.specs.Prelude.{◌≡◌, ℕ, ◌≤◌, Bool, true, false, not, ◌&&◌, if◌then◌else◌, Option, Some, None, is_some, []}
+use Rattle.std.specs.Prelude.{◌∷◌, refl}
 use Rattle.std.proofs.Common.{lit<, arith}
 use Rattle.std.proofs.lemmas.Bool.Decides.{nat_tests}
-use Rattle.lifecycle_core.specs.declared.state.State.{State}
 use Rattle.lifecycle_core.specs.declared.state.State.TheVariants.{PreActive, Active, Deactivated, Compromised}
 use Rattle.lifecycle_core.specs.declared.state.State.TheVariants.{Destroyed, DestroyedCompromised}
-use Rattle.lifecycle_core.specs.declared.dates.Dates.{Dates}
-use Rattle.lifecycle_core.specs.State.{state_at, is_reached_at}
-use Rattle.lifecycle_core.specs.Transition.{IsTransition, HasPath}
+use Rattle.lifecycle_core.specs.{declared.state.State.State, declared.dates.Dates.Dates, State.state_at}
+use Rattle.lifecycle_core.specs.{State.is_reached_at, Transition.IsTransition, Transition.HasPath}
 
 -- whether a pair is a transition
 abbrev pub is_transition : Option State → State → Bool

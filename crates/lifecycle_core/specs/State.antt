@@ -2,10 +2,9 @@
 -- the lines of this register's own.
 use Rattle.std.specs.Prelude.{ℕ, Bool, false, not, ◌&&◌, nat_le, List, codes, Option, None, Some, is_some}
 use Rattle.std.specs.Prelude.{if◌then◌else◌}
-use Rattle.lifecycle_core.specs.declared.state.State.{State}
 use Rattle.lifecycle_core.specs.declared.state.State.TheVariants.{PreActive, Active, Deactivated, Compromised}
 use Rattle.lifecycle_core.specs.declared.state.State.TheVariants.{Destroyed, DestroyedCompromised}
-use Rattle.lifecycle_core.specs.declared.dates.Dates.{Dates}
+use Rattle.lifecycle_core.specs.{declared.state.State.State, declared.dates.Dates.Dates}
 
 -- the value of a state in KMIP 1.2 (its State Enumeration), and its name
 abbrev pub state_row : State → ℕ × List ℕ

@@ -1,12 +1,9 @@
 -- What a key may be used for in its states: KMIP 1.2, State.
 use Rattle.std.specs.Prelude.{ℕ, Bool, true, false, ◌&&◌, nat_lt, List, codes, Option, None, Some}
-use Rattle.lifecycle_core.specs.declared.state.State.{State}
 use Rattle.lifecycle_core.specs.declared.state.State.TheVariants.{Active, Deactivated, Compromised}
-use Rattle.lifecycle_core.specs.declared.dates.Dates.{Dates}
-use Rattle.lifecycle_core.specs.declared.usage_types.Process.{Process}
 use Rattle.lifecycle_core.specs.declared.usage_types.Process.TheVariants.{Yes, Special, No}
-use Rattle.lifecycle_core.specs.declared.usage_types.Usage.{Usage}
-use Rattle.lifecycle_core.specs.State.{state_at}
+use Rattle.lifecycle_core.specs.{declared.state.State.State, declared.dates.Dates.Dates}
+use Rattle.lifecycle_core.specs.{declared.usage_types.Process.Process, declared.usage_types.Usage.Usage, State.state_at}
 
 -- the word for it
 abbrev pub process_text : Process → List ℕ

@@ -1,8 +1,7 @@
 //! Laws of the lifecycle.
 ghost use Rattle.std.specs.Prelude.{ℕ, ◌≤◌, Some};
 ghost use Rattle.lifecycle_core.specs.declared.dates.Dates.{Dates};
-ghost use Rattle.lifecycle_core.specs.State.{state_at};
-ghost use Rattle.lifecycle_core.specs.Transition.{HasPath};
+ghost use Rattle.lifecycle_core.specs.{State.state_at, Transition.HasPath};
 
 /// While a key's dates stay, time takes it along the standard's transitions only.
 pub fn time_follows_transitions()

@@ -1,7 +1,6 @@
 //! A key's row: its dates, and the state that is kept beside them.
 ghost use Rattle.std.specs.Prelude.{◌≡◌, ◌≤◌, ℕ};
-ghost use Rattle.lifecycle_core.specs.State.{state_at, is_reached_at};
-ghost use Rattle.lifecycle_core.specs.Row.{IsRightAt};
+ghost use Rattle.lifecycle_core.specs.{State.state_at, State.is_reached_at, Row.IsRightAt};
 
 use crate::dates::Dates;
 use crate::state::State;

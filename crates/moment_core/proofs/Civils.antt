@@ -4,8 +4,8 @@ use Rattle.std.proofs.Common.{◌∙◌, arith}
 use Rattle.std.proofs.lemmas.Bool.{ltb-false, ltb-true}
 use Rattle.std.specs.Prelude.{pos}
 use Rattle.jiff_core.specs.Calendar.{days_in_year, is_leap_year}
-use Rattle.moment_core.specs.Calendar.{Civil, IsCivil, month_days, next_day, civil, days_of_years}
-use Rattle.moment_core.specs.Calendar.{days_of_months, day_number}
+use Rattle.moment_core.specs.Calendar.{Civil, IsCivil, month_days, next_day, civil, days_of_years, days_of_months}
+use Rattle.moment_core.specs.Calendar.{day_number}
 
 -- the days of a year
 abbrev pub year_days : ℕ → ℕ

@@ -1,20 +1,17 @@
 -- A day's date is jiff's.
-use Rattle.std.proofs.Common.{◌≡◌, ℕ, zero, suc, ◌+◌, ◌-◌, ◌*◌, ◌/◌, ◌%◌, ◌<◌, ◌≤◌, inl, inr, refl, sym, ap, ◌∙◌}
-use Rattle.std.proofs.Common.{arith, ℤ, pos, ◌+ℤ◌}
-use Rattle.std.specs.Prelude.{Bool, cond, Option, None, Some, IsSome, IfSome, ◌↔◌, min}
+use Rattle.std.proofs.Common.{◌≡◌, ℕ, zero, suc, ◌+◌, ◌-◌, ◌*◌, ◌/◌, ◌%◌, ◌<◌, ◌≤◌, inl, inr, refl, sym, ap, ◌∙◌, arith}
+use Rattle.std.proofs.Common.{ℤ, pos, ◌+ℤ◌}
 use Rattle.std.proofs.lemmas.Bool.{cases_lt, le-leb, lt-leb}
-use Rattle.moment_core.specs.Moment.{last_second, IsMoment}
-use Rattle.jiff_core.specs.declared.civil.date.Date.{Date}
-use Rattle.jiff_core.specs.Calendar as jiff
-use Rattle.jiff_core.specs.Calendar.{day_count, days_from_civil, days_in_month, days_in_year}
-use Rattle.jiff_core.specs.Date.{epoch_day}
-use Rattle.jiff_core.proofs.SignedLemmas.{signed_arith}
-use Rattle.jiff_core.proofs.CalendarLemmas.{day_count-epoch, day_count-next_year, day_count-end}
-use Rattle.jiff_core.proofs.CalendarLemmas.{day_count-day_of_year, days_from_civil-day_count}
-use Rattle.jiff_core.proofs.DateLemmas.{epoch_day_injective}
-use Rattle.moment_core.specs.Within.Dates.{HasParts}
+use Rattle.std.specs.Prelude.{Bool, cond, Option, None, Some, IsSome, IfSome, ◌↔◌, min}
 use Rattle.moment_core.specs.Calendar.{Civil, IsCivil, in_range, months_after, months_on, month_days, civil}
 use Rattle.moment_core.specs.Calendar.{days_of_years, days_of_months, day_number}
+use Rattle.moment_core.specs.{Moment.last_second, Moment.IsMoment, Within.Dates.HasParts}
+use Rattle.jiff_core.specs.Calendar.{day_count, days_from_civil, days_in_month, days_in_year}
+use Rattle.jiff_core.specs.{declared.civil.date.Date.Date, Date.epoch_day}
+use Rattle.jiff_core.specs.Calendar as jiff
+use Rattle.jiff_core.proofs.CalendarLemmas.{day_count-epoch, day_count-next_year, day_count-end, day_count-day_of_year}
+use Rattle.jiff_core.proofs.CalendarLemmas.{days_from_civil-day_count}
+use Rattle.jiff_core.proofs.{SignedLemmas.signed_arith, DateLemmas.epoch_day_injective}
 use Rattle.moment_core.proofs.Civils.{civil_is, days_of_years_more, days_of_years_mono, days_of_years_none}
 use Rattle.moment_core.proofs.Civils.{month_days_bounds}
 

@@ -1,9 +1,9 @@
 -- A moment some months on is no earlier.
-use Rattle.std.proofs.Common.{◌≡◌, ℕ, zero, suc, ◌+◌, ◌-◌, ◌*◌, ◌/◌, ◌%◌, ◌<◌, ◌≤◌, cond, Bool, true, false, Some}
-use Rattle.std.proofs.Common.{None, refl, sym, ap, ◌∙◌, arith, inl, inr}
+use Rattle.std.proofs.Common.{◌≡◌, ℕ, zero, suc, ◌+◌, ◌-◌, ◌*◌, ◌/◌, ◌%◌, ◌<◌, ◌≤◌, cond, Bool, true, false, Some, None}
+use Rattle.std.proofs.Common.{refl, sym, ap, ◌∙◌, arith, inl, inr}
 use Rattle.std.proofs.lemmas.Bool.{cases_lt}
-use Rattle.moment_core.specs.Calendar.{Civil, IsCivil, month_days, civil, days_of_years, days_of_months}
-use Rattle.moment_core.specs.Calendar.{day_number, months_on, months_after}
+use Rattle.moment_core.specs.Calendar.{Civil, IsCivil, month_days, civil, days_of_years, days_of_months, day_number}
+use Rattle.moment_core.specs.Calendar.{months_on, months_after}
 use Rattle.moment_core.proofs.Civils.{civil_is, days_of_months_all, days_of_months_more, days_of_months_none}
 use Rattle.moment_core.proofs.Civils.{days_of_years_more, year_days}
 

@@ -2,12 +2,10 @@
 use Rattle.std.proofs.Common.{◌≡◌, ℕ, ◌+◌, ◌*◌, ◌/◌, ◌%◌, ◌<◌, ◌≤◌, List, ◌++◌, take, drop, length, get_or, refl, sym}
 use Rattle.std.proofs.Common.{ap, ◌∙◌, arith}
 use Rattle.std.specs.Prelude.{Option, None, Some, IsSome, IfSome, ◌↔◌}
-use Rattle.moment_core.specs.Moment.{IsMoment}
 use Rattle.moment_core.specs.Calendar.{Civil, IsCivil, civil, day_number}
-use Rattle.moment_core.specs.MomentText.{two_digits, moment_text}
 use Rattle.moment_core.specs.Within.Parts.{date_part_text, time_text}
-use Rattle.moment_core.proofs.Civils.{civil_is, month_days_bounds}
-use Rattle.moment_core.proofs.Dates.{year_bound}
+use Rattle.moment_core.specs.{Moment.IsMoment, MomentText.two_digits, MomentText.moment_text}
+use Rattle.moment_core.proofs.{Civils.civil_is, Civils.month_days_bounds, Dates.year_bound}
 
 abbrev pub date_at : ℕ → Civil
 date_at m = civil (m / 86_400)

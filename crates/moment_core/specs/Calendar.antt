@@ -1,7 +1,7 @@
 -- The civil calendar of UTC, by its own rules (ISO 8601, the Gregorian calendar), and months added
 -- to moments.
-use Rattle.std.specs.Prelude.{ℕ, ◌≤◌, zero, suc, ◌+◌, ◌-◌, ◌*◌, ◌/◌, ◌%◌, ◌==◌, nat_lt, nat_le, min, Bool, not, ◌&&◌}
-use Rattle.std.specs.Prelude.{◌||◌, Option, None, Some, if◌then◌else◌, pos}
+use Rattle.std.specs.Prelude.{ℕ, ◌≤◌, zero, suc, ◌+◌, ◌-◌, ◌*◌, ◌/◌, ◌%◌, nat_lt, nat_le, min}
+use Rattle.std.specs.Prelude.{Option, None, Some, if◌then◌else◌, pos}
 use Rattle.jiff_core.specs.Calendar.{days_in_month, days_in_year}
 use Rattle.moment_core.specs.Moment.{last_second}
 

@@ -1,8 +1,7 @@
 //! Laws of the calendar and of the texts of moments.
 ghost use Rattle.std.specs.Prelude.{◌≡◌, ◌≤◌, ℕ, Some};
 ghost use Rattle.moment_core.specs.Calendar.{Civil, IsCivil, civil, day_number, months_after};
-ghost use Rattle.moment_core.specs.Moment.{IsMoment};
-ghost use Rattle.moment_core.specs.MomentText.{moment_text};
+ghost use Rattle.moment_core.specs.{Moment.IsMoment, MomentText.moment_text};
 
 /// Moments with one text are one moment, so that what is written is read again.
 pub fn texts_are_of_one_moment()

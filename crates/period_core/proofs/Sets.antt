@@ -1,10 +1,7 @@
 -- What is set for each type, once something is set for one.
 use Rattle.std.proofs.Common.{◌≡◌, ◌==◌, cond, Option, refl}
-use Rattle.period_core.specs.declared.key_type.KeyType.{KeyType}
-use Rattle.period_core.specs.declared.office.OfficePeriods.{OfficePeriods}
-use Rattle.period_core.specs.KeyType.{key_type_code}
-use Rattle.period_core.specs.Office.{of_each, set_in, with_set}
-use Rattle.period_core.specs.Period.{Period}
+use Rattle.period_core.specs.{declared.key_type.KeyType.KeyType, declared.office.OfficePeriods.OfficePeriods}
+use Rattle.period_core.specs.{KeyType.key_type_code, Office.of_each, Office.set_in, Office.with_set, Period.Period}
 use Rattle.period_core.proofs.Types.{of_each_type}
 
 of_its_own : (f : KeyType → Option Period) (kind : KeyType) → set_in (of_each f) kind ≡ f kind

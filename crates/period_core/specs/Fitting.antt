@@ -5,9 +5,8 @@ use Rattle.std.specs.Prelude.{None, Some, is_some, is_none, Result, Ok, Err, IsT
 use Rattle.std.specs.Option.{option_and_then}
 use Rattle.lifecycle_core.specs.declared.dates.Dates.{Dates}
 use Rattle.moment_core.specs.Calendar.{months_after}
-use Rattle.period_core.specs.Period.{Period}
-use Rattle.period_core.specs.declared.date_fitting.DateRefusal.{DateRefusal}
 use Rattle.period_core.specs.declared.date_fitting.DateRefusal.TheVariants.{DateOrder, PeriodTooLong, DateRange}
+use Rattle.period_core.specs.{Period.Period, declared.date_fitting.DateRefusal.DateRefusal}
 
 -- the first date is not after the second, where both are set
 abbrev pub is_not_after : Option ℕ → Option ℕ → Bool

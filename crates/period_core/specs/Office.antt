@@ -1,12 +1,10 @@
 -- The usage periods that an office sets for types, in the place of this register's own.
 use Rattle.std.specs.Prelude.{◌==◌, Option, if◌then◌else◌}
-use Rattle.period_core.specs.declared.key_type.KeyType.{KeyType}
 use Rattle.period_core.specs.declared.key_type.KeyType.TheVariants.{DataEncryption, Authentication, KeyWrapping}
 use Rattle.period_core.specs.declared.key_type.KeyType.TheVariants.{PrivateSignature, PrivateAuthentication}
 use Rattle.period_core.specs.declared.key_type.KeyType.TheVariants.{PrivateTransport, Master}
-use Rattle.period_core.specs.declared.office.OfficePeriods.{OfficePeriods}
-use Rattle.period_core.specs.KeyType.{key_type_code}
-use Rattle.period_core.specs.Period.{Period, period_or_default}
+use Rattle.period_core.specs.{declared.key_type.KeyType.KeyType, declared.office.OfficePeriods.OfficePeriods}
+use Rattle.period_core.specs.{KeyType.key_type_code, Period.Period, Period.period_or_default}
 
 -- what is set for a type
 abbrev pub set_in : OfficePeriods → KeyType → Option Period

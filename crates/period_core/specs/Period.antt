@@ -1,8 +1,7 @@
 -- Usage periods, in months. The months and their ranges are this register's own; what they bound is modelled on SP
 -- 800-57 Part 1 Revision 5, sections 5.3.4 and 5.3.5.
 use Rattle.std.specs.Prelude.{ℕ, ◌≤◌, Option, unwrap_or}
-use Rattle.period_core.specs.declared.key_type.KeyType.{KeyType}
-use Rattle.period_core.specs.KeyType.{key_type_row}
+use Rattle.period_core.specs.{declared.key_type.KeyType.KeyType, KeyType.key_type_row}
 
 -- from Activation to Protect Stop at the longest, in which protection is applied, and from there to Deactivation, in
 -- which protected data is still processed

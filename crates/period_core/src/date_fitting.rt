@@ -1,14 +1,12 @@
 //! Which dates fit a usage period, what a date becomes that is not given, and why dates are
 //! refused.
-ghost use Rattle.std.specs.Prelude.{◌≡◌, ◌≢◌, ◌↔◌, ◌||◌, ◌&&◌, ℕ, is_some, is_none, IsTrue};
-ghost use Rattle.std.specs.Prelude.{IsSome, IfErr, OnOk};
+ghost use Rattle.std.specs.Prelude.{◌≡◌, ◌≢◌, ◌↔◌, ◌||◌, ◌&&◌, ℕ, is_some, is_none, IsTrue, IsSome};
+ghost use Rattle.std.specs.Prelude.{IfErr, OnOk};
 ghost use Rattle.period_core.specs.Fitting.{Fits, Gives, KeepsGiven, are_dates_in_order};
 ghost use Rattle.period_core.specs.Fitting.{cut_to_limit, dates_with_defaults};
-ghost use Rattle.period_core.specs.Fitting.{defaulted_dates_cut_to_limits};
-ghost use Rattle.period_core.specs.Fitting.{earlier_of, fill_of, is_either_use_too_long};
-ghost use Rattle.period_core.specs.Fitting.{is_not_after};
-ghost use Rattle.period_core.specs.Fitting.{months_on_date, order_refusal, originator_limit};
-ghost use Rattle.period_core.specs.Fitting.{range_refusal};
+ghost use Rattle.period_core.specs.Fitting.{defaulted_dates_cut_to_limits, earlier_of, fill_of};
+ghost use Rattle.period_core.specs.Fitting.{is_either_use_too_long, is_not_after, months_on_date};
+ghost use Rattle.period_core.specs.Fitting.{order_refusal, originator_limit, range_refusal};
 ghost use Rattle.period_core.specs.Fitting.{recipient_limit, too_long_refusal, trim_of};
 ghost use Rattle.period_core.specs.Fitting.{with_default_deactivation, with_default_protect_stop};
 ghost use Rattle.period_core.specs.Within.Fitting.{Checks};

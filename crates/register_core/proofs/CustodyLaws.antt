@@ -1,31 +1,21 @@
 -- Laws of the custody of keys, over lawful histories.
-use Rattle.std.proofs.Common.{◌≡◌, ℕ, ◌<◌, ◌≤◌, false, List, [], ◌∷◌, ◌++◌, Option, None, Some}
-use Rattle.std.proofs.Common.{refl, ap, subst, ◌∙◌, length, arith, IsSome, ◌⊎◌, inl, inr}
-use Rattle.std.specs.Prelude.{nat_eq}
+use Rattle.std.proofs.Common.{◌≡◌, ℕ, ◌<◌, ◌≤◌, false, List, [], ◌∷◌, ◌++◌, Option, None, Some, refl, ap, subst, ◌∙◌}
+use Rattle.std.proofs.Common.{length, arith, IsSome, ◌⊎◌, inl, inr}
 use Rattle.std.proofs.lemmas.Bool.Decides.{eqb_tells}
+use Rattle.std.specs.Prelude.{nat_eq}
 use Rattle.lifecycle_core.specs.declared.dates.Dates.{Dates}
 use Rattle.period_core.specs.Period.{Period}
-use Rattle.register_requests.specs.declared.request.Request.{Request}
-use Rattle.register_requests.specs.declared.request.Command.{Command}
-use Rattle.register_requests.specs.declared.request.Command.TheVariants.{Destroy}
-use Rattle.register_core.specs.KeyName.{names_at}
-use Rattle.register_core.specs.Names.{sorted_names}
+use Rattle.register_requests.specs.{declared.request.Request.Request, declared.request.Command.Command}
+use Rattle.register_requests.specs.{declared.request.Command.TheVariants.Destroy, Subject.named, Quorum.min_approvals}
 use Rattle.register_core.specs.History.{count, type, period, dates}
-use Rattle.register_requests.specs.Subject.{named}
-use Rattle.register_core.specs.Effect.{dates_after}
 use Rattle.register_core.specs.Custody.{all_custodians, all_approvals, approvals}
-use Rattle.register_requests.specs.Quorum.{min_approvals}
-use Rattle.register_core.proofs.Settled.{need_in_range}
-use Rattle.register_core.specs.Verdict.{judgement}
-use Rattle.register_core.specs.Fold.{IsLawful}
-use Rattle.register_core.specs.Laws.{IsAccepted, HasKey}
-use Rattle.register_core.proofs.Verdicts.{judged}
-use Rattle.register_core.proofs.Histories.{count_grows, dates_named, dates_other}
-use Rattle.register_core.proofs.Dating.{filled_keeps}
-use Rattle.register_core.proofs.CustodyLeads.{custody_lead}
-use Rattle.register_core.proofs.Lawful.{holds_of_each, lawful_holds}
+use Rattle.register_core.specs.{KeyName.names_at, Names.sorted_names, Effect.dates_after, Verdict.judgement}
+use Rattle.register_core.specs.{Fold.IsLawful, Laws.IsAccepted, Laws.HasKey}
+use Rattle.register_core.proofs.Histories.{count_grows, dates_named, dates_other, need_in_range}
 use Rattle.register_core.proofs.OnKey.{IsOn, IsOther, dates_when_made, given_to, on_key, which}
 use Rattle.register_core.proofs.CustodyStay.{custody_same, custody_other, approvals_stay}
+use Rattle.register_core.proofs.Lawful.{holds_of_each, lawful_holds}
+use Rattle.register_core.proofs.{Verdicts.judged, DateSteps.filled_keeps, CustodyLeads.custody_lead}
 
 -- ---- keys that are not made yet
 

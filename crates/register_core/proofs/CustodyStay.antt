@@ -1,20 +1,16 @@
 -- Who stays as they were: the custody of other keys, and the approvals of a key that is destroyed.
 use Rattle.std.proofs.Common.{◌≡◌, ℕ, Bool, true, false, List, [], ◌∷◌, ◌++◌, filter, Option, None, Some, refl, sym, ap}
 use Rattle.std.proofs.Common.{◌∙◌, arith}
-use Rattle.std.specs.Prelude.{nat_eq}
 use Rattle.std.proofs.lemmas.List.{append-nil}
-use Rattle.register_requests.specs.declared.request.Request.{Request}
-use Rattle.register_core.specs.declared.change.CustodyChange.{CustodyChange}
+use Rattle.std.specs.Prelude.{nat_eq}
+use Rattle.register_requests.specs.{declared.request.Request.Request, Subject.named_by, Subject.is_key, Subject.named}
 use Rattle.register_core.specs.KeyName.{KeyName, key_name, is_at, names_at}
-use Rattle.register_core.specs.History.{count, dates}
 use Rattle.register_core.specs.Custody.{all_custodians, all_approvals, approvals}
-use Rattle.register_core.specs.Verdict.{judgement}
-use Rattle.register_requests.specs.Subject.{named_by, is_key, named}
-use Rattle.register_core.specs.Decision.{custodians_by, approvals_by}
-use Rattle.register_core.proofs.Histories.{key_named}
-use Rattle.register_core.proofs.CustodyLeads.{nobody_changes, custody_lead}
-use Rattle.register_core.proofs.Walks.{names_joined}
+use Rattle.register_core.specs.{declared.change.CustodyChange.CustodyChange, History.count, History.dates}
+use Rattle.register_core.specs.{Verdict.judgement, Decision.custodians_by, Decision.approvals_by}
+use Rattle.register_core.proofs.CustodyLeads.{nobody_changes, custody_lead, names_joined}
 use Rattle.register_core.proofs.OnKey.{IsOn, IsMade, IsOther, on_key}
+use Rattle.register_core.proofs.Histories.{key_named}
 
 -- ---- the custody of other keys
 

@@ -4,17 +4,12 @@ use Rattle.lifecycle_core.specs.declared.dates.Dates.{Dates}
 use Rattle.period_core.specs.Period.{Period}
 use Rattle.register_requests.specs.declared.request.Request.{Request}
 use Rattle.register_core.specs.History.{period, type, dates, dated_by}
-use Rattle.register_core.specs.Effect.{dates_after, sets_dates}
-use Rattle.register_core.specs.Verdict.{judgement}
-use Rattle.register_core.specs.Fold.{IsLawful}
 use Rattle.register_core.specs.Laws.{IsAccepted, HasKey, MovesOnly}
-use Rattle.register_core.proofs.Verdicts.{judged}
+use Rattle.register_core.specs.{Effect.dates_after, Effect.sets_dates, Verdict.judgement, Fold.IsLawful}
 use Rattle.register_core.proofs.Histories.{count_grows, dates_other, dated_other, dates_named, dated_named, dated_made}
-use Rattle.register_core.proofs.Decisions.{standing}
-use Rattle.register_core.proofs.Lawful.{lawful_holds}
 use Rattle.register_core.proofs.OnKey.{IsOn, IsMade, dates_when_made, given_to, which}
-use Rattle.register_core.proofs.Dating.{filled_fits}
-use Rattle.register_core.proofs.DateSteps.{nothing_moves, IsSound, Steps, step}
+use Rattle.register_core.proofs.DateSteps.{nothing_moves, IsSound, Steps, step, filled_fits}
+use Rattle.register_core.proofs.{Verdicts.judged, Decisions.standing, Lawful.lawful_holds}
 
 sound_as : (period other_period : Period) (d other : Dates) → other_period ≡ period → other ≡ d
     → IsSound period d → IsSound other_period other

@@ -1,26 +1,20 @@
 -- Every date of a key is a moment.
 use Rattle.std.proofs.Common.{ℕ, Bool, true, false, cond, List, [], ◌∷◌, ◌++◌, Option, sym, subst, arith}
-use Rattle.std.specs.Prelude.{fold}
-use Rattle.std.specs.List.{AllByRecursion}
 use Rattle.std.proofs.lemmas.List.Sums.{fold-append}
+use Rattle.std.specs.{Prelude.fold, List.AllByRecursion}
 use Rattle.lifecycle_core.specs.declared.dates.Dates.{Dates}
-use Rattle.moment_core.specs.Calendar.{months_after}
-use Rattle.moment_core.specs.Moment.{IsMoment}
+use Rattle.moment_core.specs.{Calendar.months_after, Moment.IsMoment}
 use Rattle.period_core.specs.Fitting.{dates_with_defaults, months_on_date, defaulted_dates_cut_to_limits}
 use Rattle.period_core.specs.Fitting.{with_default_deactivation, with_default_protect_stop}
 use Rattle.period_core.specs.Period.{Period}
-use Rattle.register_requests.specs.declared.request.Command.{Command}
 use Rattle.register_requests.specs.declared.request.Command.TheVariants.{Register as Registers, Activate, SetDates}
 use Rattle.register_requests.specs.declared.request.Command.TheVariants.{Revoke, Destroy}
-use Rattle.register_requests.specs.declared.request.Edit.{Edit}
-use Rattle.register_requests.specs.declared.request.Request.{Request}
-use Rattle.register_core.specs.Dates.{AreDates}
-use Rattle.register_core.specs.Effect.{dates_after, date_after_edit, unset_dates}
-use Rattle.register_core.specs.Fold.{IsLawful}
-use Rattle.register_core.specs.History.{Placed, count, dates, own_from, period, type}
 use Rattle.register_requests.specs.Request.{IsCommand, IsDate, IsEdit, IsRequest}
-use Rattle.register_requests.specs.Subject.{is_key}
-use Rattle.register_requests.specs.Within.Subject.{key_concerned}
+use Rattle.register_requests.specs.{declared.request.Command.Command, declared.request.Edit.Edit}
+use Rattle.register_requests.specs.{declared.request.Request.Request, Subject.is_key, Within.Subject.key_concerned}
+use Rattle.register_core.specs.Effect.{dates_after, date_after_edit, unset_dates}
+use Rattle.register_core.specs.History.{Placed, count, dates, own_from, period, type}
+use Rattle.register_core.specs.{Dates.AreDates, Fold.IsLawful}
 use Rattle.register_core.proofs.Histories.{concerning, placed}
 
 -- ---- what dates are made of
@@ -80,15 +74,7 @@ module _ (periods : Placed → Period) where
       (those_from later (before ++ q ∷ []) k _ all.1 (once before q k d all.0 are))
 
 none_set : AreDates unset_dates
-none_set = record {
-  initial = omega arith;
-  activation = tt;
-  protect_stop = tt;
-  deactivation = tt;
-  destroy = tt;
-  compromise = tt;
-  compromise_occurrence = tt;
-}
+none_set = grind arith
 
 -- each date of a key is none, or a moment
 pub dates_in_range : (h : List Request) → AllByRecursion IsRequest h → (k : ℕ) → AreDates (dates h k)

@@ -1,36 +1,27 @@
 -- What an accepted request changes is what the history with it at its end says of its key and of its custody.
 use Rattle.std.proofs.Common.{◌≡◌, ℕ, ◌+◌, ◌≤◌, nat_le, Bool, true, ◌&&◌, cond, List, [], ◌∷◌, ◌++◌, Option, None, Some}
 use Rattle.std.proofs.Common.{refl, ap, ◌∙◌, arith}
-use Rattle.std.specs.Prelude.{is_some}
-use Rattle.std.specs.Option.{option_and_then}
+use Rattle.std.specs.{Prelude.is_some, Option.option_and_then}
 use Rattle.lifecycle_core.specs.declared.dates.Dates.{Dates}
 use Rattle.period_core.specs.Fitting.{dates_with_defaults}
-use Rattle.register_requests.specs.declared.request.Request.{Request}
-use Rattle.register_requests.specs.declared.request.Command.{Command}
 use Rattle.register_requests.specs.declared.request.Command.TheVariants.{Advance, SetPeriod}
-use Rattle.register_core.specs.Settings.{all_periods}
-use Rattle.register_core.proofs.Settled.{periods_next}
-use Rattle.register_core.specs.declared.reply.Refusal.TheVariants.{UnknownKey}
-use Rattle.register_core.specs.declared.view.Held.{Held}
-use Rattle.register_core.specs.declared.change.Change.{Change}
-use Rattle.register_core.specs.declared.change.Change.TheVariants as change
-use Rattle.register_core.specs.History.{latest, count, period, type, dates, owner}
 use Rattle.register_requests.specs.declared.request.Registration.{Registration}
 use Rattle.register_requests.specs.Subject.{Subject, Makes, Names, NoKey, subject, named_by, key_by, named}
 use Rattle.register_requests.specs.Within.Subject.{key_concerned, count_by}
+use Rattle.register_requests.specs.{declared.request.Request.Request, declared.request.Command.Command, Version.current}
+use Rattle.register_core.specs.History.{latest, count, period, type, dates, owner}
 use Rattle.register_core.specs.Effect.{given_dates, dates_after, owner_after, row_with_dates_at}
 use Rattle.register_core.specs.Custody.{custodians, approvals, need, held}
-use Rattle.register_core.specs.KeptReply.{reply}
-use Rattle.register_requests.specs.Version.{current}
-use Rattle.register_core.specs.Verdict.{key_refusal, named_key, judgement}
-use Rattle.register_core.specs.CustodyRefusal.{custody_refusal_in}
 use Rattle.register_core.specs.Decision.{change_of_held_key, registered_key, change_of, change_by_request}
 use Rattle.register_core.specs.Decision.{change_without_key, reply_to, Stands, LeadsTo}
+use Rattle.register_core.specs.{declared.reply.Refusal.TheVariants.UnknownKey, Verdict.key_refusal, Verdict.named_key}
+use Rattle.register_core.specs.{Verdict.judgement, Settings.all_periods, declared.view.Held.Held}
+use Rattle.register_core.specs.{declared.change.Change.Change, KeptReply.reply, CustodyRefusal.custody_refusal_in}
 use Rattle.register_core.proofs.Histories.{latest_grows, count_grows, key_named, kind_named, owner_named, dates_named}
-use Rattle.register_core.proofs.Histories.{kind_made, owner_made, dates_made}
-use Rattle.register_core.proofs.Filling.{past}
-use Rattle.register_core.proofs.Refusals.{IsPassed, passes}
+use Rattle.register_core.proofs.Histories.{kind_made, owner_made, dates_made, periods_next}
 use Rattle.register_core.proofs.CustodyLeads.{IsNew, nobody_changes, custody_lead}
+use Rattle.register_core.proofs.{Filling.past, Refusals.IsPassed, Refusals.passes}
+use Rattle.register_core.specs.declared.change.Change.TheVariants as change
 
 -- ---- a key as it stands
 

@@ -1,14 +1,11 @@
 -- The refusals of who asks, of which key and when, in the order in which the code looks for them.
 use Rattle.std.proofs.Common.{◌≡◌, ℕ, Option, None, Some, Result, arith}
 use Rattle.std.specs.Prelude.{IsErrAnd}
-use Rattle.period_core.specs.Fitting.{first_that_holds}
-use Rattle.period_core.specs.Within.Fitting.{Checks}
-use Rattle.register_core.specs.declared.reply.Refusal.{Refusal}
-use Rattle.register_requests.specs.declared.request.Request.{Request}
-use Rattle.register_core.specs.declared.view.Held.{Held}
+use Rattle.period_core.specs.{Fitting.first_that_holds, Within.Fitting.Checks}
 use Rattle.register_core.specs.Verdict.{giver_refusal, moment_refusal, key_refusal, state_refusal, entry_refusals}
+use Rattle.register_core.specs.{declared.reply.Refusal.Refusal, declared.view.Held.Held}
 use Rattle.register_requests.specs.declared.command_rule.Giver.{Giver}
-use Rattle.register_requests.specs.CommandRule.{rule}
+use Rattle.register_requests.specs.{declared.request.Request.Request, CommandRule.rule}
 
 -- neither the moment nor the key is refused
 pub record IsIn (last : ℕ) (key : Option Held) (q : Request) : Type 0 where

@@ -1,21 +1,15 @@
 -- No more approve of a key's destruction than a key may have custodians.
 use Rattle.std.proofs.Common.{◌≡◌, ℕ, ◌≤◌, suc, Bool, true, false, not, List, [], ◌∷◌, length, filter, ap, ◌∙◌, arith}
-use Rattle.std.specs.Str.{bytes_eq}
 use Rattle.std.proofs.lemmas.Slice.Eq.{bytes_eq-Decides}
 use Rattle.std.proofs.lemmas.List.Sums.{length-filter, count_by-le-length}
 use Rattle.std.proofs.lemmas.Map.Views.{any-filter_same}
+use Rattle.std.specs.Str.{bytes_eq}
 use Rattle.register_requests.specs.declared.request.Request.{Request}
-use Rattle.register_requests.specs.declared.version.Version.{Version}
-use Rattle.register_requests.specs.Name.{is_among}
-use Rattle.register_core.specs.KeyName.{names_at}
+use Rattle.register_requests.specs.{declared.version.Version.Version, Name.is_among, Version.custodians_of}
 use Rattle.register_core.specs.Custody.{all_approvals, custodians, approvals}
-use Rattle.register_requests.specs.Version.{custodians_of}
-use Rattle.register_core.specs.Laws.{AreDifferent}
-use Rattle.register_core.specs.Fold.{IsLawfulIn}
-use Rattle.register_core.proofs.CustodyOnce.{different}
-use Rattle.register_core.proofs.Approvers.{approve}
+use Rattle.register_core.specs.{KeyName.names_at, Laws.AreDifferent, Fold.IsLawfulIn}
 use Rattle.register_core.proofs.FewLaws.{sorted_length, few_custodians}
-use Rattle.register_core.proofs.Versions.{lawful_still}
+use Rattle.register_core.proofs.{CustodyLeads.different, Approvers.approve, Versions.lawful_still}
 
 -- ---- names among others
 

@@ -4,36 +4,23 @@ use Rattle.std.proofs.Common.{Some, refl, sym, ap, subst, ◌∙◌, arith, inl,
 use Rattle.std.proofs.lemmas.Bool.{cases_lt}
 use Rattle.std.proofs.lemmas.Bool.Decides.{nat_tests}
 use Rattle.std.proofs.lemmas.List.{length-append}
-use Rattle.register_requests.specs.declared.request.Request.{Request}
-use Rattle.register_requests.specs.declared.version.Version.{Version}
-use Rattle.register_requests.specs.declared.request.Command.{Command}
 use Rattle.register_requests.specs.declared.request.Command.TheVariants.{Revoke, AddCustodian, RemoveCustodian}
-use Rattle.register_core.specs.KeyName.{KeyName, names_at}
-use Rattle.register_core.specs.Names.{with_name, sorted_names}
+use Rattle.register_requests.specs.Version.{current, custodians_of}
+use Rattle.register_requests.specs.{declared.request.Request.Request, declared.version.Version.Version}
+use Rattle.register_requests.specs.{declared.request.Command.Command, Within.Subject.made_by}
 use Rattle.register_core.specs.History.{latest, count, period, dates}
-use Rattle.register_requests.specs.Within.Subject.{made_by}
-use Rattle.register_core.specs.Effect.{custody_change}
-use Rattle.std.specs.Option.{option_and_then}
-use Rattle.register_core.specs.declared.view.Held.{Held}
 use Rattle.register_core.specs.Custody.{all_custodians, custodians, held}
 use Rattle.register_core.specs.Verdict.{Accepts, max_keys, limit_refusal, named_key, judgement, judgement_in}
 use Rattle.register_core.specs.Verdict.{verdict_in}
-use Rattle.register_core.specs.CustodyRefusal.{custody_refusal_in}
-use Rattle.register_core.proofs.Filling.{past}
-use Rattle.register_requests.specs.Version.{current, custodians_of}
-use Rattle.register_core.specs.Decision.{custodians_by}
-use Rattle.register_core.specs.Fold.{IsLawful, IsLawfulIn}
-use Rattle.register_core.proofs.Histories.{count_grows}
-use Rattle.register_core.proofs.Refusals.{passes}
-use Rattle.register_core.proofs.Decisions.{standing, there}
-use Rattle.register_core.proofs.CustodyLeads.{kept_custodians, custody_lead}
+use Rattle.register_core.specs.{KeyName.KeyName, KeyName.names_at, Names.with_name, Names.sorted_names}
+use Rattle.register_core.specs.{Effect.custody_change, declared.view.Held.Held, CustodyRefusal.custody_refusal_in}
+use Rattle.register_core.specs.{Decision.custodians_by, Fold.IsLawful, Fold.IsLawfulIn}
+use Rattle.std.specs.Option.{option_and_then}
+use Rattle.register_core.proofs.CustodyLeads.{kept_custodians, custody_lead, names_joined}
 use Rattle.register_core.proofs.CustodyStay.{custody_made, custody_other}
-use Rattle.register_core.proofs.CustodyLaws.{nobody_yet}
-use Rattle.register_core.proofs.Walks.{names_joined}
-use Rattle.register_core.proofs.Lawful.{holds_in, lawful_holds}
-use Rattle.register_core.proofs.OnKey.{IsOn, which}
-use Rattle.register_core.proofs.Verdicts.{judged_in}
-use Rattle.register_core.proofs.Versions.{lawful_still, still}
+use Rattle.register_core.proofs.{Filling.past, Histories.count_grows, Refusals.passes, Decisions.standing}
+use Rattle.register_core.proofs.{Decisions.there, CustodyLaws.nobody_yet, Lawful.holds_in, Lawful.lawful_holds}
+use Rattle.register_core.proofs.{OnKey.IsOn, OnKey.which, Verdicts.judged_in, Versions.lawful_still, Versions.still}
 
 -- ---- keys
 

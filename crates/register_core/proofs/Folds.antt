@@ -1,14 +1,12 @@
 -- One item more after a list of items.
-use Rattle.std.proofs.Common.{◌≡◌, ℕ, ◌+◌, ◌≤◌, ◌<◌, Bool, true, false, cond, List, [], ◌∷◌, ◌++◌, length, get_or}
-use Rattle.std.proofs.Common.{take, Option, None, Some, refl, arith}
+use Rattle.std.proofs.Common.{◌≡◌, ℕ, ◌+◌, ◌≤◌, ◌<◌, Bool, true, false, cond, List, [], ◌∷◌, ◌++◌, length, get_or, take}
+use Rattle.std.proofs.Common.{Option, None, Some, refl, arith}
 use Rattle.std.proofs.lemmas.List.{length-append, take_more}
-use Rattle.register_requests.specs.declared.request.Request.{Request}
-use Rattle.register_requests.specs.declared.version.Version.{Version}
-use Rattle.register_core.specs.Verdict.{verdict_in, is_accepted}
-use Rattle.register_requests.specs.Version.{current}
-use Rattle.register_core.specs.Fold.{history_after, history_after_in, history, history_in}
-use Rattle.register_core.specs.Fold.{answer_to, answer_to_in, answers, answers_in}
 use Rattle.std.proofs.lemmas.Grind.{common_steps}
+use Rattle.register_requests.specs.{declared.request.Request.Request, declared.version.Version.Version, Version.current}
+use Rattle.register_core.specs.Verdict.{verdict_in, is_accepted}
+use Rattle.register_core.specs.Fold.{history_after, history_after_in, history, history_in, answer_to, answer_to_in}
+use Rattle.register_core.specs.Fold.{answers, answers_in}
 
 next_prefix : (items : List (Option Request)) (i : ℕ) (item : Option Request) → i < length items
     → item ≡ get_or items i item → take (i + 1) items ≡ take i items ++ item ∷ []

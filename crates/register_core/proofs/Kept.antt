@@ -1,40 +1,27 @@
 -- What is kept of a history with one request more, and of a lawful one.
 use Rattle.std.proofs.Common.{◌≡◌, ◌≤◌, ◌<◌, ℕ, ◌+◌, true, false, ◌&&◌, cond, List, [], ◌∷◌, ◌++◌, length, get_or, take}
 use Rattle.std.proofs.Common.{drop, slice_get, Option, None, Some, refl, sym, ap, arith, append_assoc}
-use Rattle.std.specs.List.{AllByRecursion}
-use Rattle.std.specs.Prelude.{nat_eq, unwrap_or}
-use Rattle.std.specs.Option.{option_map}
-use Rattle.std.specs.Str.{bytes_eq}
 use Rattle.std.proofs.lemmas.Bool.Decides.{Decides-eqb, nat_tests}
 use Rattle.std.proofs.lemmas.List.{append-nil, length-append, take-append-drop}
 use Rattle.std.proofs.lemmas.List.Elements.{filter-append}
 use Rattle.std.proofs.lemmas.Slice.Eq.{bytes_eq-Decides}
+use Rattle.std.specs.{List.AllByRecursion, Prelude.nat_eq, Prelude.unwrap_or, Option.option_map, Str.bytes_eq}
 use Rattle.lifecycle_core.specs.declared.state.State.{State}
-use Rattle.register_core.specs.declared.change.Change.{Change}
-use Rattle.register_core.specs.declared.kept_reply.KeptReply.{KeptReply}
-use Rattle.period_core.specs.declared.key_type.KeyType.{KeyType}
-use Rattle.period_core.specs.Period.{Period, period_or_default}
-use Rattle.register_requests.specs.declared.request.Request.{Request}
-use Rattle.register_requests.specs.declared.request.Command.{Command}
-use Rattle.register_core.specs.declared.reply.Reply.{Reply}
-use Rattle.register_core.specs.declared.view.Held.{Held}
-use Rattle.register_core.specs.declared.view.View.{View}
 use Rattle.register_core.specs.Decision.{change_of, change_by_request, change_without_key, reply_to, reply_of_view}
-use Rattle.register_core.specs.declared.reply.Refusal.TheVariants.{RequestReused}
-use Rattle.register_core.specs.Fold.{IsLawful, history}
 use Rattle.register_core.specs.KeptReply.{reply, kept_with, kept_from, kept, is_under, kept_under, fits_by, IsKeptReply}
-use Rattle.register_core.specs.Within.KeptReply.{kept_of}
-use Rattle.register_core.specs.Laws.{IsAccepted, IsKeptIn, sent_under}
-use Rattle.register_requests.specs.Request.{IsRequest, max_key_number}
-use Rattle.register_requests.specs.Subject.{Subject, Makes, Names, NoKey, named_by, key_by}
-use Rattle.register_requests.specs.Within.Subject.{count_by}
 use Rattle.register_core.specs.Verdict.{Accepts, Repeats, Refuses, max_keys, judge_view, verdict, is_accepted}
 use Rattle.register_core.specs.Verdict.{is_same_command, repeated}
-use Rattle.register_core.proofs.FewLaws.{few_keys}
-use Rattle.register_core.proofs.Histories.{count_grows, latest_grows, next_prefix}
+use Rattle.register_core.specs.{declared.change.Change.Change, declared.kept_reply.KeptReply.KeptReply}
+use Rattle.register_core.specs.{declared.reply.Reply.Reply, declared.view.Held.Held, declared.view.View.View}
+use Rattle.register_core.specs.{declared.reply.Refusal.TheVariants.RequestReused, Fold.IsLawful, Fold.history}
+use Rattle.register_core.specs.{Within.KeptReply.kept_of, Laws.IsAccepted, Laws.IsKeptIn, Laws.sent_under}
+use Rattle.period_core.specs.{declared.key_type.KeyType.KeyType, Period.Period, Period.period_or_default}
+use Rattle.register_requests.specs.Subject.{Subject, Makes, Names, NoKey, named_by, key_by}
+use Rattle.register_requests.specs.{declared.request.Request.Request, declared.request.Command.Command}
+use Rattle.register_requests.specs.{Request.IsRequest, Request.max_key_number, Within.Subject.count_by}
 use Rattle.register_core.proofs.Lawful.{holds_of_each, all_more, all_but_last, all_weaker}
-use Rattle.register_core.proofs.OnKey.{not_after}
-use Rattle.register_core.proofs.Verdicts.{is_new, judged, verdict_again}
+use Rattle.register_core.proofs.{FewLaws.few_keys, Histories.count_grows, Histories.latest_grows, Histories.next_prefix}
+use Rattle.register_core.proofs.{OnKey.not_after, Verdicts.is_new, Verdicts.judged, Verdicts.verdict_again}
 
 -- what is kept of later requests stands after what is kept of those before
 pub kept_append : (before h later : List Request)

@@ -1,18 +1,15 @@
 -- What holds of the empty history and stays with each accepted request holds of every lawful history.
-use Rattle.std.proofs.Common.{◌≡◌, ◌+◌, ◌≤◌, Bool, true, false, cond, List, [], ◌∷◌, ◌++◌, length, None}
-use Rattle.std.proofs.Common.{Some, refl, sym, ap, subst, ◌∙◌, append_assoc, arith}
+use Rattle.std.proofs.Common.{◌≡◌, ◌+◌, ◌≤◌, Bool, true, false, cond, List, [], ◌∷◌, ◌++◌, length, None, Some, refl}
+use Rattle.std.proofs.Common.{sym, ap, subst, ◌∙◌, append_assoc, arith}
 use Rattle.std.proofs.lemmas.List.{append-nil, length-append, map-append}
 use Rattle.std.proofs.lemmas.List.Sums.{fold-append}
 use Rattle.std.specs.List.{AllByRecursion}
-use Rattle.register_requests.specs.declared.request.Request.{Request}
-use Rattle.register_requests.specs.Request.{IsRequest}
 use Rattle.register_requests.specs.declared.version.Version.{Version}
-use Rattle.register_requests.specs.Version.{current}
+use Rattle.register_requests.specs.{declared.request.Request.Request, Request.IsRequest, Version.current}
 use Rattle.register_core.specs.Verdict.{Verdict, Accepts, verdict, verdict_in, judgement, is_accepted}
-use Rattle.register_core.proofs.Verdicts.{judged}
 use Rattle.register_core.specs.Fold.{history_after, history_after_in, history_in, items, IsLawful, IsLawfulIn}
 use Rattle.register_core.specs.Laws.{IsAccepted}
-use Rattle.register_core.proofs.Folds.{history_within}
+use Rattle.register_core.proofs.{Verdicts.judged, Folds.history_within}
 
 -- what holds of each of a list and of one after it holds of each
 pub all_more : {X : Type 0} (P : X → Type 0) (xs : List X) (x : X) → AllByRecursion P xs → P x

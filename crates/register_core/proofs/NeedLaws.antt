@@ -1,15 +1,11 @@
 -- Each need that is set is that of a key which is there.
 use Rattle.std.proofs.Common.{◌≡◌, ℕ, ◌≤◌, Bool, List, [], ◌∷◌, ◌++◌, filter, None, arith}
 use Rattle.std.specs.List.{AllByRecursion}
-use Rattle.register_requests.specs.declared.request.Request.{Request}
-use Rattle.register_requests.specs.declared.request.Command.{Command}
-use Rattle.register_core.specs.Fold.{IsLawful}
-use Rattle.register_core.specs.History.{count}
+use Rattle.register_requests.specs.{declared.request.Request.Request, declared.request.Command.Command}
 use Rattle.register_core.specs.Settings.{KeyNeed, needs_after, all_needs}
-use Rattle.register_core.specs.Verdict.{judgement}
-use Rattle.register_core.proofs.Histories.{count_grows}
+use Rattle.register_core.specs.{Fold.IsLawful, History.count, Verdict.judgement}
 use Rattle.register_core.proofs.Lawful.{all_more, all_weaker, lawful_holds}
-use Rattle.register_core.proofs.Settled.{needs_next}
+use Rattle.register_core.proofs.Histories.{count_grows, needs_next}
 
 -- the key is one of so many
 pub record IsNeedOfOne (keys : ℕ) (set : KeyNeed) : Type 0 where

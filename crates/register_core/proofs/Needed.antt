@@ -1,20 +1,15 @@
 -- A decision on what a request needs of its key is the decision on that key as it stands.
 use Rattle.std.proofs.Common.{◌≡◌, ℕ, List, Option, None, IfSome, Some, ap, refl, sym, ◌∙◌, arith}
-use Rattle.period_core.specs.declared.key_type.KeyType.{KeyType}
-use Rattle.period_core.specs.Period.{Period, period_or_default}
-use Rattle.register_requests.specs.declared.request.Request.{Request}
-use Rattle.register_requests.specs.declared.request.Command.{Command}
-use Rattle.register_core.specs.declared.view.Held.{Held}
-use Rattle.register_core.specs.declared.view.View.{View}
-use Rattle.register_core.specs.History.{latest, count, period, set_period}
+use Rattle.std.proofs.lemmas.Bool.Decides.{nat_tests}
+use Rattle.period_core.specs.{declared.key_type.KeyType.KeyType, Period.Period, Period.period_or_default}
 use Rattle.register_requests.specs.Subject.{Subject, subject}
-use Rattle.register_core.specs.KeptReply.{reply}
+use Rattle.register_requests.specs.{declared.request.Request.Request, declared.request.Command.Command}
+use Rattle.register_core.specs.History.{latest, count, period, set_period}
 use Rattle.register_core.specs.Verdict.{dates_refusal, judge, judge_view, judgement, named_key}
 use Rattle.register_core.specs.Decision.{change_of, change_by_request, reply_of_view, IsViewOf, LeadsTo}
-use Rattle.register_core.specs.Effect.{needed_period_type}
-use Rattle.register_core.specs.Need.{needed_key, Suffices}
+use Rattle.register_core.specs.{declared.view.Held.Held, declared.view.View.View, KeptReply.reply}
+use Rattle.register_core.specs.{Effect.needed_period_type, Need.needed_key, Need.Suffices}
 use Rattle.register_core.proofs.Decisions.{agrees_as}
-use Rattle.std.proofs.lemmas.Bool.Decides.{nat_tests}
 
 -- ---- the lists that a command does not look at
 

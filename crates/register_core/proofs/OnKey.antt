@@ -3,28 +3,20 @@ use Rattle.std.proofs.Common.{◌≡◌, ◌⊎◌, inl, inr, ℕ, ◌+◌, ◌�
 use Rattle.std.proofs.Common.{None, Some, refl, ap, subst, ◌∙◌, arith}
 use Rattle.std.proofs.lemmas.Bool.{and_parts, leb-true}
 use Rattle.std.proofs.lemmas.Bool.Decides.{eqb_tells}
-use Rattle.lifecycle_core.specs.declared.dates.Dates.{Dates}
-use Rattle.lifecycle_core.specs.State.{state_at}
+use Rattle.lifecycle_core.specs.{declared.dates.Dates.Dates, State.state_at}
 use Rattle.period_core.specs.Fitting.{dates_with_defaults}
-use Rattle.register_requests.specs.declared.request.Request.{Request}
-use Rattle.register_core.specs.declared.reply.Refusal.{Refusal}
-use Rattle.register_core.specs.declared.view.Held.{Held}
-use Rattle.std.specs.Option.{option_and_then}
-use Rattle.register_core.specs.Custody.{held}
-use Rattle.register_core.specs.Effect.{given_dates}
-use Rattle.register_core.specs.History.{latest, count, period, dates}
 use Rattle.register_requests.specs.declared.request.Registration.{Registration}
 use Rattle.register_requests.specs.Subject.{Subject, Makes, Names, NoKey, subject, key_by, is_key, named}
-use Rattle.register_requests.specs.Within.Subject.{key_concerned}
 use Rattle.register_requests.specs.CommandRule.{is_one_of, rule}
+use Rattle.register_requests.specs.{declared.request.Request.Request, Within.Subject.key_concerned, Version.current}
+use Rattle.register_core.specs.History.{latest, count, period, dates}
 use Rattle.register_core.specs.Verdict.{giver_refusal, freeze_refusal, dates_refusal, occurrence_refusal, judge}
 use Rattle.register_core.specs.Verdict.{judgement}
-use Rattle.register_requests.specs.Version.{current}
-use Rattle.register_core.specs.CustodyRefusal.{custody_refusal_in}
-use Rattle.register_core.proofs.Histories.{count_grows, dates_made}
-use Rattle.register_core.proofs.CustodyLeads.{IsNew}
-use Rattle.register_core.proofs.Refusals.{passes}
+use Rattle.register_core.specs.{declared.reply.Refusal.Refusal, declared.view.Held.Held, Custody.held}
+use Rattle.register_core.specs.{Effect.given_dates, CustodyRefusal.custody_refusal_in}
+use Rattle.std.specs.Option.{option_and_then}
 use Rattle.register_core.proofs.Decisions.{standing, is_there, unknown_named, new_names}
+use Rattle.register_core.proofs.{Histories.count_grows, Histories.dates_made, CustodyLeads.IsNew, Refusals.passes}
 
 -- ---- an accepted request that names key k
 

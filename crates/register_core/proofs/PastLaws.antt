@@ -1,21 +1,14 @@
 -- What was done to a key of a lawful history is not later than the latest moment.
 use Rattle.std.proofs.Common.{◌≡◌, ℕ, ◌≤◌, List, [], ◌∷◌, ◌++◌, None, Some, IsTrue, arith, inl, inr}
 use Rattle.lifecycle_core.specs.declared.dates.Dates.{Dates}
-use Rattle.period_core.specs.Period.{Period}
-use Rattle.period_core.specs.Fitting.{is_not_after}
-use Rattle.register_requests.specs.declared.request.Request.{Request}
-use Rattle.register_requests.specs.declared.request.Command.{Command}
+use Rattle.period_core.specs.{Period.Period, Fitting.is_not_after}
 use Rattle.register_requests.specs.declared.request.Command.TheVariants.{Register as Registers, Activate, SetDates}
 use Rattle.register_requests.specs.declared.request.Command.TheVariants.{Revoke, Destroy}
-use Rattle.register_core.specs.History.{latest, dates}
-use Rattle.register_requests.specs.Subject.{named}
-use Rattle.register_core.specs.Effect.{dates_after}
+use Rattle.register_requests.specs.{declared.request.Request.Request, declared.request.Command.Command, Subject.named}
 use Rattle.register_core.specs.Verdict.{occurrence_refusal, judgement}
-use Rattle.register_core.specs.Fold.{IsLawful}
-use Rattle.register_core.specs.Laws.{HasKey}
+use Rattle.register_core.specs.{History.latest, History.dates, Effect.dates_after, Fold.IsLawful, Laws.HasKey}
 use Rattle.register_core.proofs.Histories.{latest_grows, dates_other, dates_named}
-use Rattle.register_core.proofs.Lawful.{lawful_holds}
-use Rattle.register_core.proofs.OnKey.{dates_when_made, not_after, which}
+use Rattle.register_core.proofs.{Lawful.lawful_holds, OnKey.dates_when_made, OnKey.not_after, OnKey.which}
 
 pub record IsPast (t : ℕ) (d : Dates) : Type 0 where
   pub initial : d.initial ≤ t

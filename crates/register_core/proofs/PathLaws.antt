@@ -1,20 +1,15 @@
 -- Each accepted request takes each key along the standard's transitions.
 use Rattle.std.proofs.Common.{◌≡◌, ℕ, ◌+◌, ◌≤◌, List, [], ◌∷◌, ◌++◌, Option, None, Some, sym, subst, arith, inl, inr}
 use Rattle.lifecycle_core.specs.declared.state.State.{State}
-use Rattle.lifecycle_core.specs.declared.dates.Dates.{Dates}
-use Rattle.lifecycle_core.specs.State.{state_at}
-use Rattle.lifecycle_core.specs.Transition.{HasPath}
+use Rattle.lifecycle_core.specs.{declared.dates.Dates.Dates, State.state_at, Transition.HasPath}
 use Rattle.lifecycle_core.proofs.Transitions.{time_leads}
 use Rattle.period_core.specs.Period.{Period}
 use Rattle.register_requests.specs.declared.request.Request.{Request}
 use Rattle.register_core.specs.History.{latest, count, period, dates}
 use Rattle.register_core.specs.Laws.{IsAccepted, HasKey, MovesOnly, state_of_key}
-use Rattle.register_core.proofs.Verdicts.{judged}
-use Rattle.register_core.proofs.Histories.{dates_other, dates_named}
 use Rattle.register_core.proofs.OnKey.{not_after, IsOn, IsMade, IsOther, dates_when_made, given_to, which}
-use Rattle.register_core.proofs.Dating.{filled_keeps}
-use Rattle.register_core.proofs.DateLaws.{freeze}
-use Rattle.register_core.proofs.PathSteps.{then, path_made, path_named}
+use Rattle.register_core.proofs.DateSteps.{filled_keeps, then, path_made, path_named}
+use Rattle.register_core.proofs.{Verdicts.judged, Histories.dates_other, Histories.dates_named, DateLaws.freeze}
 
 -- key k is there: its state before is that of its dates at the latest moment
 from_there : (h : List Request) (k : ℕ) (to : Option State) → k ≤ count h

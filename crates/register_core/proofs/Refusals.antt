@@ -1,14 +1,11 @@
 -- What an accepted request has passed: none of the refusals holds, each by its name.
 use Rattle.std.proofs.Common.{◌≡◌, ℕ, Option, None}
-use Rattle.period_core.specs.declared.key_type.KeyType.{KeyType}
-use Rattle.period_core.specs.Period.{Period}
-use Rattle.register_requests.specs.declared.request.Request.{Request}
+use Rattle.period_core.specs.{declared.key_type.KeyType.KeyType, Period.Period}
 use Rattle.register_requests.specs.declared.version.Version.{Version}
-use Rattle.register_core.specs.declared.view.Held.{Held}
-use Rattle.register_requests.specs.CommandRule.{rule}
-use Rattle.register_core.specs.CustodyRefusal.{custody_refusal_in}
+use Rattle.register_requests.specs.{declared.request.Request.Request, CommandRule.rule}
 use Rattle.register_core.specs.Verdict.{moment_refusal, key_refusal, giver_refusal, state_refusal, freeze_refusal}
 use Rattle.register_core.specs.Verdict.{dates_refusal, occurrence_refusal, limit_refusal, judge_in}
+use Rattle.register_core.specs.{declared.view.Held.Held, CustodyRefusal.custody_refusal_in}
 use Rattle.register_core.proofs.Filling.{past}
 
 pub record IsPassed (version : Version) (last keys : ℕ) (periods : KeyType → Period) (key : Option Held) (q : Request)

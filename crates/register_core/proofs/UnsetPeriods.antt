@@ -1,19 +1,15 @@
 -- Where the office set no period of a type, its keys' dates were all set by the type's own.
 use Rattle.std.proofs.Common.{◌≡◌, ℕ, false, cond, List, [], ◌∷◌, ◌++◌, Option, None, Some, refl, sym, subst, ◌∙◌}
 use Rattle.std.proofs.Common.{append_assoc, arith}
-use Rattle.std.specs.Prelude.{fold}
 use Rattle.std.proofs.lemmas.List.Sums.{fold-append}
-use Rattle.period_core.specs.declared.key_type.KeyType.{KeyType}
-use Rattle.period_core.specs.Period.{Period, periods}
+use Rattle.std.specs.Prelude.{fold}
 use Rattle.period_core.specs.Fitting.{Fits, is_either_use_too_long}
+use Rattle.period_core.specs.{declared.key_type.KeyType.KeyType, Period.Period, Period.periods}
 use Rattle.lifecycle_core.specs.declared.dates.Dates.{Dates}
 use Rattle.register_requests.specs.declared.request.Request.{Request}
-use Rattle.register_core.specs.Effect.{period_after, sets_dates}
-use Rattle.register_core.specs.Fold.{IsLawful}
 use Rattle.register_core.specs.History.{Placed, dates, own_from, period, set_period, type}
-use Rattle.register_core.specs.Laws.{HasKey}
-use Rattle.register_core.proofs.Histories.{concerning}
-use Rattle.register_core.proofs.DateLaws.{all_sound}
+use Rattle.register_core.specs.{Effect.period_after, Effect.sets_dates, Fold.IsLawful, Laws.HasKey}
+use Rattle.register_core.proofs.{Histories.concerning, DateLaws.all_sound}
 
 abbrev step : KeyType → Option Period → Request → Option Period
 step kind before q = period_after kind before q.command

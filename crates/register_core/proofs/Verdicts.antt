@@ -1,16 +1,11 @@
 -- A verdict beside the judgement that it rests on, and beside what is kept.
-use Rattle.std.proofs.Common.{◌≡◌, true, false, List, [], ◌∷◌, Option, None, refl, arith}
-use Rattle.register_core.specs.declared.kept_reply.KeptReply.{KeptReply}
-use Rattle.register_requests.specs.declared.request.Request.{Request}
-use Rattle.register_requests.specs.declared.version.Version.{Version}
-use Rattle.register_requests.specs.declared.request.Command.{Command}
-use Rattle.register_core.specs.declared.reply.Refusal.{Refusal}
-use Rattle.register_core.specs.declared.reply.Reply.{Reply}
-use Rattle.register_core.specs.Answer.{outcome}
-use Rattle.register_core.specs.KeptReply.{kept, kept_under}
-use Rattle.register_requests.specs.Version.{knows}
+use Rattle.std.proofs.Common.{◌≡◌, true, List, [], ◌∷◌, Option, None, refl, arith}
 use Rattle.register_core.specs.Verdict.{Verdict, Accepts, Repeats, Refuses, answer_by, told, verdict, verdict_by}
-use Rattle.register_core.specs.Verdict.{judgement, judgement_in, verdict_in, is_accepted, repeated, unless_kept}
+use Rattle.register_core.specs.Verdict.{judgement, judgement_in, verdict_in, repeated, unless_kept}
+use Rattle.register_core.specs.{declared.kept_reply.KeptReply.KeptReply, declared.reply.Refusal.Refusal}
+use Rattle.register_core.specs.{declared.reply.Reply.Reply, Answer.outcome, KeptReply.kept, KeptReply.kept_under}
+use Rattle.register_requests.specs.declared.request.Command.{Command}
+use Rattle.register_requests.specs.{declared.request.Request.Request, declared.version.Version.Version, Version.knows}
 
 none_by : (j : Option Refusal) → verdict_by j ≡ Accepts → j ≡ None
 none_by j e = grind arith
@@ -40,10 +35,6 @@ judged_in version h q accepted = grind (arith, new_by, none_by)
 pub verdict_is : (h : List Request) (q : Request) (j : Option Refusal) → kept_under q.caller q.number (kept h) ≡ []
     → judgement h q ≡ j → verdict h q ≡ verdict_by j
 verdict_is h q j none is = cc
-
--- a request that was accepted before is not accepted again, by the check
-pub no_longer_accepted : (before : KeptReply) (c : Command) → is_accepted (repeated before c) ≡ false
-no_longer_accepted before c = grind arith
 
 -- where something is, it decides
 pub verdict_again : (h : List Request) (q : Request) (before : KeptReply) (more : List KeptReply)

@@ -1,30 +1,20 @@
 -- What is lawful in a version is lawful in this program's, and answered alike; and what the first version sets.
 use Rattle.std.proofs.Common.{◌≡◌, ℕ, true, List, [], ◌∷◌, ◌++◌, fold, Option, None, Some, Result, refl, sym, ap, ◌∙◌}
 use Rattle.std.proofs.Common.{arith}
-use Rattle.std.specs.Prelude.{IfSome}
-use Rattle.std.specs.List.{AllByRecursion}
 use Rattle.std.proofs.lemmas.List.{map-append}
-use Rattle.period_core.specs.declared.key_type.KeyType.{KeyType}
-use Rattle.period_core.specs.Period.{Period}
-use Rattle.register_requests.specs.declared.request.Request.{Request}
-use Rattle.register_requests.specs.declared.request.Command.{Command}
-use Rattle.register_core.specs.declared.reply.Refusal.{Refusal}
-use Rattle.register_core.specs.declared.reply.Reply.{Reply}
-use Rattle.register_requests.specs.declared.version.Version.{Version}
+use Rattle.std.proofs.lemmas.Bool.Decides.{nat_tests}
+use Rattle.std.specs.{Prelude.IfSome, List.AllByRecursion}
+use Rattle.period_core.specs.{declared.key_type.KeyType.KeyType, Period.Period}
 use Rattle.register_requests.specs.declared.version.Version.TheVariants.{First}
-use Rattle.register_core.specs.declared.view.Held.{Held}
-use Rattle.register_core.specs.Effect.{period_after}
+use Rattle.register_requests.specs.{declared.request.Request.Request, declared.request.Command.Command}
+use Rattle.register_requests.specs.{declared.version.Version.Version, Request.IsRequest, Version.current, Version.knows}
 use Rattle.register_core.specs.Fold.{answers_in, history_after_in, history_in, items, IsLawful, IsLawfulIn}
-use Rattle.register_core.specs.History.{set_period}
-use Rattle.register_core.specs.KeptReply.{reply}
-use Rattle.register_requests.specs.Request.{IsRequest}
 use Rattle.register_core.specs.Settings.{KeyNeed, TypePeriod, all_needs, all_periods, needs_after, periods_after}
 use Rattle.register_core.specs.Verdict.{Accepts, told, judge_in, judgement, verdict, verdict_in}
-use Rattle.register_requests.specs.Version.{current, knows}
-use Rattle.register_core.proofs.Folds.{answers_push}
+use Rattle.register_core.specs.{declared.reply.Refusal.Refusal, declared.reply.Reply.Reply, declared.view.Held.Held}
+use Rattle.register_core.specs.{Effect.period_after, History.set_period, KeptReply.reply}
 use Rattle.register_core.proofs.Lawful.{all_but_last, all_more, holds_in, lawful_after_in, lawful_with}
-use Rattle.register_core.proofs.Verdicts.{judged_in}
-use Rattle.std.proofs.lemmas.Bool.Decides.{nat_tests}
+use Rattle.register_core.proofs.{Folds.answers_push, Verdicts.judged_in}
 
 -- ---- one request
 

@@ -1,20 +1,16 @@
 -- Custodians of keys, and approvals of their destruction, as the accepted requests say. All of it is this register's
 -- own.
-use Rattle.std.specs.Prelude.{ℕ, nat_le, Bool, false, not, ◌&&◌, ◌||◌, List, [], ◌∷◌, ◌++◌, filter, fold, Option}
-use Rattle.std.specs.Prelude.{None, Some, is_none, unwrap_or, if◌then◌else◌}
+use Rattle.std.specs.Prelude.{ℕ, nat_le, Bool, false, not, ◌&&◌, ◌||◌, List, [], ◌∷◌, ◌++◌, filter, fold, Option, None}
+use Rattle.std.specs.Prelude.{Some, is_none, unwrap_or, if◌then◌else◌}
 use Rattle.std.specs.List.{list_any}
-use Rattle.lifecycle_core.specs.State.{state_at}
-use Rattle.lifecycle_core.specs.Reason.{is_compromise}
-use Rattle.register_requests.specs.declared.request.Request.{Request}
+use Rattle.lifecycle_core.specs.{State.state_at, Reason.is_compromise}
 use Rattle.register_requests.specs.declared.request.Command.{Command}
 use Rattle.register_requests.specs.declared.request.Command.TheVariants.{Revoke, AddCustodian, RemoveCustodian, Approve}
 use Rattle.register_requests.specs.declared.request.Command.TheVariants.{Withdraw}
-use Rattle.register_core.specs.declared.view.Held.{Held}
-use Rattle.register_core.specs.KeyName.{KeyName, key_name, is_key_name, is_at, names_at}
-use Rattle.register_core.specs.Names.{sorted_names}
-use Rattle.register_core.specs.Effect.{need_after}
+use Rattle.register_requests.specs.{declared.request.Request.Request, Quorum.min_approvals}
+use Rattle.register_core.specs.KeyName.{KeyName, is_key_name, is_at, names_at}
 use Rattle.register_core.specs.History.{latest, count, own, type, dates, owner}
-use Rattle.register_requests.specs.Quorum.{min_approvals}
+use Rattle.register_core.specs.{declared.view.Held.Held, Names.sorted_names, Effect.need_after}
 
 -- ---- custodians
 

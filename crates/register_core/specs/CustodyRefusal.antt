@@ -2,17 +2,14 @@
 use Rattle.std.specs.Prelude.{ℕ, nat_lt, nat_le, Bool, not, List, [], ◌∷◌, Option, None, Some, length, if◌then◌else◌}
 use Rattle.std.specs.Str.{bytes_eq}
 use Rattle.period_core.specs.Fitting.{first_that_holds}
-use Rattle.register_requests.specs.declared.request.Command.{Command}
 use Rattle.register_requests.specs.declared.request.Command.TheVariants.{Assign, AddCustodian, RemoveCustodian, Approve}
 use Rattle.register_requests.specs.declared.request.Command.TheVariants.{Withdraw, Destroy}
-use Rattle.register_core.specs.declared.view.Held.{Held}
-use Rattle.register_core.specs.declared.reply.Refusal.{Refusal}
-use Rattle.register_core.specs.declared.reply.Refusal.TheVariants.{AlreadyCustodian, NoSuchCustodian}
-use Rattle.register_core.specs.declared.reply.Refusal.TheVariants.{TooManyCustodians, OwnerCustodian, AlreadyApproved}
-use Rattle.register_core.specs.declared.reply.Refusal.TheVariants.{NoApproval, ApprovalsMissing}
-use Rattle.register_requests.specs.Name.{is_among}
 use Rattle.register_requests.specs.declared.version.Version.{Version}
-use Rattle.register_requests.specs.Version.{custodians_of}
+use Rattle.register_requests.specs.{declared.request.Command.Command, Name.is_among, Version.custodians_of}
+use Rattle.register_core.specs.declared.reply.Refusal.TheVariants.{AlreadyCustodian, NoSuchCustodian, TooManyCustodians}
+use Rattle.register_core.specs.declared.reply.Refusal.TheVariants.{OwnerCustodian, AlreadyApproved, NoApproval}
+use Rattle.register_core.specs.declared.reply.Refusal.TheVariants.{ApprovalsMissing}
+use Rattle.register_core.specs.{declared.view.Held.Held, declared.reply.Refusal.Refusal}
 
 -- this refusal, where its condition holds
 abbrev pub refused_if : Bool → Refusal → Option Refusal

@@ -1,31 +1,24 @@
 -- What a decision to accept a request makes of the register, where the key that the request names is known.
 use Rattle.std.specs.Prelude.{◌≡◌, ℕ, ◌+◌, not, List, [], ◌∷◌, ◌++◌, filter, Option, None, Some, IfSome}
-use Rattle.lifecycle_core.specs.declared.row.Row.{Row}
-use Rattle.lifecycle_core.specs.Row.{IsRightAt}
-use Rattle.period_core.specs.declared.key_type.KeyType.{KeyType}
+use Rattle.lifecycle_core.specs.{declared.row.Row.Row, Row.IsRightAt}
 use Rattle.period_core.specs.Period.{Period, period_or_default}
-use Rattle.period_core.specs.Fitting.{dates_with_defaults}
-use Rattle.register_requests.specs.declared.request.Request.{Request}
-use Rattle.register_requests.specs.declared.request.Command.{Command}
+use Rattle.period_core.specs.{declared.key_type.KeyType.KeyType, Fitting.dates_with_defaults}
 use Rattle.register_requests.specs.declared.request.Command.TheVariants.{SetPeriod}
-use Rattle.register_core.specs.declared.reply.Reply.{Reply}
-use Rattle.register_core.specs.declared.view.Held.{Held}
-use Rattle.register_core.specs.declared.view.View.{View}
+use Rattle.register_requests.specs.declared.request.Registration.{Registration}
+use Rattle.register_requests.specs.Subject.{Subject, Makes, Names, NoKey, subject}
+use Rattle.register_requests.specs.{declared.request.Request.Request, declared.request.Command.Command}
 use Rattle.register_core.specs.declared.change.CustodyChange.{CustodyChange}
 use Rattle.register_core.specs.declared.change.CustodyChange.TheVariants.{Kept, CustodianAdded, CustodianRemoved}
 use Rattle.register_core.specs.declared.change.CustodyChange.TheVariants.{Approved, Withdrawn, ApprovalsEnded, NeedSet}
-use Rattle.register_core.specs.declared.change.Change.{Change}
-use Rattle.register_core.specs.declared.change.Change.TheVariants as change
 use Rattle.register_core.specs.History.{set_period, latest, count, period, type}
 use Rattle.register_core.specs.Settings.{KeyNeed, TypePeriod, with_need, with_period, all_needs, all_periods}
 use Rattle.register_core.specs.Custody.{all_custodians, custodians, all_approvals, approvals, need, held}
-use Rattle.register_core.specs.declared.key.Key.{Key}
-use Rattle.register_core.specs.Verdict.{named_key}
-use Rattle.register_requests.specs.declared.request.Registration.{Registration}
-use Rattle.register_requests.specs.Subject.{Subject, Makes, Names, NoKey, subject}
 use Rattle.register_core.specs.Effect.{given_dates, dates_after, owner_after, row_with_dates_at, custody_change}
 use Rattle.register_core.specs.Effect.{needed_period_type}
 use Rattle.register_core.specs.KeyName.{is_key_name, is_at, KeyName, key_name}
+use Rattle.register_core.specs.{declared.reply.Reply.Reply, declared.view.Held.Held, declared.view.View.View}
+use Rattle.register_core.specs.{declared.change.Change.Change, declared.key.Key.Key, Verdict.named_key}
+use Rattle.register_core.specs.declared.change.Change.TheVariants as change
 
 -- what an accepted request makes of the key that it names by this number, by these periods of the types
 abbrev pub change_of_held_key : (KeyType → Period) → ℕ → Held → Request → Change

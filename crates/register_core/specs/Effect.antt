@@ -1,30 +1,23 @@
 -- What a command does to a key: to its type, its owner, its dates and its custody.
 use Rattle.std.specs.Prelude.{ℕ, ◌==◌, Bool, true, false, unwrap_or, ◌&&◌, List, [], Option, None, Some, is_none}
 use Rattle.std.specs.Prelude.{if◌then◌else◌}
-use Rattle.lifecycle_core.specs.declared.dates.Dates.{Dates}
-use Rattle.lifecycle_core.specs.declared.row.Row.{Row}
-use Rattle.lifecycle_core.specs.State.{state_at}
-use Rattle.lifecycle_core.specs.Reason.{is_compromise}
-use Rattle.period_core.specs.declared.key_type.KeyType.{KeyType}
-use Rattle.period_core.specs.KeyType.{key_type_code}
-use Rattle.period_core.specs.Period.{Period}
+use Rattle.lifecycle_core.specs.{declared.dates.Dates.Dates, declared.row.Row.Row, State.state_at, Reason.is_compromise}
 use Rattle.period_core.specs.declared.date_fitting.DateRefusal.{DateRefusal}
-use Rattle.period_core.specs.Fitting.{cut_to_limit, dates_with_defaults, defaulted_dates_cut_to_limits}
-use Rattle.period_core.specs.Fitting.{fill_refusals, trim_refusals}
-use Rattle.register_requests.specs.declared.request.Command.{Command}
+use Rattle.period_core.specs.Fitting.{cut_to_limit, dates_with_defaults, defaulted_dates_cut_to_limits, fill_refusals}
+use Rattle.period_core.specs.Fitting.{trim_refusals}
+use Rattle.period_core.specs.{declared.key_type.KeyType.KeyType, KeyType.key_type_code, Period.Period}
 use Rattle.register_requests.specs.declared.request.Command.TheVariants.{Register, Activate, SetDates, Revoke, Assign}
 use Rattle.register_requests.specs.declared.request.Command.TheVariants.{AddCustodian, RemoveCustodian, Approve}
 use Rattle.register_requests.specs.declared.request.Command.TheVariants.{Withdraw, Destroy, SetQuorum, SetPeriod}
 use Rattle.register_requests.specs.declared.request.Registration.{Registration}
-use Rattle.register_requests.specs.declared.request.Edit.{Edit}
 use Rattle.register_requests.specs.declared.request.Edit.TheVariants.{Keep, Clear, Set}
-use Rattle.register_core.specs.declared.fitting.Fitting.{Fitting}
+use Rattle.register_requests.specs.Subject.{Subject, Makes, Names, NoKey, subject}
+use Rattle.register_requests.specs.{declared.request.Command.Command, declared.request.Edit.Edit}
 use Rattle.register_core.specs.declared.fitting.Fitting.TheVariants.{Filled, Trimmed, Unfitted}
-use Rattle.register_core.specs.declared.view.Held.{Held}
 use Rattle.register_core.specs.declared.change.CustodyChange.{CustodyChange}
 use Rattle.register_core.specs.declared.change.CustodyChange.TheVariants.{Kept, CustodianAdded, CustodianRemoved}
 use Rattle.register_core.specs.declared.change.CustodyChange.TheVariants.{Approved, Withdrawn, ApprovalsEnded, NeedSet}
-use Rattle.register_requests.specs.Subject.{Subject, Makes, Names, NoKey, subject}
+use Rattle.register_core.specs.{declared.fitting.Fitting.Fitting, declared.view.Held.Held}
 
 -- the type of a key after a command about it: a registration gives it, and no other command changes it
 abbrev pub kind_by : KeyType → Subject → KeyType

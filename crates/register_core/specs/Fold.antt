@@ -2,15 +2,11 @@
 -- is no request. The words that end in _in are said of a version, the others of this program's.
 use Rattle.std.specs.Prelude.{◌≡◌, List, [], ◌∷◌, ◌++◌, map, fold, Option, None, Some, Result, Err, if◌then◌else◌}
 use Rattle.std.specs.List.{AllByRecursion}
-use Rattle.register_requests.specs.declared.request.Request.{Request}
-use Rattle.register_core.specs.declared.reply.Reply.{Reply}
-use Rattle.register_core.specs.declared.reply.Refusal.{Refusal}
-use Rattle.register_core.specs.declared.reply.Refusal.TheVariants.{BadLine}
 use Rattle.register_requests.specs.declared.version.Version.{Version}
-use Rattle.register_requests.specs.Request.{IsRequest}
+use Rattle.register_requests.specs.{declared.request.Request.Request, Request.IsRequest, Version.current}
+use Rattle.register_core.specs.declared.reply.Refusal.TheVariants.{BadLine}
 use Rattle.register_core.specs.Verdict.{verdict_in, is_accepted, told}
-use Rattle.register_core.specs.KeptReply.{reply}
-use Rattle.register_requests.specs.Version.{current}
+use Rattle.register_core.specs.{declared.reply.Reply.Reply, declared.reply.Refusal.Refusal, KeptReply.reply}
 
 -- the history after an item: with the request at its end where that is accepted, else as it was
 abbrev pub history_after_in : Version → List Request → Option Request → List Request

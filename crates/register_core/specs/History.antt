@@ -3,12 +3,10 @@
 use Rattle.std.specs.Prelude.{ℕ, List, [], ◌∷◌, ◌++◌, length, fold, Option, None, unwrap_or, if◌then◌else◌}
 use Rattle.std.specs.List.{filter_map}
 use Rattle.lifecycle_core.specs.declared.dates.Dates.{Dates}
-use Rattle.period_core.specs.declared.key_type.KeyType.{KeyType}
 use Rattle.period_core.specs.declared.key_type.KeyType.TheVariants.{DataEncryption}
-use Rattle.period_core.specs.Period.{Period, periods}
-use Rattle.register_requests.specs.declared.request.Request.{Request}
-use Rattle.register_requests.specs.declared.request.Registration.{Registration}
+use Rattle.period_core.specs.{declared.key_type.KeyType.KeyType, Period.Period, Period.periods}
 use Rattle.register_requests.specs.Subject.{registration_by, key_by, is_key, subject}
+use Rattle.register_requests.specs.{declared.request.Request.Request, declared.request.Registration.Registration}
 use Rattle.register_core.specs.Effect.{kind_by, owner_after, period_after, sets_dates, unset_dates, dates_after}
 
 -- the moment of the latest accepted request, 0 before the first

@@ -2,15 +2,10 @@
 -- at.
 use Rattle.std.specs.Prelude.{◌≡◌, nat_lt, List, [], Option, None, IfSome, if◌then◌else◌}
 use Rattle.std.specs.Option.{option_map}
-use Rattle.register_requests.specs.declared.request.Request.{Request}
-use Rattle.register_requests.specs.declared.request.Command.{Command}
-use Rattle.register_core.specs.declared.view.Held.{Held}
-use Rattle.register_core.specs.declared.view.View.{View}
-use Rattle.register_core.specs.Effect.{needed_period_type}
-use Rattle.register_core.specs.History.{latest, count, set_period}
-use Rattle.register_requests.specs.CommandRule.{looks_at_custody, looks_at_need}
-use Rattle.register_requests.specs.Quorum.{min_approvals}
-use Rattle.register_core.specs.Verdict.{named_key}
+use Rattle.register_requests.specs.{declared.request.Request.Request, declared.request.Command.Command}
+use Rattle.register_requests.specs.{CommandRule.looks_at_custody, CommandRule.looks_at_need, Quorum.min_approvals}
+use Rattle.register_core.specs.{declared.view.Held.Held, declared.view.View.View, Effect.needed_period_type}
+use Rattle.register_core.specs.{History.latest, History.count, History.set_period, Verdict.named_key}
 
 -- the key, with both lists left empty where the command looks at neither, and the least need where it does not look at
 -- that

@@ -1,12 +1,9 @@
 -- What is set beside the keys themselves: the usage period of a type, and the approvals that a key needs.
 use Rattle.std.specs.Prelude.{ℕ, ◌==◌, not, List, [], ◌∷◌, ◌++◌, filter, find, fold, Option}
 use Rattle.std.specs.Option.{option_map}
-use Rattle.period_core.specs.declared.key_type.KeyType.{KeyType}
-use Rattle.period_core.specs.KeyType.{key_type_code}
-use Rattle.period_core.specs.Period.{Period}
-use Rattle.register_requests.specs.declared.request.Request.{Request}
-use Rattle.register_requests.specs.declared.request.Command.{Command}
+use Rattle.period_core.specs.{declared.key_type.KeyType.KeyType, KeyType.key_type_code, Period.Period}
 use Rattle.register_requests.specs.declared.request.Command.TheVariants.{SetPeriod, SetQuorum}
+use Rattle.register_requests.specs.{declared.request.Request.Request, declared.request.Command.Command}
 
 -- a type with the period that the office set for it
 pub record TypePeriod : Type 0 where

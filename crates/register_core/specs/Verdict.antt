@@ -1,46 +1,30 @@
 -- What a request comes to after a history: it is accepted, it repeats one that was, or it is refused.
 use Rattle.std.specs.Prelude.{ℕ, nat_lt, nat_le, Bool, true, false, not, ◌&&◌, ◌||◌, List, [], ◌∷◌, codes, Option}
 use Rattle.std.specs.Prelude.{filter, None, Some, is_some, Result, Ok, Err, if◌then◌else◌}
-use Rattle.std.specs.Option.{option_and_then, option_map}
-use Rattle.std.specs.Str.{bytes_eq}
-use Rattle.lifecycle_core.specs.declared.state.State.{State}
-use Rattle.lifecycle_core.specs.declared.state.State.TheVariants.{PreActive}
-use Rattle.lifecycle_core.specs.State.{state_at, is_reached_at}
-use Rattle.register_requests.specs.declared.request.Request.{Request}
-use Rattle.register_requests.specs.declared.request.Command.{Command}
+use Rattle.std.specs.{Option.option_and_then, Option.option_map, Str.bytes_eq}
+use Rattle.lifecycle_core.specs.{declared.state.State.State, declared.state.State.TheVariants.PreActive, State.state_at}
+use Rattle.lifecycle_core.specs.{State.is_reached_at}
 use Rattle.register_requests.specs.declared.request.Command.TheVariants.{Register, SetDates, Revoke}
-use Rattle.register_requests.specs.declared.request.Edit.{Edit}
-use Rattle.register_requests.specs.declared.request.Edit.TheVariants.{Keep}
-use Rattle.register_core.specs.declared.answer.Answer.{Answer}
+use Rattle.register_requests.specs.declared.command_rule.Giver.TheVariants.{Owner, Custodian, Office}
+use Rattle.register_requests.specs.{declared.request.Request.Request, declared.request.Command.Command}
+use Rattle.register_requests.specs.{declared.request.Edit.Edit, declared.request.Edit.TheVariants.Keep, Name.is_among}
+use Rattle.register_requests.specs.{Request.command_text, CommandRule.is_one_of, CommandRule.rule}
+use Rattle.register_requests.specs.{declared.command_rule.Giver.Giver, declared.version.Version.Version}
+use Rattle.register_requests.specs.{Version.current, Version.knows, Subject.named_by, Subject.subject}
 use Rattle.register_core.specs.declared.answer.Answer.TheVariants.{Accepted, Repeated, Refused}
-use Rattle.register_core.specs.declared.view.Held.{Held}
-use Rattle.register_core.specs.declared.view.View.{View}
-use Rattle.register_core.specs.declared.kept_reply.KeptReply.{KeptReply}
-use Rattle.register_core.specs.declared.reply.Reply.{Reply}
-use Rattle.register_core.specs.declared.reply.Refusal.{Refusal}
 use Rattle.register_core.specs.declared.reply.Refusal.TheVariants.{BadLine, RequestReused, MomentBehind, UnknownKey}
 use Rattle.register_core.specs.declared.reply.Refusal.TheVariants.{NotOwner, NotCustodian, WrongState, DateFrozen}
-use Rattle.register_core.specs.declared.reply.Refusal.TheVariants.{DateOrder, PeriodTooLong, DateRange}
-use Rattle.register_core.specs.declared.reply.Refusal.TheVariants.{OccurrenceLater, Full, NotOffice}
-use Rattle.lifecycle_core.specs.declared.dates.Dates.{Dates}
-use Rattle.period_core.specs.declared.date_fitting.DateRefusal.{DateRefusal}
-use Rattle.period_core.specs.declared.date_fitting.DateRefusal.TheVariants as dates
-use Rattle.period_core.specs.Fitting.{first_that_holds}
-use Rattle.period_core.specs.declared.key_type.KeyType.{KeyType}
-use Rattle.period_core.specs.Period.{Period, period_or_default}
-use Rattle.register_requests.specs.Name.{is_among}
+use Rattle.register_core.specs.declared.reply.Refusal.TheVariants.{DateOrder, PeriodTooLong, DateRange, OccurrenceLater}
+use Rattle.register_core.specs.declared.reply.Refusal.TheVariants.{Full, NotOffice}
 use Rattle.register_core.specs.History.{latest, count, period}
 use Rattle.register_core.specs.KeptReply.{reply, is_under, kept}
-use Rattle.register_requests.specs.Request.{command_text}
 use Rattle.register_core.specs.Effect.{asked_dates, dates_before, fitting, fitting_refusals, type_of}
-use Rattle.register_core.specs.Custody.{held}
-use Rattle.register_requests.specs.CommandRule.{is_one_of, rule}
-use Rattle.register_requests.specs.declared.command_rule.Giver.{Giver}
-use Rattle.register_requests.specs.declared.command_rule.Giver.TheVariants.{Owner, Custodian, Office}
-use Rattle.register_core.specs.CustodyRefusal.{custody_refusal_in}
-use Rattle.register_requests.specs.declared.version.Version.{Version}
-use Rattle.register_requests.specs.Version.{current, knows}
-use Rattle.register_requests.specs.Subject.{named_by, subject}
+use Rattle.register_core.specs.{declared.answer.Answer.Answer, declared.view.Held.Held, declared.view.View.View}
+use Rattle.register_core.specs.{declared.kept_reply.KeptReply.KeptReply, declared.reply.Reply.Reply}
+use Rattle.register_core.specs.{declared.reply.Refusal.Refusal, Custody.held, CustodyRefusal.custody_refusal_in}
+use Rattle.period_core.specs.{declared.date_fitting.DateRefusal.DateRefusal, Fitting.first_that_holds}
+use Rattle.period_core.specs.{declared.key_type.KeyType.KeyType, Period.Period, Period.period_or_default}
+use Rattle.period_core.specs.declared.date_fitting.DateRefusal.TheVariants as dates
 
 -- ---- the refusals, each where its condition holds
 

@@ -1,17 +1,14 @@
 //! What a command does to a key, to its dates, its owner and its custody, and what it changes
 //! besides.
 ghost use Rattle.std.specs.Prelude.{◌≡◌, None, Option, Some, IsSome, IfOk, IfErr, OnOk};
-ghost use Rattle.period_core.specs.declared.key_type.KeyType.{KeyType};
-ghost use Rattle.period_core.specs.Fitting.{cut_to_limit};
 ghost use Rattle.period_core.specs.Period.{Period, period_or_default};
-ghost use Rattle.register_core.specs.Effect.{owner_after, unset_dates};
-ghost use Rattle.register_core.specs.Effect.{date_after_edit};
-ghost use Rattle.register_core.specs.Effect.{asked_dates, dates_after};
-ghost use Rattle.register_core.specs.Effect.{dates_before, row_with_dates_at, custody_change};
+ghost use Rattle.period_core.specs.{declared.key_type.KeyType.KeyType, Fitting.cut_to_limit};
+ghost use Rattle.register_core.specs.Effect.{owner_after, unset_dates, date_after_edit};
+ghost use Rattle.register_core.specs.Effect.{asked_dates, dates_after, dates_before};
+ghost use Rattle.register_core.specs.Effect.{row_with_dates_at, custody_change};
 ghost use Rattle.register_core.specs.Decision.{change_by_request, change_without_key};
 ghost use Rattle.register_core.specs.Decision.{change_of_held_key};
-ghost use Rattle.register_core.specs.Within.Decision.{AreDatesAfter};
-ghost use Rattle.register_core.specs.Verdict.{dates_refusal};
+ghost use Rattle.register_core.specs.{Within.Decision.AreDatesAfter, Verdict.dates_refusal};
 
 use crate::change::{Change, CustodyChange};
 use crate::fitting::{Fitting, needed_period_type};
@@ -24,7 +21,7 @@ use period_core::{Period, period_or_default};
 use register_requests::{Command, Edit, Name, Registration, Request};
 
 /// The dates of a key before it is registered: none is set.
-fn unset_dates() -> Dates
+pub fn unset_dates() -> Dates
     ensures { result ≡ unset_dates }
 {
     Dates {

@@ -1,15 +1,11 @@
 -- Files from which a database is adopted have a first page.
-use Rattle.std.proofs.Common.{◌≡◌, ℕ, ◌<◌, ◌∙◌, List, [], length, take, Option, Some, unwrap_or, slice_index}
-use Rattle.std.proofs.Common.{ap, arith, get_or-take, sym}
+use Rattle.std.proofs.Common.{◌≡◌, ℕ, ◌<◌, ◌∙◌, List, [], length, take, Option, Some, unwrap_or, slice_index, ap, arith}
+use Rattle.std.proofs.Common.{get_or-take, sym}
 use Rattle.std.proofs.lemmas.List.{length-take}
 use Rattle.sqlite_pool.proofs.ProbeLemmas.{first_byte}
-use Rattle.sqlite_pool.specs.File.{IsSoundFile, header_in}
-use Rattle.sqlite_pool.specs.Header.{first_page}
-use Rattle.sqlite_pool.specs.Opening.{IsBlankFile}
-use Rattle.sqlite_pool.specs.Stored.{Adopts, sealed}
-use Rattle.sqlite_pool.specs.StoredLaws.{trimmed_some}
-use Rattle.sqlite_wal.proofs.AppendLemmas.{some_value}
-use Rattle.sqlite_wal.proofs.CreateLemmas.{begun_is_not_blank}
+use Rattle.sqlite_pool.specs.{File.IsSoundFile, File.header_in, Header.first_page, Opening.IsBlankFile, Stored.Adopts}
+use Rattle.sqlite_pool.specs.{Stored.sealed, StoredLaws.trimmed_some}
+use Rattle.sqlite_wal.proofs.{AppendLemmas.some_value, CreateLemmas.begun_is_not_blank}
 use Rattle.sqlite_wal.specs.Recovery.{Image, Pages}
 
 -- so they hold something, whatever the page size

@@ -1,36 +1,24 @@
 -- The rows of a history's keys, and those of them that a report lists.
-use Rattle.std.proofs.Common.{◌≡◌, inl, inr, ℕ, ◌+◌, ◌≤◌, ◌==◌, ◌&&◌, ◌||◌, Bool, true, false, List}
-use Rattle.std.proofs.Common.{Option, None, Some, refl, sym, ap, subst, ◌∙◌, arith}
-use Rattle.std.specs.List.{Contains}
+use Rattle.std.proofs.Common.{◌≡◌, inl, inr, ℕ, ◌+◌, ◌≤◌, ◌==◌, ◌&&◌, ◌||◌, Bool, true, false, List, Option, None, Some}
+use Rattle.std.proofs.Common.{refl, sym, ap, subst, ◌∙◌, arith}
 use Rattle.std.proofs.lemmas.Bool.{le-leb, leb-true}
 use Rattle.std.proofs.lemmas.Option.{slice_get_within}
-use Rattle.sql_steps.proofs.Members.{contains_has}
-use Rattle.sql_steps.proofs.SameRows.{map_has}
+use Rattle.std.specs.List.{Contains}
+use Rattle.sql_steps.proofs.{Members.contains_has, SameRows.map_has}
 use Rattle.sqlite_rules.specs.Lists.{Has}
-use Rattle.lifecycle_core.specs.declared.dates.Dates.{Dates}
 use Rattle.lifecycle_core.specs.declared.state.State.TheVariants.{Active}
-use Rattle.lifecycle_core.specs.State.{is_reached_at, state_code}
+use Rattle.lifecycle_core.specs.{declared.dates.Dates.Dates, State.is_reached_at, State.state_code}
 use Rattle.moment_core.specs.Moment.{last_second}
-use Rattle.period_core.specs.declared.key_type.KeyType.{KeyType}
-use Rattle.period_core.specs.Fitting.{is_either_use_too_long}
-use Rattle.period_core.specs.Period.{Period}
-use Rattle.key_rows.specs.declared.key_row.KeyRow.{KeyRow}
-use Rattle.key_rows.specs.DueRows.{HaveOwnNumbers, is_due, is_listed}
-use Rattle.register_core.specs.declared.key.Key.{Key}
-use Rattle.register_requests.specs.declared.request.Request.{Request}
-use Rattle.register_core.specs.Fold.{IsLawful}
+use Rattle.period_core.specs.{declared.key_type.KeyType.KeyType, Fitting.is_either_use_too_long, Period.Period}
+use Rattle.key_rows.specs.{declared.key_row.KeyRow.KeyRow, DueRows.HaveOwnNumbers, DueRows.is_due, DueRows.is_listed}
 use Rattle.register_core.specs.History.{dates, period, set_period, type}
-use Rattle.register_core.specs.Laws.{HasKey}
-use Rattle.register_requests.specs.Request.{IsDate}
-use Rattle.register_core.proofs.DateRanges.{stop_in_range}
-use Rattle.register_core.proofs.UnsetPeriods.{none_long}
-use Rattle.register_store.specs.TableChanges.{key_at}
-use Rattle.register_store.specs.Tables.{numbered}
-use Rattle.register_store.proofs.KeyFound.{at_number}
-use Rattle.register_desk.specs.Register.{key_of, tables}
-use Rattle.register_desk.specs.KeyRows.{all_rows, row_of}
-use Rattle.register_desk.proofs.Grows.{found_key, keys_counted}
-use Rattle.register_desk.proofs.RowScan.{key_next, own_numbers_of}
+use Rattle.register_core.specs.{declared.key.Key.Key, Fold.IsLawful, Laws.HasKey}
+use Rattle.register_requests.specs.{declared.request.Request.Request, Request.IsDate}
+use Rattle.register_core.proofs.{DateRanges.stop_in_range, UnsetPeriods.none_long}
+use Rattle.register_store.specs.{TableChanges.key_at, Tables.numbered}
+use Rattle.register_store.proofs.RowFound.{at_number}
+use Rattle.register_desk.specs.{Register.key_of, Register.tables, KeyRows.all_rows, KeyRows.row_of}
+use Rattle.register_desk.proofs.{Grows.found_key, Grows.keys_counted, RowScan.key_next, RowScan.own_numbers_of}
 
 -- a row is that of a key, under the key's number
 record IsRowOf (h : List Request) (r : KeyRow) : Type 0 where

@@ -1,22 +1,82 @@
--- The life that a call over items was, whatever its reader told.
-use Rattle.std.proofs.Common.{◌≡◌, ℕ, ◌+◌, Bool, true, false, List, [], ◌∷◌, take, Option, None, Some, inl, inr, refl}
-use Rattle.std.proofs.Common.{sym, subst, ◌∙◌, arith}
+-- What a run leaves of its desk.
+use Rattle.std.proofs.Common.{◌≡◌, Bool, true, false, sym, ap, refl, ◌∙◌, ℕ, ◌+◌, List, [], ◌∷◌, take, Option, None}
+use Rattle.std.proofs.Common.{Some, inl, inr, subst, arith}
 use Rattle.std.proofs.lemmas.Option.{slice_get_within}
+use Rattle.sqlite_trees.specs.declared.store.Store as store
+use Rattle.register_desk.specs.declared.end.End.TheVariants.{Memory, Store, Broken, ReadFault, WriteFault, BadHeader}
+use Rattle.register_desk.specs.Desk.{GoesOn, IsWhole, IsBroken, IsClean}
+use Rattle.register_desk.specs.declared.runs.Finish.TheVariants.{Ended, AtEnd}
+use Rattle.register_desk.specs.Run.{LeavesDesk, Answered, RunsOver}
+use Rattle.register_desk.specs.Lives.{after, AreInRange, IsLife, LeavesLife, life_of, DeskLives, MayApplyOneMore}
+use Rattle.register_desk.specs.{declared.desk.Desk.Desk, declared.end.End.End, declared.runs.Finish.Finish}
+use Rattle.register_desk.specs.{RunProgress.StopsBy, Input.AreItems, Register.StandsFor, Register.tables}
 use Rattle.register_store.specs.Schema.{Holds}
 use Rattle.sqlite_trees.specs.declared.store.Store.{Ghosts}
-use Rattle.register_requests.specs.declared.request.Request.{Request}
+use Rattle.register_requests.specs.{declared.request.Request.Request, Request.IsItem, Request.IsRequest}
 use Rattle.register_core.specs.Fold.{history}
-use Rattle.register_requests.specs.Request.{IsItem, IsRequest}
 use Rattle.std.specs.Prelude.{IfSome}
-use Rattle.register_desk.specs.declared.end.End.TheVariants.{Memory, Store, Broken, ReadFault, WriteFault, BadHeader}
-use Rattle.register_desk.specs.declared.runs.Finish.{Finish}
-use Rattle.register_desk.specs.declared.runs.Finish.TheVariants.{AtEnd, Ended}
-use Rattle.register_desk.specs.declared.desk.Desk.{Desk}
-use Rattle.register_desk.specs.Input.{AreItems}
-use Rattle.register_desk.specs.Desk.{IsClean, IsWhole}
-use Rattle.register_desk.specs.Lives.{after, AreInRange, IsLife, LeavesLife, life_of, DeskLives, MayApplyOneMore}
-use Rattle.register_desk.specs.Register.{StandsFor, tables}
-use Rattle.register_desk.specs.Run.{Answered, LeavesDesk, RunsOver}
+
+apart : (b : Bool) → b ≡ true → b ≡ false → ⊥
+apart b is is_not = let both = sym is ∙ is_not in cc
+
+module _ {S : Type 0} (g : store.Ghosts S) where
+  pub still : (desk : Desk S g) → GoesOn desk desk
+  still desk = record { whole = λ whole. whole; broken = λ broken. refl }
+
+  pub goes_then : (old mid new : Desk S g) → GoesOn old mid → GoesOn mid new → GoesOn old new
+  goes_then old mid new one two = record {
+    whole = λ whole. two.whole (one.whole whole);
+    broken = λ broken. let same = one.broken broken in two.broken (ap (λ (d : Desk S g). d.is_broken) same ∙ broken)
+        ∙ same;
+  }
+
+  -- what a desk is it was
+  was_whole : (old mid : Desk S g) → GoesOn old mid → IsWhole mid → (b : Bool) → old.is_broken ≡ b → IsWhole old
+  was_whole old mid goes whole true is =
+      absurd (apart mid.is_broken (ap (λ (d : Desk S g). d.is_broken) (goes.broken is) ∙ is) whole)
+  was_whole old mid goes whole false is = is
+
+  was_broken : (old mid : Desk S g) → GoesOn old mid → IsBroken mid → (b : Bool) → old.is_broken ≡ b → IsBroken old
+  was_broken old mid goes broken true is = is
+  was_broken old mid goes broken false is = absurd (apart mid.is_broken broken (goes.whole is))
+
+  -- a run that nothing of the desk's ended
+  pub leaves_going : (old new : Desk S g) (end : Finish) → (end ≡ Ended Store → ⊥) → (end ≡ Ended Broken → ⊥)
+      → GoesOn old new → LeavesDesk old new end
+  leaves_going old new end no_store no_broken goes = record {
+    whole = λ whole sound. goes.whole whole;
+    store = λ is. absurd (no_store is);
+    broken = goes.broken;
+    was_broken = λ is. absurd (no_broken is);
+  }
+
+  -- a run that an item ended
+  pub leaves_stopped : (old mid new : Desk S g) (end : End) → GoesOn old mid → StopsBy g mid new end
+      → LeavesDesk old new (Ended end)
+  leaves_stopped old mid new Memory goes stops = record {
+    whole = λ whole sound. stops.1;
+    store = λ is. absurd cc;
+    broken = λ broken. absurd (apart old.is_broken broken (was_whole old mid goes stops.0 old.is_broken refl));
+    was_broken = λ is. absurd cc;
+  }
+  leaves_stopped old mid new Store goes stops = record {
+    whole = λ whole sound. absurd (sound refl);
+    store = λ is. (was_whole old mid goes stops.0 old.is_broken refl, stops.1);
+    broken = λ broken. absurd (apart old.is_broken broken (was_whole old mid goes stops.0 old.is_broken refl));
+    was_broken = λ is. absurd cc;
+  }
+  leaves_stopped old mid new Broken goes stops = record {
+    whole = λ whole sound. absurd (apart old.is_broken (was_broken old mid goes stops.0 old.is_broken refl) whole);
+    store = λ is. absurd cc;
+    broken = λ broken. stops.1 ∙ goes.broken broken;
+    was_broken = λ is. was_broken old mid goes stops.0 old.is_broken refl;
+  }
+  leaves_stopped old mid new WriteFault goes stops =
+      leaves_going old new (Ended WriteFault) (λ is. cc) (λ is. cc) (goes_then old mid new goes stops)
+  leaves_stopped old mid new ReadFault goes stops = absurd stops
+  leaves_stopped old mid new BadHeader goes stops = absurd stops
+
+-- ---- The life that a call over items was, whatever its reader told.
 
 -- ---- items of lines are in range
 
@@ -54,20 +114,21 @@ module _ {S : Type 0} (g : Ghosts S) (h : List Request) (items : List (Option Re
   leaves_life : (rest : List ℕ) (end : Finish) (old new : Option (List ℕ)) (kept : Desk S g) → LeavesDesk kept now end
       → RunsOver g h items rest end replies old new now → IsWhole kept → LeavesLife g h items end replies now
   leaves_life rest (AtEnd left) old new kept leaves over whole =
-      none_more (AtEnd left) old new refl (leaves.whole whole (λ e. absurd cc)) over.0
+      none_more (AtEnd left) old new refl (leaves.whole whole (λ e. absurd cc)) (over.whole (λ e. absurd cc))
   leaves_life rest (Ended Memory) old new kept leaves over whole =
-      none_more (Ended Memory) old new refl (leaves.whole whole (λ e. absurd cc)) over
+      none_more (Ended Memory) old new refl (leaves.whole whole (λ e. absurd cc)) (over.whole (λ e. absurd cc))
   leaves_life rest (Ended ReadFault) old new kept leaves over whole =
-      none_more (Ended ReadFault) old new refl (leaves.whole whole (λ e. absurd cc)) over
+      none_more (Ended ReadFault) old new refl (leaves.whole whole (λ e. absurd cc)) (over.whole (λ e. absurd cc))
   leaves_life rest (Ended Broken) old new kept leaves over whole =
       absurd (let broken = leaves.was_broken refl in let both = sym whole ∙ broken in cc)
   leaves_life rest (Ended WriteFault) old new kept leaves over whole =
       left_after (Ended WriteFault) true
-      (record { in_range = in_range; one_more_is = refl; enough = over.some })
-      (leaves.whole whole (λ e. absurd cc)) over.stands
+      (record { in_range = in_range; one_more_is = refl; enough = (over.in_part refl).some })
+      (leaves.whole whole (λ e. absurd cc)) (over.in_part refl).stands
   leaves_life rest (Ended Store) old new kept leaves over whole = λ trees may.
-      let left = over.2 trees may in
-      let next = slice_get_within items replies (Some over.1.request) over.1.next in
+      let left = over.next refl trees may in
+      let stop = over.stops (inl refl) in
+      let next = slice_get_within items replies (Some stop.request) stop.next in
       let n : replies ≡ replies + 0 = omega arith in
       elim left.1 [
         | inl holds ↦ (
@@ -75,7 +136,7 @@ module _ {S : Type 0} (g : Ghosts S) (h : List Request) (items : List (Option Re
           record {
             in_range = in_range;
             one_more_is = tt;
-            enough = omega (arith, over.0.some);
+            enough = omega (arith, (over.whole (λ e. absurd cc)).some);
           },
           left.0,
           subst (λ (n : ℕ). Holds (tables (history h (take n items))) left.0) n
@@ -94,7 +155,7 @@ module _ {S : Type 0} (g : Ghosts S) (h : List Request) (items : List (Option Re
           left.2,
         )
       ]
-  leaves_life rest (Ended BadHeader) old new kept leaves over whole = absurd over
+  leaves_life rest (Ended BadHeader) old new kept leaves over whole = absurd (over.no_header refl)
 
   -- the life that it was
   pub lived : (rest : List ℕ) (end : Finish) (old new : Option (List ℕ)) (kept : Desk S g) → LeavesDesk kept now end

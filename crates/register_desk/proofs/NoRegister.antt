@@ -1,17 +1,12 @@
 -- An empty database shows no register.
 use Rattle.std.proofs.Common.{◌≡◌, List, ℕ, Err, Ok, codes, refl, sym, ap, ◌∙◌}
-use Rattle.sqlite.specs.Listing.{understood, listing_schema}
-use Rattle.sqlite.specs.State.{State, Shown}
-use Rattle.sqlite.specs.Schema.{Schema}
-use Rattle.sqlite_resolve.specs.declared.compiled.Compiled.{Compiled}
-use Rattle.sqlite_resolve.specs.declared.error.CompileError.{CompileError}
+use Rattle.sqlite.specs.{Listing.understood, Listing.listing_schema, State.State, State.Shown, Schema.Schema}
+use Rattle.sqlite_resolve.specs.{declared.compiled.Compiled.Compiled, declared.error.CompileError.CompileError}
 use Rattle.sqlite_tied.specs.Compute.{everything}
 use Rattle.register_requests.specs.declared.version.Version.{Version}
 use Rattle.register_requests.specs.declared.version.Version.TheVariants.{First, Second}
 use Rattle.register_store.specs.CheckedTables.{ArePassed, Passes}
-use Rattle.register_store.specs.OpeningChecks.{checked}
-use Rattle.register_store.specs.Schema.{no_schema}
-use Rattle.register_store.specs.Stored.{Stored}
+use Rattle.register_store.specs.{OpeningChecks.checked, Schema.no_schema, Stored.Stored}
 use Rattle.register_desk.specs.Within.DatabaseFiles.{ShowsNothing}
 
 -- the query that the check of meta makes

@@ -1,31 +1,27 @@
 -- Calls of a desk that only read, and calls that do nothing.
-use Rattle.std.proofs.Common.{◌≡◌, ℕ, ◌+◌, ◌≢◌, ◌≤◌, List, Result, Ok, Err, arith}
-use Rattle.std.proofs.Common.{IsTrue, inl, inr, refl, sym, ap, subst, ◌∙◌}
-use Rattle.std.specs.Prelude.{IfErr, OnOk}
+use Rattle.std.proofs.Common.{ℕ, List, arith, ◌≡◌, ◌+◌, ◌≤◌, Result, Ok, Err, IsTrue, inl, inr, refl, sym, ap, subst}
+use Rattle.std.proofs.Common.{◌∙◌, []}
 use Rattle.std.proofs.lemmas.Result.{on_ok_weaker}
 use Rattle.sqlite_trees.specs.declared.store.Store as store
-use Rattle.sqlite.specs.Effect.{Database}
-use Rattle.sqlite.specs.Held.{Held, state}
-use Rattle.sqlite.specs.Tree.{Trees}
-use Rattle.sqlite.specs.State.{State, HasCleanDisk, IsUnchanged, Survives}
-use Rattle.sqlite.proofs.StateLemmas.{survives_then}
-use Rattle.register_store.specs.declared.counted.Counted.{Counted}
-use Rattle.register_requests.specs.declared.request.Request.{Request}
-use Rattle.register_core.specs.Verdict.{max_keys}
+use Rattle.sqlite.specs.State.{HasCleanDisk, State, IsUnchanged, Survives}
+use Rattle.sqlite.specs.{Effect.Database, Held.Held, Held.state, Tree.Trees}
+use Rattle.register_requests.specs.{declared.request.Request.Request, Version.current}
+use Rattle.register_core.proofs.{FewApprovals.few_approvals, FewLaws.at_most}
+use Rattle.register_store.specs.TableReads.{seen, load_steps, Calls, CallsOver, HoldsWhereOpen, KeepsSight, ReadsBy}
 use Rattle.register_store.specs.declared.error.StoreError.{StoreError}
 use Rattle.register_store.specs.declared.error.StoreError.TheVariants.{Database as Refused, Memory, NoRegister}
-use Rattle.register_store.specs.TableReads.{seen, Calls, HoldsWhereOpen, KeepsSight, ReadsBy}
+use Rattle.register_store.specs.{declared.counted.Counted.Counted, Tables.Tables, Tables.no_rows, Schema.Holds}
+use Rattle.register_store.specs.{Schema.no_schema, TableChanges.AreRightAt, Creation.MakesRegister}
+use Rattle.register_desk.specs.Desk.{IsWhole, Asks, ChangesNothing, Ends, IsClean, IsOpen, KeepsToSteps}
+use Rattle.register_desk.specs.Register.{tables, StandsFor, HasCommitted, IsOver, Sees, Keeps, Leaves}
+use Rattle.register_desk.specs.Within.DeskCalls.{IsOfStore, LooksUp, left_by}
+use Rattle.register_desk.specs.{declared.desk.Desk.Desk, declared.end.End.End, End.end_of_error}
+use Rattle.std.specs.Prelude.{IfErr, OnOk}
+use Rattle.sqlite.proofs.StateLemmas.{survives_then}
+use Rattle.register_core.specs.Verdict.{max_keys}
 use Rattle.register_store.proofs.Readings.{survives_none}
-use Rattle.register_store.specs.Tables.{Tables}
-use Rattle.register_store.specs.Schema.{Holds}
-use Rattle.register_desk.specs.declared.desk.Desk.{Desk}
-use Rattle.register_desk.specs.declared.end.End.{End}
 use Rattle.register_desk.specs.declared.end.End.TheVariants as ends
-use Rattle.register_desk.specs.Desk.{ChangesNothing, Ends, IsClean, IsOpen, IsWhole, KeepsToSteps}
-use Rattle.register_desk.specs.End.{end_of_error}
-use Rattle.register_desk.specs.Within.DeskCalls.{IsOfStore, LooksUp, left_at, left_by}
-use Rattle.register_store.specs.TableChanges.{AreRightAt}
-use Rattle.register_desk.specs.Register.{tables, HasCommitted, IsOver, StandsFor, Sees, Keeps, Leaves}
+use Rattle.sql_steps.specs.Steps.{TransactsBy}
 
 -- after two calls of which neither leaves anything new, a stop leaves what it left
 survives_both : (a b c : State) → Survives a b (λ _. ⊥) → Survives b c (λ _. ⊥) → Survives a c (λ _. ⊥)
@@ -216,12 +212,6 @@ module _ {S : Type 0} (g : store.Ghosts S) where
     opened = two.opened;
   }
 
-  -- where the end is another than 31, or there is none, nothing is changed yet
-  pub looks_still : (old new : Desk S g) (end : End) → ChangesNothing g old (left_at end new) → end ≢ ends.Store
-      → ChangesNothing g old new
-  looks_still old new ends.Store reads other = absurd (other refl)
-  looks_still old new end reads other = reads
-
   ends_left : {T : Type 0} (old mid : Desk S g) (r : Result T End) → IfErr r IsOfStore → IsWhole old → IsWhole mid
       → Ends old (left_by r mid) r
   ends_left old mid (Ok value) of_store whole still = (whole, still)
@@ -248,8 +238,12 @@ module _ {S : Type 0} (g : store.Ghosts S) where
         on_ok_weaker r (λ opened clean. subst (λ c. IsTrue (seen g c).is_open)
         (sym (ap (λ (desk : Desk S g). desk.connection) left ∙ left_connection r mid)) (opened (clean_so clean)))
 
-    pub reads_so : LooksUp g most old mid r → ChangesNothing g old new
-    reads_so looks = subst (ChangesNothing g old) (sym left) looks.reads
+    pub asks_so : IsWhole old → LooksUp g most old mid r → Asks g most old new r
+    asks_so whole looks = record {
+      ends = ends_so looks.ends whole looks.mark;
+      reads = subst (ChangesNothing g old) (sym left) looks.reads;
+      steps = steps_so looks.steps;
+    }
 
 -- ---- look-ups
 
@@ -270,34 +264,30 @@ module _ {S T : Type 0} (g : store.Ghosts S) (Found : Tables → T → Type 0) (
       survives = reads.survives;
     }
 
+    looks : {R : Type 0} (given : Result R End) → IfErr given IsOfStore
+        → ChangesNothing g old (left_by given (called old after within))
+        → OnOk given (IsOpen g (called old after within)) → LooksUp g most old (called old after within) given
+    looks given of_store changes opened =
+        record { mark = refl; ends = of_store; reads = changes; steps = calls; opened = opened }
+
     -- the store refused, or what it gives is none that a register holds
     pub looks_refused : (R : Type 0) → LooksUp {T = R} g most old (called old after within) (Err ends.Store)
-    looks_refused R = record {
-      mark = refl;
-      ends = tt;
-      reads = record {
-        clean = reads.clean;
-        counts = record { latest = refl; keys = refl };
-        rows = λ t sees still clean. absurd cc;
-        survives = reads.survives;
-      };
-      steps = calls;
-      opened = tt;
-    }
+    looks_refused R = looks (Err ends.Store) tt (record {
+      clean = reads.clean;
+      counts = record { latest = refl; keys = refl };
+      rows = λ t sees still clean. absurd cc;
+      survives = reads.survives;
+    }) tt
 
     -- what the store gives is handed on
     pub looks_well : {R : Type 0} (value : T) (x : R) → r ≡ Ok value
         → LooksUp g most old (called old after within) (Ok x)
     looks_well value x is =
         let well = subst (ReadsBy Found (seen g old.connection) (seen g after)) is reads in
-        record {
-          mark = refl;
-          ends = tt;
-          reads = goes_on (λ t sees clean.
-              (well.found clean t (seen_where_open t (seen g old.connection) (sees whole (well.clean clean)))).1);
-          steps = calls;
-          opened = λ clean. (well.opened clean).is_open;
-        }
+        looks (Ok x) tt
+        (goes_on (λ t sees clean.
+        (well.found clean t (seen_where_open t (seen g old.connection) (sees whole (well.clean clean)))).1))
+        (λ clean. (well.opened clean).is_open)
 
     -- so is it where it may be, and else refused
     pub looks_where : {R : Type 0} (value : T) (given : Result R End) → r ≡ Ok value
@@ -312,15 +302,44 @@ module _ {S T : Type 0} (g : store.Ghosts S) (Found : Tables → T → Type 0) (
         → LooksUp {T = R} g most old (called old after within) (Err (end_of_error error))
     looks_failed R Memory is =
         let failed = subst (ReadsBy Found (seen g old.connection) (seen g after)) is reads in
-        record {
-          mark = refl;
-          ends = tt;
-          reads = goes_on (λ t sees clean.
-              (failed.failed clean t (seen_where_open t (seen g old.connection)
-              (sees whole (failed.clean clean)))).unchanged
-              refl);
-          steps = calls;
-          opened = tt;
-        }
+        looks (Err ends.Memory) tt
+        (goes_on (λ t sees clean.
+        (failed.failed clean t (seen_where_open t (seen g old.connection) (sees whole (failed.clean clean)))).unchanged
+        refl)) tt
     looks_failed R (Refused error) is = looks_refused R
     looks_failed R NoRegister is = looks_refused R
+
+-- ---- A desk over tables that were just made.
+
+module _ {S : Type 0} (g : store.Ghosts S) where
+  pub empty_stands : {A E : Type 0} (before : State) (desk : Desk S g) (x : A)
+      → TransactsBy {E = E} MakesRegister before (seen g desk.connection) (Ok x)
+      → Settles g → desk.latest ≡ 0 → desk.keys ≡ 0 → before.now.schema ≡ no_schema → StandsFor g desk []
+  empty_stands before desk x made settled latest_is keys_are empty = record {
+    lawful = record { in_range = tt; accepted = refl };
+    over = record {
+      latest_is = latest_is;
+      keys_are = keys_are;
+      counted = sym keys_are;
+      right = tt;
+      sees = λ whole clean.
+          let did = made.accepted clean in
+          let holds : Holds no_rows (seen g desk.connection).now = (did.0.1.register empty).holds in
+          keeps_committed g settled desk.connection.connection (tables [])
+          (record { is_open = did.3; holds = holds; committed = did.1 });
+    };
+  }
+
+-- ---- How many steps the calls of a desk take.
+
+-- a key of a history has no more than sixteen custodians, and as many approvals
+pub loads_few : {S : Type 0} (g : store.Ghosts S) (number : ℕ) (old : Desk S g) (after : Counted S g) → IsWhole old
+    → (HasCleanDisk (seen g after) → HasCleanDisk (seen g old.connection))
+    → CallsOver g (load_steps number) old.connection after → (h : List Request) → StandsFor g old h
+    → HasCleanDisk (seen g after) → Calls 36 old.connection after
+loads_few g number old after whole early calls h stands clean =
+    let kept = stands.over.sees whole (early clean) in
+    let it = calls clean (tables h) (seen_where_open (tables h) (seen g old.connection) kept) in
+    let custodians = at_most current h stands.lawful number in
+    let approvals = few_approvals current h stands.lawful number in
+    record { risen = it.risen; within = omega (arith, it.within, custodians, approvals) }

@@ -5,25 +5,19 @@ use Rattle.std.proofs.lemmas.Bool.{cases_lt}
 use Rattle.std.proofs.lemmas.List.Elements.{All-cons, All-contains, All-nil, All-tail, All-weaker}
 use Rattle.std.proofs.lemmas.List.Kept.{AllPairs-cons}
 use Rattle.std.proofs.lemmas.Option.{slice_get_past}
-use Rattle.std.specs.List.{All, Contains, enumerate_from}
-use Rattle.std.specs.Option.{option_map}
-use Rattle.sql_steps.proofs.Members.{contains_has, has_contains}
-use Rattle.sql_steps.proofs.SameRows.{has_map, map_has}
+use Rattle.std.specs.{List.All, List.Contains, List.enumerate_from, Option.option_map}
+use Rattle.sql_steps.proofs.{Members.contains_has, Members.has_contains, SameRows.has_map, SameRows.map_has}
 use Rattle.key_rows.specs.declared.key_row.KeyRow.{KeyRow}
 use Rattle.key_rows.specs.DueRows.{AreDue, AreFirstDue, AreInOrder, HaveOwnNumbers, IsBefore, is_due, stop_of}
 use Rattle.key_rows.specs.DueRows.{IsAfter as IsAfterAll}
-use Rattle.key_rows.proofs.DueOrder.{before_trans, rest_in_order}
-use Rattle.key_rows.proofs.DueRows.{all_first, next_first}
+use Rattle.key_rows.proofs.{DueOrder.before_trans, DueOrder.rest_in_order, DueRows.all_first, DueRows.next_first}
 use Rattle.register_core.specs.declared.key.Key.{Key}
-use Rattle.register_store.specs.declared.key_scan.DueCursor.{DueCursor}
-use Rattle.register_store.specs.KeyScan.{ComesAfter, HasNextDue, IsAfterKey}
-use Rattle.register_store.specs.TableChanges.{key_at}
-use Rattle.register_store.specs.Tables.{Tables, numbered}
-use Rattle.register_desk.specs.declared.rows.Scan.{Scan}
+use Rattle.register_store.specs.{declared.key_scan.DueCursor.DueCursor, KeyScan.ComesAfter, KeyScan.HasNextDue}
+use Rattle.register_store.specs.{KeyScan.IsAfterKey, TableChanges.key_at, Tables.Tables, Tables.numbered}
 use Rattle.register_desk.specs.declared.rows.Scan.TheVariants.{ByNumber, ByStop}
-use Rattle.register_desk.specs.KeyRows.{AreAll, AreSoFar, IsAfterRows, due_until, first_cursor}
-use Rattle.register_desk.specs.Within.KeyRows.{HasNextRow, after_row}
-use Rattle.register_desk.specs.KeyRows.{last_cursor, cursor_of_row, row_of, rows_of}
+use Rattle.register_desk.specs.KeyRows.{AreAll, AreSoFar, IsAfterRows, due_until, first_cursor, last_cursor}
+use Rattle.register_desk.specs.KeyRows.{cursor_of_row, row_of, rows_of}
+use Rattle.register_desk.specs.{declared.rows.Scan.Scan, Within.KeyRows.HasNextRow, Within.KeyRows.after_row}
 
 -- ---- the first of a list
 

@@ -1,33 +1,24 @@
 -- Items that came one after the other: what was answered so far, and what a call that answers them comes to.
 use Rattle.std.proofs.Common.{◌≡◌, ℕ, ◌+◌, ◌≤◌, Bool, inl, inr, List, [], ◌∷◌, ◌++◌, length, take, Option, Some, refl}
 use Rattle.std.proofs.Common.{sym, ap, subst, ◌∙◌, arith, append_assoc}
-use Rattle.std.specs.Prelude.{replicate, IfSome}
-use Rattle.std.specs.Io.KnownBytes.{Appends}
 use Rattle.std.proofs.lemmas.List.{append-nil, length-append, length-replicate, length-take}
+use Rattle.std.specs.{Prelude.replicate, Prelude.IfSome, Io.KnownBytes.Appends}
 use Rattle.sqlite_trees.specs.declared.store.Store.{Ghosts}
-use Rattle.register_requests.specs.declared.request.Request.{Request}
-use Rattle.register_requests.specs.Request.{IsRequest}
+use Rattle.register_requests.specs.{declared.request.Request.Request, Request.IsRequest}
 use Rattle.register_core.proofs.Lawful.{all_more}
-use Rattle.register_desk.specs.declared.end.End.{End}
 use Rattle.register_desk.specs.declared.end.End.TheVariants.{Memory, Store, Broken, ReadFault, WriteFault, BadHeader}
-use Rattle.register_desk.specs.declared.runs.Finish.{Finish}
 use Rattle.register_desk.specs.declared.runs.Finish.TheVariants.{AtEnd, Ended}
-use Rattle.register_desk.specs.declared.runs.Outcome.{Outcome}
-use Rattle.streams.specs.declared.watched.Watched.{Watched}
-use Rattle.register_desk.specs.declared.desk.Desk.{Desk}
 use Rattle.register_desk.specs.Desk.{GoesOn, IsBroken, IsClean}
 use Rattle.register_desk.specs.Items.{IsOfReading, ServedInPart, ServedItems, Serves}
-use Rattle.register_desk.specs.Within.Items.{AreAhead}
-use Rattle.register_desk.specs.Lives.{DeskLives}
-use Rattle.register_desk.specs.Register.{StandsFor}
 use Rattle.register_desk.specs.Run.{AreFlushed, Answered, IsRequestNext, LeavesDesk, RefusedItems, RunsBroken}
 use Rattle.register_desk.specs.Run.{RunsItems, RunsOver, LeavesWriter, Wrote, max_idle_turns}
 use Rattle.register_desk.specs.RunProgress.{LeavesItem, ServesItem}
+use Rattle.register_desk.specs.{declared.end.End.End, declared.runs.Finish.Finish, declared.runs.Outcome.Outcome}
+use Rattle.register_desk.specs.{declared.desk.Desk.Desk, Within.Items.AreAhead, Lives.DeskLives, Register.StandsFor}
+use Rattle.streams.specs.declared.watched.Watched.{Watched}
 use Rattle.register_desk.proofs.Answering.{answered_more, answered_none, appends_none, appends_then, prefix_refused}
-use Rattle.register_desk.proofs.Answering.{prefix_so, stopped_broken, stopped_so, there}
-use Rattle.register_desk.proofs.Found.{leaves_next}
-use Rattle.register_desk.proofs.Goings.{leaves_going, still}
-use Rattle.register_desk.proofs.Lived.{lived}
+use Rattle.register_desk.proofs.Answering.{over_all, over_unread, prefix_so, stopped_broken, stopped_so, there}
+use Rattle.register_desk.proofs.{Found.leaves_next, Lived.leaves_going, Lived.still, Lived.lived}
 
 pub ended_is : (one other : End) → Ended one ≡ Ended other → one ≡ other
 ended_is one other same = cc
@@ -92,17 +83,6 @@ module _ {S : Type 0} (g : Ghosts S) where
   was_clean kept now old new item WriteFault part leaves clean = leaves.clean clean
   was_clean kept now old new item ReadFault part leaves clean = absurd leaves
   was_clean kept now old new item BadHeader part leaves clean = absurd leaves
-
-  -- what could not be read ended the call after the items that were answered
-  unread_over : (h : List Request) (replies : ℕ) (old new : Option (List ℕ)) (now : Desk S g) (end : End)
-      (items : List (Option Request)) (rest : List ℕ) → IsOfReading end → Answered g h items replies old new now
-      → RunsOver g h items rest (Ended end) replies old new now
-  unread_over h replies old new now Memory items rest of_reading answered = answered
-  unread_over h replies old new now ReadFault items rest of_reading answered = answered
-  unread_over h replies old new now Store items rest of_reading answered = absurd of_reading
-  unread_over h replies old new now Broken items rest of_reading answered = absurd of_reading
-  unread_over h replies old new now WriteFault items rest of_reading answered = absurd of_reading
-  unread_over h replies old new now BadHeader items rest of_reading answered = absurd of_reading
 
 unread_broken : (all : List (Option Request)) (rest : List ℕ) (replies : ℕ) (old new : Option (List ℕ)) (end : End)
     → IsOfReading end → RefusedItems all replies old new → RunsBroken all rest (Ended end) replies old new
@@ -224,12 +204,13 @@ module _ {P : Type 0} {Came : P → P → List (Option Request) → Type 0} {End
   lives_so h stands clean (AtEnd rest) leaves serves =
       let served = serves.to.served in
       lived g h served.items served.in_range replies now clean (replicate rest 0) (AtEnd rest) old new kept leaves
-      (alone served h stands clean, sym served.counted, sym (length-replicate rest 0))
+      (over_all g h served.items (replicate rest 0) rest replies old new now (alone served h stands clean)
+      (sym served.counted) (sym (length-replicate rest 0)))
   lives_so h stands clean (Ended end) leaves serves = elim serves.to [
     | inl unread ↦
         let served = unread.served in
         lived g h served.items served.in_range replies now clean [] (Ended end) old new kept leaves
-        (unread_over g h replies old new now end served.items [] unread.of_reading (alone served h stands clean))
+        (over_unread g h served.items [] end replies old new now unread.of_reading (alone served h stands clean))
     | inr it ↦
         let served = it.served in
         lived g h (served.items ++ it.item ∷ [])
@@ -257,10 +238,11 @@ module _ {P : Type 0} {Came : P → P → List (Option Request) → Type 0} {End
   over_so (AtEnd left) serves h stands clean =
       let served = serves.to.served in
       let whole = known.whole serves.to.place last served.items left served.came serves.to.ends in
-      (prefix served known h stands clean, sym served.counted ∙ ap length (sym whole.0), whole.1)
+      over_all g h all rest left replies old new now (prefix served known h stands clean)
+      (sym served.counted ∙ ap length (sym whole.0)) whole.1
   over_so (Ended end) serves h stands clean = elim serves.to [
     | inl unread ↦
-        unread_over g h replies old new now end all rest unread.of_reading (prefix unread.served known h stands clean)
+        over_unread g h all rest end replies old new now unread.of_reading (prefix unread.served known h stands clean)
     | inr it ↦
         let next = next_so end it in
         stopped_so g all it.served.items replies it.served.counted it.item next.0 next.1 old it.so_far new kept it.mid

@@ -1,39 +1,84 @@
--- What the tables of a lawful history hold is in its ranges.
-use Rattle.std.proofs.Common.{◌≡◌, ◌⊎◌, inl, inr, ℕ, zero, suc, ◌+◌, ◌≤◌, Bool, true, false, not, cond, List, [], ◌∷◌}
-use Rattle.std.proofs.Common.{◌++◌, length, map, filter, Option, None, Some, refl, sym, ap, subst, ◌∙◌, arith}
-use Rattle.std.specs.Prelude.{fold, filter_map}
-use Rattle.std.specs.List.{AllByRecursion, cons_option}
+-- What the office set for the types, one after the other.
+use Rattle.std.proofs.Common.{◌≡◌, ◌≢◌, inl, inr, ℕ, ◌+◌, ◌≤◌, nat_le, ◌==◌, Bool, true, false, cond, List, Option}
+use Rattle.std.proofs.Common.{refl, sym, ap, ◌∙◌, arith, zero, suc, [], ◌∷◌, ◌++◌, filter, None, Some, subst}
+use Rattle.std.proofs.lemmas.Bool.{leb-true, leb-false}
+use Rattle.std.proofs.lemmas.Bool.Decides.{eqb_tells}
 use Rattle.std.proofs.lemmas.Option.{slice_get_cases}
+use Rattle.std.specs.{Prelude.find, Prelude.fold, Option.option_map, List.AllByRecursion, List.cons_option}
+use Rattle.period_core.specs.declared.key_type.KeyType.TheVariants.{DataEncryption, Authentication, KeyWrapping}
+use Rattle.period_core.specs.declared.key_type.KeyType.TheVariants.{PrivateSignature, PrivateAuthentication}
+use Rattle.period_core.specs.declared.key_type.KeyType.TheVariants.{PrivateTransport, Master}
+use Rattle.period_core.specs.{declared.key_type.KeyType.KeyType, declared.office.OfficePeriods.OfficePeriods}
+use Rattle.period_core.specs.{KeyType.key_type_code, Office.set_in, Office.with_set, Period.Period}
+use Rattle.period_core.proofs.{Types.of_each_type, Sets.set_then}
+use Rattle.register_core.specs.Settings.{TypePeriod, period_at, KeyNeed, needs_after, periods_after}
+use Rattle.register_core.specs.Custody.{added_by, all_custodians, approved_by, approvals_from}
+use Rattle.register_core.specs.Within.Custody.{custodian_of, approval_of}
+use Rattle.register_core.specs.{Effect.owner_after, Fold.IsLawful, History.owner, History.registrations}
+use Rattle.register_core.specs.{KeptReply.IsKeptReply, KeptReply.kept, Laws.HasKey, Laws.IsKeptIn, Verdict.judgement}
+use Rattle.register_store.specs.Tables.{Tables, IsKey, IsNamed, IsSetNeed, IsSetPeriod}
 use Rattle.sqlite_trees.proofs.ListLemmas.{all-slice_get}
 use Rattle.moment_core.specs.Moment.{IsMoment}
-use Rattle.register_requests.specs.declared.request.Request.{Request}
-use Rattle.register_requests.specs.declared.request.Command.{Command}
-use Rattle.register_requests.specs.Request.{IsRequest, IsCommand}
-use Rattle.register_requests.specs.Name.{IsName}
-use Rattle.register_requests.specs.Purpose.{IsPurpose}
 use Rattle.register_requests.specs.declared.request.Registration.{Registration}
-use Rattle.register_requests.specs.Subject.{named, subject, Makes}
-use Rattle.register_requests.specs.Within.Subject.{registration_of}
-use Rattle.register_requests.proofs.Subjects.{is_registration}
-use Rattle.register_core.specs.Custody.{added_by, all_custodians, all_approvals, approved_by, approvals_from}
-use Rattle.register_core.specs.Within.Custody.{custodian_of, approval_of}
-use Rattle.register_core.specs.Effect.{owner_after}
-use Rattle.register_core.specs.Fold.{IsLawful}
-use Rattle.register_core.specs.History.{owner, registrations}
-use Rattle.register_core.specs.KeptReply.{IsKeptReply, kept}
-use Rattle.register_core.specs.Laws.{HasKey, IsKeptIn}
-use Rattle.register_core.specs.Settings.{KeyNeed, TypePeriod, needs_after, periods_after}
-use Rattle.register_core.specs.Verdict.{judgement}
-use Rattle.register_core.proofs.DateRanges.{dates_in_range}
+use Rattle.register_requests.specs.{Subject.subject, Subject.Makes, declared.request.Request.Request}
+use Rattle.register_requests.specs.{declared.request.Command.Command, Request.IsRequest, Request.IsCommand, Name.IsName}
+use Rattle.register_requests.specs.{Purpose.IsPurpose, Within.Subject.registration_of}
 use Rattle.register_core.proofs.Histories.{owner_made, owner_named, owner_other}
-use Rattle.register_core.proofs.Kept.{all_kept}
 use Rattle.register_core.proofs.Lawful.{all_but_last, all_more, all_weaker, lawful_holds}
-use Rattle.register_core.proofs.OnKey.{which}
-use Rattle.register_store.specs.Tables.{IsKey, IsNamed, IsSetNeed, IsSetPeriod}
+use Rattle.register_core.proofs.{DateRanges.dates_in_range, Kept.all_kept, OnKey.which}
 use Rattle.register_store.proofs.Ranged.{AreInRange}
-use Rattle.register_desk.specs.Register.{key_of, tables}
-use Rattle.register_desk.specs.Shown.{purpose}
+use Rattle.register_desk.specs.{Register.key_of, Register.tables, Shown.purpose}
 use Rattle.register_desk.proofs.Grows.{each_key, purpose_at, purpose_in}
+
+-- for the first so many types this is what is set
+abbrev pub AreSet : Tables → ℕ → OfficePeriods → Type 0
+AreSet t n set = (kind : KeyType) → key_type_code kind ≤ n → set_in set kind ≡ period_at kind t.periods
+
+-- codes tell types apart
+same_code : (kind other : KeyType) (sets : List TypePeriod) → key_type_code other ≡ key_type_code kind
+    → period_at kind sets ≡ period_at other sets
+same_code kind other sets same =
+    ap (λ (code : ℕ). option_map (λ (set : TypePeriod). set.period)
+    (find (λ (set : TypePeriod). key_type_code set.kind == code) sets)) (sym same)
+
+pub none_yet : (t : Tables) (set : OfficePeriods) → AreSet t 0 set
+none_yet t set DataEncryption low = absurd (omega (arith, low))
+none_yet t set Authentication low = absurd (omega (arith, low))
+none_yet t set KeyWrapping low = absurd (omega (arith, low))
+none_yet t set PrivateSignature low = absurd (omega (arith, low))
+none_yet t set PrivateAuthentication low = absurd (omega (arith, low))
+none_yet t set PrivateTransport low = absurd (omega (arith, low))
+none_yet t set Master low = absurd (omega (arith, low))
+
+-- one that is not the next stands before it
+before_next : (n code next : ℕ) → next ≡ n + 1 → code ≤ n + 1 → code ≢ next → code ≤ n
+before_next n code next is low apart = by (nat_le code n) refl
+  where
+    by : (b : Bool) → nat_le code n ≡ b → code ≤ n
+    by true e = leb-true code n e
+    by false e = absurd (apart (let above = leb-false code n e in omega (arith, above, low, is)))
+
+pub one_more_set : (t : Tables) (n : ℕ) (set : OfficePeriods) (kind : KeyType) (period : Option Period)
+    → key_type_code kind ≡ n + 1 → period ≡ period_at kind t.periods → AreSet t n set
+    → AreSet t (n + 1) (with_set set kind period)
+one_more_set t n set kind period next is those other low =
+    set_then set kind period other ∙ elim (eqb_tells (key_type_code other) (key_type_code kind)) [
+      | inl both ↦
+          ap (λ b. cond b period (set_in set other)) both.0 ∙ is ∙ same_code kind other t.periods both.1
+      | inr both ↦
+          ap (λ b. cond b period (set_in set other)) both.0
+          ∙ those other (before_next n (key_type_code other) (key_type_code kind) next low both.1)
+    ]
+
+pub all_set : (t : Tables) (set : OfficePeriods) → AreSet t 7 set → (kind : KeyType)
+    → set_in set kind ≡ period_at kind t.periods
+all_set t set those =
+    of_each_type (λ kind. set_in set kind ≡ period_at kind t.periods)
+    (those DataEncryption (omega arith)) (those Authentication (omega arith)) (those KeyWrapping (omega arith))
+    (those PrivateSignature (omega arith)) (those PrivateAuthentication (omega arith))
+    (those PrivateTransport (omega arith)) (those Master (omega arith))
+
+-- ---- What the tables of a lawful history hold is in its ranges.
 
 abbrev All : {X : Type 0} → (X → Type 0) → List X → Type 0
 All P xs = AllByRecursion P xs
@@ -94,20 +139,17 @@ periods_by : (sets : List TypePeriod) (c : Command) → IsCommand c → All IsSe
     → All IsSetPeriod (periods_after sets c)
 periods_by sets c is all = grind (arith, all_more, left)
 
-periods_from : (h : List Request) (sets : List TypePeriod) → All IsSetPeriod sets → All IsRequest h
-    → All IsSetPeriod (fold (λ (before : List TypePeriod) (q : Request). periods_after before q.command) sets h)
-periods_from [] sets each all = each
-periods_from (q ∷ later) sets each all =
-    periods_from later (periods_after sets q.command) (periods_by sets q.command all.0.command each) all.1
-
 needs_by : (sets : List KeyNeed) (c : Command) → IsCommand c → All IsSetNeed sets → All IsSetNeed (needs_after sets c)
 needs_by sets c is all = grind (arith, all_more, left)
 
-needs_from : (h : List Request) (sets : List KeyNeed) → All IsSetNeed sets → All IsRequest h
-    → All IsSetNeed (fold (λ (before : List KeyNeed) (q : Request). needs_after before q.command) sets h)
-needs_from [] sets each all = each
-needs_from (q ∷ later) sets each all =
-    needs_from later (needs_after sets q.command) (needs_by sets q.command all.0.command each) all.1
+-- what a command keeps of all that is set, a history keeps
+module _ {X : Type 0} (Is : X → Type 0) (after : List X → Command → List X)
+    (keeps : (sets : List X) (c : Command) → IsCommand c → All Is sets → All Is (after sets c)) where
+  set_from : (h : List Request) (sets : List X) → All Is sets → All IsRequest h
+      → All Is (fold (λ (before : List X) (q : Request). after before q.command) sets h)
+  set_from [] sets each all = each
+  set_from (q ∷ later) sets each all =
+      set_from later (after sets q.command) (keeps sets q.command all.0.command each) all.1
 
 -- ---- keys
 
@@ -169,6 +211,6 @@ module _ (h : List Request) (lawful : IsLawful h) where
     custodians = custodians_named h lawful.in_range;
     approvals = approvals_named [] h lawful.in_range;
     requests = all_weaker (IsKeptIn h) IsKeptReply (λ k within. within.in_range) (kept h) (all_kept h lawful);
-    periods = periods_from h [] tt lawful.in_range;
-    needs = needs_from h [] tt lawful.in_range;
+    periods = set_from IsSetPeriod periods_after periods_by h [] tt lawful.in_range;
+    needs = set_from IsSetNeed needs_after needs_by h [] tt lawful.in_range;
   }

@@ -2,24 +2,16 @@
 use Rattle.std.specs.Prelude.{◌≡◌, ◌≢◌, ◌⊎◌, ◌<◌, ◌≤◌, ℕ, Bool, true, false, List, [], ◌∷◌, Option, None, Some, Result}
 use Rattle.std.specs.Prelude.{Ok, Err, IfErr, IfOk, IsTrue, MatchResult, OnErr}
 use Rattle.sqlite_trees.specs.declared.store.Store.{Ghosts}
-use Rattle.sqlite.specs.State.{HasCleanDisk, Survives}
-use Rattle.sqlite.specs.Held.{Held as Connection}
-use Rattle.register_core.specs.declared.answer.Answer.{Answer}
+use Rattle.sqlite.specs.{State.HasCleanDisk, State.Survives, Held.Held as Connection}
 use Rattle.register_core.specs.declared.answer.Answer.TheVariants.{Accepted, Repeated, Refused}
-use Rattle.register_core.specs.Answer.{UnlessAccepted}
-use Rattle.register_core.specs.declared.kept_reply.KeptReply.{KeptReply}
-use Rattle.register_requests.specs.declared.request.Request.{Request}
-use Rattle.register_core.specs.Fold.{history}
-use Rattle.register_core.specs.Verdict.{answer, answer_by}
-use Rattle.register_requests.specs.Request.{IsRequest}
-use Rattle.register_store.specs.Tables.{Tables}
-use Rattle.register_store.specs.TableReads.{Calls, HasRequest, seen}
+use Rattle.register_core.specs.{declared.kept_reply.KeptReply.KeptReply, Verdict.answer, Verdict.answer_by}
+use Rattle.register_core.specs.{declared.answer.Answer.Answer, Answer.UnlessAccepted, Fold.history}
+use Rattle.register_requests.specs.{declared.request.Request.Request, Request.IsRequest}
+use Rattle.register_store.specs.{Tables.Tables, TableReads.Calls, TableReads.HasRequest, TableReads.seen}
 use Rattle.register_desk.specs.TablesView.{judgement_over, reply_over, tables_after, verdict_over, with_accepted}
-use Rattle.register_desk.specs.declared.desk.Desk.{Desk}
-use Rattle.register_desk.specs.declared.desk.DeskMark.{DeskMark}
-use Rattle.register_desk.specs.declared.end.End.{End}
 use Rattle.register_desk.specs.declared.end.End.TheVariants.{Memory, Store, Broken, ReadFault, WriteFault, BadHeader}
 use Rattle.register_desk.specs.Register.{IsOver, Sees, Leaves, LeavesOneOf, LeavesEitherOf, StandsFor}
+use Rattle.register_desk.specs.{declared.desk.Desk.Desk, declared.desk.DeskMark.DeskMark, declared.end.End.End}
 
 module _ {S : Type 0} {g : Ghosts S} where
   -- The database has refused this desk no call.
@@ -142,6 +134,13 @@ pub record ChangesNothing {S : Type 0} (g : Ghosts S) (old new : Desk S g) : Typ
   pub counts : KeepsCounts old new
   pub rows : (t : Tables) → Sees g t old → Sees g t new
   pub survives : Survives (seen g old.connection) (seen g new.connection) (λ _. ⊥)
+
+-- A call that asks: it changes nothing, an answer leaves a whole desk and an end what it says, and the database takes at
+-- most so many steps for it where the desk stands for a history.
+pub record Asks {S T : Type 0} (g : Ghosts S) (most : ℕ) (old new : Desk S g) (result : Result T End) : Type 0 where
+  pub ends : Ends old new result
+  pub reads : ChangesNothing g old new
+  pub steps : KeepsToSteps g most old new
 
 -- The answer to the request over a history is the verdict, and then the desk stands for the history with the request
 -- at its end, if that was accepted.

@@ -6,12 +6,8 @@ use Rattle.sqlite.specs.Files.{over_files}
 use Rattle.memory_disk.specs.declared.MemoryDisk.{MemoryDisk}
 use Rattle.memory_disk.specs.contracts.MemoryDiskDisk.TheImpl as disk
 use Rattle.register_requests.specs.declared.request.Request.{Request}
-use Rattle.register_desk.specs.declared.desk.Desk.{Desk}
-use Rattle.register_desk.specs.declared.end.End.TheVariants.{Broken}
-use Rattle.register_desk.specs.declared.runs.Finish.TheVariants.{Ended}
-use Rattle.register_desk.specs.declared.runs.Outcome.{Outcome}
-use Rattle.register_desk.specs.Input.{HasItems}
-use Rattle.register_desk.specs.Run.{RunsOver}
+use Rattle.register_desk.specs.{declared.end.End.TheVariants.Broken, declared.runs.Finish.TheVariants.Ended}
+use Rattle.register_desk.specs.{declared.desk.Desk.Desk, declared.runs.Outcome.Outcome, Input.HasItems, Run.RunsOver}
 
 -- A database file in memory, with its log.
 abbrev pub MemoryStore : Type 0

@@ -2,24 +2,17 @@
 -- one. What comes from one place of an input to another is its source's to say.
 use Rattle.std.specs.Prelude.{◌≡◌, ◌⊎◌, ℕ, List, [], ◌∷◌, ◌++◌, length, Option, IfSome}
 use Rattle.sqlite_trees.specs.declared.store.Store.{Ghosts}
-use Rattle.register_requests.specs.declared.request.Request.{Request}
-use Rattle.register_requests.specs.Request.{IsRequest}
-use Rattle.register_desk.specs.declared.desk.Desk.{Desk}
-use Rattle.register_desk.specs.declared.end.End.{End}
-use Rattle.register_desk.specs.declared.end.End.TheVariants.{Memory, Store, Broken, ReadFault, WriteFault, BadHeader}
-use Rattle.register_desk.specs.declared.runs.Finish.{Finish}
+use Rattle.register_requests.specs.{declared.request.Request.Request, Request.IsRequest}
+use Rattle.register_desk.specs.declared.end.End.TheVariants.{Memory, ReadFault}
 use Rattle.register_desk.specs.declared.runs.Finish.TheVariants.{AtEnd, Ended}
-use Rattle.register_desk.specs.Lives.{AreInRange}
-use Rattle.register_desk.specs.RunProgress.{AnsweredItems, LeavesItem}
+use Rattle.register_desk.specs.{declared.desk.Desk.Desk, declared.end.End.End, declared.runs.Finish.Finish}
+use Rattle.register_desk.specs.{Lives.AreInRange, RunProgress.AnsweredItems, RunProgress.LeavesItem}
 
 -- a source ends for want of memory or by a fault of what it reads
 abbrev pub IsOfReading : End → Type 0
 IsOfReading Memory = Unit {0}
 IsOfReading ReadFault = Unit {0}
-IsOfReading Store = ⊥
-IsOfReading Broken = ⊥
-IsOfReading WriteFault = ⊥
-IsOfReading BadHeader = ⊥
+IsOfReading end = ⊥
 
 -- What came from one place of an input to another, whether nothing more came, and why nothing could be read.
 module _ {P : Type 0} (Came : P → P → List (Option Request) → Type 0) (Ends : P → P → ℕ → Type 0)

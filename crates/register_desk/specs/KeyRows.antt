@@ -1,17 +1,13 @@
 -- Keys that are given one at a time: all of them by number, or those that are due for rotation.
 use Rattle.std.specs.Prelude.{◌≡◌, ℕ, List, [], ◌∷◌, ◌++◌, length, map, take, Option, None, Some}
 use Rattle.sqlite_trees.specs.declared.store.Store.{Ghosts}
-use Rattle.key_rows.specs.declared.key_row.KeyRow.{KeyRow}
-use Rattle.key_rows.specs.DueRows.{AreDue, AreFirstDue, stop_of}
+use Rattle.key_rows.specs.{declared.key_row.KeyRow.KeyRow, DueRows.AreDue, DueRows.AreFirstDue, DueRows.stop_of}
 use Rattle.register_core.specs.declared.key.Key.{Key}
 use Rattle.register_requests.specs.declared.request.Request.{Request}
-use Rattle.register_store.specs.declared.key_scan.DueCursor.{DueCursor}
-use Rattle.register_store.specs.Tables.{Tables, numbered}
-use Rattle.register_desk.specs.declared.rows.KeyRows.{KeyRows}
+use Rattle.register_store.specs.{declared.key_scan.DueCursor.DueCursor, Tables.Tables, Tables.numbered}
 use Rattle.register_desk.specs.declared.rows.Progress.TheVariants.{Going, Ended, Broken}
-use Rattle.register_desk.specs.declared.rows.Scan.{Scan}
 use Rattle.register_desk.specs.declared.rows.Scan.TheVariants.{ByNumber, ByStop}
-use Rattle.register_desk.specs.Register.{tables}
+use Rattle.register_desk.specs.{declared.rows.KeyRows.KeyRows, declared.rows.Scan.Scan, Register.tables}
 
 -- ---- the rows of tables
 

@@ -1,36 +1,23 @@
 -- Why a database is not taken as a register, with the name of each cause. They are this register's own.
 use Rattle.std.specs.Prelude.{◌≡◌, ◌⊎◌, ℕ, false, List, [], codes, Result, IfOk, IfErr, IsTrue}
 use Rattle.sqlite_trees.specs.declared.store.Store.{Ghosts}
-use Rattle.sqlite.specs.Effect.{Database}
-use Rattle.sqlite.specs.Held.{Held as Connection, state}
 use Rattle.sqlite.specs.State.{State, HasCleanDisk, IsUnchanged, Survives}
-use Rattle.sqlite.specs.Tree.{Trees}
+use Rattle.sqlite.specs.{Effect.Database, Held.Held as Connection, Held.state, Tree.Trees}
 use Rattle.sql_steps.specs.Steps.{KeepsCommitted}
 use Rattle.register_core.specs.Fold.{IsLawfulIn}
-use Rattle.register_requests.specs.declared.request.Request.{Request}
-use Rattle.register_requests.specs.declared.version.Version.{Version}
-use Rattle.register_store.specs.Creation.{Finds, HasTable, MakesRegister}
-use Rattle.register_store.specs.OpeningChecks.{MeetsChecks}
 use Rattle.register_requests.specs.declared.version.Version.TheVariants.{First}
-use Rattle.register_requests.specs.Version.{current}
-use Rattle.register_store.specs.Schema.{Holds, no_schema}
-use Rattle.register_store.specs.CheckedTables.{FailsOne, HasNewer, Passes}
-use Rattle.register_store.specs.Migration.{HasNewTable}
+use Rattle.register_requests.specs.{declared.request.Request.Request, declared.version.Version.Version, Version.current}
 use Rattle.register_store.specs.OpenedTables.{HasBoth, HasCommittedIn, MigratesTo}
-use Rattle.register_store.specs.Stored.{Stored}
-use Rattle.register_store.specs.declared.error.CheckError.{CheckError}
+use Rattle.register_store.specs.{Creation.Finds, Creation.HasTable, Creation.MakesRegister, CheckedTables.FailsOne}
+use Rattle.register_store.specs.{CheckedTables.HasNewer, CheckedTables.Passes}
+use Rattle.register_store.specs.{OpeningChecks.MeetsChecks, Schema.Holds, Schema.no_schema, Migration.HasNewTable}
+use Rattle.register_store.specs.{Stored.Stored, declared.error.CheckError.CheckError, TableReads.seen}
 use Rattle.register_store.specs.declared.error.CheckError.TheVariants as checks
-use Rattle.register_store.specs.declared.error.CreateError.{CreateError}
-use Rattle.register_store.specs.declared.error.CreateError.TheVariants.{HasTables, Database as Refused}
-use Rattle.register_store.specs.TableReads.{seen}
-use Rattle.register_desk.specs.declared.desk.Desk.{Desk}
-use Rattle.register_desk.specs.declared.end.End.TheVariants as end
 use Rattle.register_desk.specs.declared.opening.OpenRefusal.{OpenRefusal}
-use Rattle.register_desk.specs.declared.opening.Unopened.{Unopened}
 use Rattle.register_desk.specs.declared.opening.OpenRefusal.TheVariants.{Memory, Store, NotARegister, NewerVersion}
-use Rattle.register_desk.specs.Desk.{IsClean, IsWhole}
-use Rattle.register_desk.specs.End.{end_name}
-use Rattle.register_desk.specs.Register.{StandsFor, tables}
+use Rattle.register_desk.specs.{declared.desk.Desk.Desk, declared.opening.Unopened.Unopened, Desk.IsClean, Desk.IsWhole}
+use Rattle.register_desk.specs.{End.end_name, Register.StandsFor, Register.tables}
+use Rattle.register_desk.specs.declared.end.End.TheVariants as end
 
 -- a refusal that is the end of a call too has the end's name
 abbrev pub open_refusal_name : OpenRefusal → List ℕ
@@ -39,12 +26,7 @@ open_refusal_name Store = end_name end.Store
 open_refusal_name NotARegister = codes "NotARegister"
 open_refusal_name (NewerVersion found) = codes "NewerVersion"
 
--- the refusal that an error in making the tables comes to
-abbrev pub create_refusal : CreateError → OpenRefusal
-create_refusal HasTables = NotARegister
-create_refusal (Refused error) = Store
-
--- the refusal that an error in looking at the tables comes to
+-- the refusal that an error in making the tables, or in looking at them, comes to
 abbrev pub check_refusal : CheckError → OpenRefusal
 check_refusal checks.NotARegister = NotARegister
 check_refusal (checks.NewerVersion found) = NewerVersion found

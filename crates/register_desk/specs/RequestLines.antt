@@ -1,15 +1,10 @@
 -- The request lines of an input as its items: what stands between two places of it.
 use Rattle.std.specs.Prelude.{◌≡◌, ◌+◌, ◌≤◌, ℕ, List, [], length, Option}
-use Rattle.std.specs.List.{AllByRecursion}
-use Rattle.std.specs.Io.KnownBytes.{Consumes, IsAtEnd, prepend_known}
+use Rattle.std.specs.{List.AllByRecursion, Io.KnownBytes.Consumes, Io.KnownBytes.IsAtEnd, Io.KnownBytes.prepend_known}
 use Rattle.register_requests.specs.declared.request.Request.{Request}
-use Rattle.streams.specs.Lines.{Cut, HasNoLineFeed}
-use Rattle.streams.specs.Watched.{IsFaulted}
-use Rattle.streams.specs.declared.watched.Watched.{Watched}
-use Rattle.register_desk.specs.declared.end.End.{End}
+use Rattle.streams.specs.{Lines.Cut, Lines.HasNoLineFeed, Watched.IsFaulted, declared.watched.Watched.Watched}
 use Rattle.register_desk.specs.declared.end.End.TheVariants.{ReadFault}
-use Rattle.register_desk.specs.Input.{AreItems, with_line_feeds}
-use Rattle.register_desk.specs.Run.{max_reads}
+use Rattle.register_desk.specs.{declared.end.End.End, Input.AreItems, Input.with_line_feeds, Run.max_reads}
 
 -- what was cut off last with what is not looked at yet, and the reader
 abbrev pub Place : Type 0 → Type 0

@@ -5,16 +5,13 @@ use Rattle.std.specs.Io.KnownBytes.{Appends}
 use Rattle.sqlite_trees.specs.declared.store.Store.{Ghosts}
 use Rattle.sqlite.specs.State.{HasCleanDisk}
 use Rattle.register_store.specs.TableReads.{seen}
-use Rattle.register_requests.specs.declared.request.Request.{Request}
-use Rattle.register_requests.specs.CommandRule.{looks_at_custody}
+use Rattle.register_requests.specs.{declared.request.Request.Request, CommandRule.looks_at_custody}
 use Rattle.register_core.specs.Fold.{history, history_after, answers, answer_to}
-use Rattle.register_desk.specs.declared.end.End.{End}
-use Rattle.register_desk.specs.declared.end.End.TheVariants.{Memory, Store, Broken, ReadFault, WriteFault, BadHeader}
-use Rattle.register_desk.specs.declared.desk.Desk.{Desk}
-use Rattle.register_desk.specs.Desk.{EndsBy, GoesOn}
-use Rattle.register_desk.specs.Register.{StandsFor, LeavesOneOf}
 use Rattle.register_core.specs.declared.reply.Refusal.TheVariants.{BadLine}
+use Rattle.register_desk.specs.declared.end.End.TheVariants.{Memory, Store, Broken, ReadFault, WriteFault, BadHeader}
+use Rattle.register_desk.specs.Register.{StandsFor, LeavesOneOf}
 use Rattle.register_desk.specs.Run.{AreNoRequests, bad_lines, answer_line, answer_lines}
+use Rattle.register_desk.specs.{declared.end.End.End, declared.desk.Desk.Desk, Desk.EndsBy, Desk.GoesOn}
 
 module _ {S : Type 0} (g : Ghosts S) where
   -- ---- one item

@@ -1,31 +1,18 @@
 -- A key by itself, and what a decision sees over tables, of a key and of the usage periods, whatever history these
 -- are of if any; and what it comes to.
 use Rattle.std.specs.Prelude.{ℕ, nat_lt, [], length, Option, None, unwrap_or, if◌then◌else◌}
-use Rattle.std.specs.List.{cons_option}
-use Rattle.std.specs.Option.{option_and_then, option_map}
-use Rattle.period_core.specs.declared.key_type.KeyType.{KeyType}
-use Rattle.period_core.specs.Period.{Period, period_or_default}
-use Rattle.register_core.specs.declared.answer.Answer.{Answer}
+use Rattle.std.specs.{List.cons_option, Option.option_and_then, Option.option_map}
+use Rattle.period_core.specs.{declared.key_type.KeyType.KeyType, Period.Period, Period.period_or_default}
 use Rattle.register_core.specs.declared.answer.Answer.TheVariants.{Accepted, Repeated, Refused}
-use Rattle.register_core.specs.declared.change.Change.{Change}
-use Rattle.register_core.specs.declared.key.Key.{Key}
-use Rattle.register_core.specs.declared.kept_reply.KeptReply.{KeptReply}
-use Rattle.register_core.specs.declared.reply.Refusal.{Refusal}
-use Rattle.register_core.specs.declared.reply.Reply.{Reply}
-use Rattle.register_requests.specs.declared.request.Command.{Command}
-use Rattle.register_requests.specs.declared.request.Request.{Request}
-use Rattle.register_core.specs.declared.view.Held.{Held}
-use Rattle.register_requests.specs.CommandRule.{looks_at_custody, looks_at_need}
-use Rattle.register_requests.specs.Quorum.{min_approvals}
-use Rattle.register_core.specs.Decision.{change_by_request, reply_to}
-use Rattle.register_core.specs.KeptReply.{kept_with}
-use Rattle.register_core.specs.Settings.{need_at, period_at}
 use Rattle.register_core.specs.Verdict.{Verdict, judge, unless_kept, verdict_by}
-use Rattle.register_requests.specs.Subject.{named}
-use Rattle.register_store.specs.AcceptedRequest.{with_request}
-use Rattle.register_store.specs.TableChanges.{key_at}
-use Rattle.register_store.specs.TableReads.{loaded}
-use Rattle.register_store.specs.Tables.{Tables}
+use Rattle.register_core.specs.{declared.answer.Answer.Answer, declared.change.Change.Change, declared.key.Key.Key}
+use Rattle.register_core.specs.{declared.kept_reply.KeptReply.KeptReply, declared.reply.Refusal.Refusal}
+use Rattle.register_core.specs.{declared.reply.Reply.Reply, declared.view.Held.Held, Decision.change_by_request}
+use Rattle.register_core.specs.{Decision.reply_to, KeptReply.kept_with, Settings.need_at, Settings.period_at}
+use Rattle.register_requests.specs.declared.request.Request.{Request}
+use Rattle.register_requests.specs.CommandRule.{looks_at_custody, looks_at_need}
+use Rattle.register_requests.specs.{declared.request.Command.Command, Quorum.min_approvals, Subject.named}
+use Rattle.register_store.specs.{AcceptedRequest.with_request, TableChanges.key_at, TableReads.loaded, Tables.Tables}
 
 -- how many approvals the destruction of a key needs
 abbrev pub need_over : Tables → ℕ → ℕ

@@ -1,8 +1,7 @@
 //! The items of an input, which come one after the other and are answered one after the other.
 ghost use Rattle.std.specs.Prelude.{◌≡◌, ◌^◌, ◌≤◌, [], IfOk, IfErr, OnOk};
 ghost use Rattle.register_core.specs.declared.answer.TheConstants.{MAX_REPLY_LENGTH};
-ghost use Rattle.register_desk.specs.Items.{Serves};
-ghost use Rattle.register_desk.specs.Run.{LeavesDesk, LeavesWriter};
+ghost use Rattle.register_desk.specs.{Items.Serves, Run.LeavesDesk, Run.LeavesWriter};
 
 use crate::desk::Desk;
 use crate::end::End;
@@ -25,10 +24,8 @@ pub enum NextItem {
 pub trait Items<I> {
     ghost use Rattle.std.specs.Prelude.{◌≡◌, ◌<◌, ℕ, List, [], ◌∷◌, ◌++◌, Option, Ok, IfErr};
     ghost use Rattle.std.specs.Prelude.{IfSome, OnOk};
-    ghost use Rattle.register_requests.specs.declared.request.Request.{Request};
-    ghost use Rattle.register_requests.specs.Request.{IsRequest};
-    ghost use Rattle.register_desk.specs.declared.end.End.{End};
-    ghost use Rattle.register_desk.specs.Items.{IsOfReading};
+    ghost use Rattle.register_requests.specs.{declared.request.Request.Request, Request.IsRequest};
+    ghost use Rattle.register_desk.specs.{declared.end.End.End, Items.IsOfReading};
 
     /// From the first place of the input to the second these items came.
     ghost came: { Self × I → Self × I → List (Option Request) → Type 0 };

@@ -1,9 +1,8 @@
 //! A run over a register in memory.
 ghost use Rattle.std.specs.Prelude.{◌≡◌, ◌⊎◌, false, IfOk, IfErr};
 ghost use Rattle.register_desk.specs.Run.{LeavesReader, LeavesWriter};
+ghost use Rattle.register_desk.specs.{InMemory.RunsInMemory, Within.InMemory.RunsNew};
 ghost use Rattle.sqlite.specs.Held.{state};
-ghost use Rattle.register_desk.specs.InMemory.{RunsInMemory};
-ghost use Rattle.register_desk.specs.Within.InMemory.{RunsNew};
 
 use crate::desk::Desk;
 use crate::opening::OpenRefusal;

@@ -1,29 +1,20 @@
 -- What a desk leaves that was asked something, by what came of its call and of the memory for the text.
 use Rattle.std.proofs.Common.{◌≡◌, ◌≢◌, ◌⊎◌, inl, inr, ℕ, true, List, Option, String, Result, Ok, Err, refl, sym, subst}
 use Rattle.std.proofs.Common.{ap, ◌∙◌}
-use Rattle.std.specs.Prelude.{IfOk, OnErr}
-use Rattle.std.specs.declared.alloc.Global.{Global}
-use Rattle.std.specs.declared.alloc.AllocError.{AllocError}
+use Rattle.std.specs.{Prelude.IfOk, Prelude.OnErr, declared.alloc.Global.Global, declared.alloc.AllocError.AllocError}
 use Rattle.sqlite_trees.specs.declared.store.Store.{Ghosts}
-use Rattle.register_core.specs.declared.answer.Answer.{Answer}
 use Rattle.register_core.specs.declared.answer.Answer.TheVariants.{Accepted, Repeated, Refused}
 use Rattle.register_core.specs.Answer.{UnlessAccepted, outcome}
+use Rattle.register_core.specs.{declared.answer.Answer.Answer, declared.reply.Refusal.Refusal}
 use Rattle.register_requests.specs.declared.request.Request.{Request}
 use Rattle.register_core.specs.declared.reply.Reply as core
-use Rattle.register_core.specs.declared.reply.Refusal.{Refusal}
-use Rattle.http_messages.specs.AnswerText.{outcome_reply}
-use Rattle.register_desk.specs.declared.desk.Desk.{Desk}
-use Rattle.register_desk.specs.declared.end.End.{End}
+use Rattle.http_messages.specs.declared.asked.Asked.TheVariants.{Reject}
+use Rattle.http_messages.specs.{AnswerText.outcome_reply, declared.asked.Asked.Asked}
+use Rattle.http_messages.specs.{declared.asked.Rejection.Rejection, Rejection.reply_of, HttpReply.HttpReply}
 use Rattle.register_desk.specs.declared.end.End.TheVariants.{Memory, Store, Broken, ReadFault, WriteFault, BadHeader}
 use Rattle.register_desk.specs.Desk.{ChangesNothing, EndsBy, GoesOn, IsBroken, IsClean, IsWhole, LeavesEither}
-use Rattle.register_desk.specs.Register.{StandsFor}
-use Rattle.register_desk.proofs.Found.{leaves_alone, leaves_still}
-use Rattle.register_desk.proofs.Readings.{stands_still}
-use Rattle.http_messages.specs.declared.asked.Asked.{Asked}
-use Rattle.http_messages.specs.declared.asked.Asked.TheVariants.{Reject}
-use Rattle.http_messages.specs.declared.asked.Rejection.{Rejection}
-use Rattle.http_messages.specs.Rejection.{reply_of}
-use Rattle.http_messages.specs.HttpReply.{HttpReply}
+use Rattle.register_desk.specs.{declared.desk.Desk.Desk, declared.end.End.End, Register.StandsFor}
+use Rattle.register_desk.proofs.{Found.leaves_alone, Found.leaves_still, Readings.stands_still}
 use Rattle.register_http.specs.Action.{Acts, IsTextOf, MayChange, StopsAsked}
 use Rattle.register_http.specs.ActionReply.{found_reply, history_after_asked, reply_to_asked, uses_register}
 

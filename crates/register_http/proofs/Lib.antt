@@ -1,3 +1,2 @@
 mod ActingLemmas
 mod ServingLemmas
-mod ItemLemmas

@@ -5,17 +5,12 @@ use Rattle.std.specs.declared.alloc.Global.{Global}
 use Rattle.sqlite_trees.specs.declared.store.Store.{Ghosts}
 use Rattle.register_core.specs.declared.reply.Reply as core
 use Rattle.register_requests.specs.declared.request.Request.{Request}
-use Rattle.register_desk.specs.declared.desk.Desk.{Desk}
-use Rattle.register_desk.specs.declared.end.End.{End}
 use Rattle.register_desk.specs.declared.end.End.TheVariants.{Memory, Store, Broken, ReadFault, WriteFault, BadHeader}
 use Rattle.register_desk.specs.Desk.{ChangesNothing, EndsBy, GoesOn, IsBroken, IsClean, IsWhole, LeavesEither}
-use Rattle.register_desk.specs.Register.{StandsFor}
-use Rattle.http_messages.specs.declared.asked.Asked.{Asked}
+use Rattle.register_desk.specs.{declared.desk.Desk.Desk, declared.end.End.End, Register.StandsFor}
 use Rattle.http_messages.specs.declared.asked.Asked.TheVariants.{Reject, ShowKey, ShowUsage, Apply}
-use Rattle.http_messages.specs.declared.asked.Rejection.{Rejection}
-use Rattle.http_messages.specs.AnswerText.{outcome_reply}
-use Rattle.http_messages.specs.Rejection.{reply_of}
-use Rattle.http_messages.specs.HttpReply.{HttpReply, reply_bytes}
+use Rattle.http_messages.specs.{declared.asked.Rejection.Rejection, HttpReply.HttpReply, HttpReply.reply_bytes}
+use Rattle.http_messages.specs.{declared.asked.Asked.Asked, AnswerText.outcome_reply, Rejection.reply_of}
 use Rattle.register_http.specs.ActionReply.{history_after_asked, reply_to_asked, uses_register}
 
 -- the text is the reply's

@@ -2,16 +2,12 @@
 use Rattle.std.specs.Prelude.{ℕ, Bool, true, false, List, [], ◌∷◌, Option, None, Some, Err}
 use Rattle.register_requests.specs.declared.request.Request.{Request}
 use Rattle.register_core.specs.declared.reply.Refusal.TheVariants.{UnknownKey}
-use Rattle.register_core.specs.Answer.{outcome}
-use Rattle.register_core.specs.Fold.{history}
-use Rattle.register_core.specs.Verdict.{answer}
+use Rattle.register_core.specs.{Answer.outcome, Fold.history, Verdict.answer}
 use Rattle.register_desk.specs.Shown.{shown, usage}
 use Rattle.http_messages.specs.declared.asked.Asked.{Asked}
 use Rattle.http_messages.specs.declared.asked.Asked.TheVariants.{Reject, ShowKey, ShowUsage, Apply}
-use Rattle.http_messages.specs.declared.asked.Sent.{Sent}
 use Rattle.http_messages.specs.AnswerText.{key_reply, outcome_reply, usage_reply}
-use Rattle.http_messages.specs.Rejection.{reply_of}
-use Rattle.http_messages.specs.HttpReply.{HttpReply}
+use Rattle.http_messages.specs.{declared.asked.Sent.Sent, Rejection.reply_of, HttpReply.HttpReply}
 
 -- the request that is made of what was sent, at the moment of the exchange
 abbrev pub request_at : ℕ → Sent → Request

@@ -3,21 +3,14 @@ use Rattle.std.specs.Prelude.{◌≡◌, ◌⊎◌, ℕ, ◌≤◌, true, false,
 use Rattle.std.specs.Prelude.{IfOk}
 use Rattle.std.specs.declared.alloc.Global.{Global}
 use Rattle.sqlite_trees.specs.declared.store.Store.{Ghosts}
-use Rattle.streams.specs.declared.watched.Watched.{Watched}
-use Rattle.streams.specs.Watched.{IsFaulted}
-use Rattle.register_desk.specs.declared.desk.Desk.{Desk}
-use Rattle.register_desk.specs.declared.end.End.{End}
+use Rattle.streams.specs.{declared.watched.Watched.Watched, Watched.IsFaulted}
 use Rattle.register_desk.specs.declared.end.End.TheVariants.{Memory, ReadFault, WriteFault}
-use Rattle.register_desk.specs.declared.runs.Finish.{Finish}
 use Rattle.register_desk.specs.declared.runs.Finish.TheVariants.{AtEnd, Ended}
-use Rattle.register_desk.specs.declared.runs.Outcome.{Outcome}
-use Rattle.register_desk.specs.Run.{TookBytes, max_idle_turns}
-use Rattle.http_messages.specs.declared.asked.AskFault.{AskFault}
+use Rattle.register_desk.specs.{declared.desk.Desk.Desk, declared.end.End.End, declared.runs.Finish.Finish}
+use Rattle.register_desk.specs.{declared.runs.Outcome.Outcome, Run.TookBytes, Run.max_idle_turns}
+use Rattle.http_messages.specs.{declared.asked.AskFault.AskFault, declared.asked.Asked.Asked, Asked.AsksFor}
 use Rattle.http_messages.specs.declared.asked.AskFault.TheVariants as fault
-use Rattle.http_messages.specs.declared.asked.Asked.{Asked}
-use Rattle.http_messages.specs.Asked.{AsksFor}
-use Rattle.register_http.specs.Action.{Acts}
-use Rattle.register_http.specs.SentReply.{Sends, end_reply, sent_text}
+use Rattle.register_http.specs.{Action.Acts, SentReply.Sends, SentReply.end_reply, SentReply.sent_text}
 
 -- the most reads in one exchange (this register's own)
 abbrev pub max_exchange_reads : ℕ

@@ -1,15 +1,11 @@
 -- What an exchange leaves whose reader does not tell its bytes: it handed at most one request to the register.
 use Rattle.std.specs.Prelude.{◌≢◌, ◌⊎◌, List, [], ◌∷◌, Option, IfSome}
 use Rattle.sqlite_trees.specs.declared.store.Store.{Ghosts}
-use Rattle.register_requests.specs.declared.request.Request.{Request}
+use Rattle.register_requests.specs.{declared.request.Request.Request, Request.IsRequest}
 use Rattle.register_core.specs.Fold.{history}
-use Rattle.register_requests.specs.Request.{IsRequest}
-use Rattle.register_desk.specs.declared.desk.Desk.{Desk}
-use Rattle.register_desk.specs.declared.end.End.TheVariants.{Store}
-use Rattle.register_desk.specs.declared.runs.Finish.{Finish}
 use Rattle.register_desk.specs.declared.runs.Finish.TheVariants.{Ended}
-use Rattle.register_desk.specs.Desk.{IsWhole, LeavesEither}
-use Rattle.register_desk.specs.Register.{StandsFor}
+use Rattle.register_desk.specs.{declared.desk.Desk.Desk, declared.end.End.TheVariants.Store}
+use Rattle.register_desk.specs.{declared.runs.Finish.Finish, Desk.IsWhole, Desk.LeavesEither, Register.StandsFor}
 
 -- A whole desk of the history h is one of h still, or of h with the item after it; but where the database refused, a
 -- stop leaves the register of one of the two.

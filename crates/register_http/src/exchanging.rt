@@ -1,19 +1,15 @@
 //! One exchange: a request is read, the register asked once, and a reply written.
 ghost use Rattle.std.specs.Prelude.{◌≡◌, ℕ, List, false, Ok, Err, IfErr, IfOk, OnErr, OnOk};
-ghost use Rattle.register_requests.specs.Request.{IsRequest};
+ghost use Rattle.register_requests.specs.{Request.IsRequest, declared.request.Request.Request};
 ghost use Rattle.register_core.specs.declared.reply.Refusal.TheVariants.{UnknownKey};
-ghost use Rattle.register_requests.specs.declared.request.Request.{Request};
-ghost use Rattle.http_messages.specs.AnswerText.{outcome_reply};
-ghost use Rattle.http_messages.specs.CommandBody.{IsAskedInRange};
+ghost use Rattle.http_messages.specs.{AnswerText.outcome_reply, CommandBody.IsAskedInRange};
 ghost use Rattle.register_desk.specs.Desk.{IsClean, IsWhole, KeepsToSteps};
 ghost use Rattle.register_desk.specs.Register.{StandsFor};
-ghost use Rattle.register_http.specs.Action.{Acts, IsTextOf};
-ghost use Rattle.register_http.specs.ActionReply.{request_at};
 ghost use Rattle.register_http.specs.Exchange.{EndsAs, Exchanges, LeavesHttpReader};
-ghost use Rattle.register_http.specs.Within.Exchange.{KeepsWriter};
 ghost use Rattle.register_http.specs.Exchange.{LeavesHttpWriter};
-ghost use Rattle.register_http.specs.OneItem.{LeavesOne};
 ghost use Rattle.register_http.specs.SentReply.{Sends, end_reply, sent_text};
+ghost use Rattle.register_http.specs.{Action.Acts, Action.IsTextOf, ActionReply.request_at};
+ghost use Rattle.register_http.specs.{Within.Exchange.KeepsWriter, OneItem.LeavesOne};
 
 use http_messages::{
     AskFault, Asked, Routes, Sent, answer_reply_text, key_reply_text, read_asked, rejection_text,
@@ -80,9 +76,9 @@ fn reply_text_showing_key<S: Alter>(
 
 /// Tells what a key may be used for.
 fn usage_reply<S: Alter>(alloc: Global, desk: &mut Desk<S>, key: u32) -> Result<String, End>
+    ensures steps { KeepsToSteps S.Store 2 desk.old desk.new }
     ensures acts { (moment : ℕ) →
         Acts S.Store moment (Asked.ShowUsage key) desk.old desk.new result }
-    ensures steps { KeepsToSteps S.Store 2 desk.old desk.new }
 {
     match desk.usage(key)? {
         Some(usage) => text_or_end(usage_reply_text(alloc, &usage)),
@@ -107,9 +103,9 @@ fn request_at(moment: Moment, sent: &Sent) -> Request
 /// Applies what was sent at this moment.
 fn reply_text_after_applying<S: Alter>(
     alloc: Global,
-    desk: &mut Desk<S>,
     moment: Moment,
     sent: &Sent,
+    desk: &mut Desk<S>,
 ) -> Result<String, End>
     requires { IsAskedInRange (Asked.Apply sent.now) }
     ensures acts { Acts S.Store moment (Asked.Apply sent.now) desk.old desk.new result }
@@ -139,7 +135,7 @@ fn answer_asked<S: Alter>(
         Asked::Reject(rejection) => text_or_end(rejection_text(alloc, *rejection)),
         Asked::ShowKey(key) => reply_text_showing_key(alloc, desk, *key),
         Asked::ShowUsage(key) => usage_reply(alloc, desk, *key),
-        Asked::Apply(sent) => reply_text_after_applying(alloc, desk, moment, sent),
+        Asked::Apply(sent) => reply_text_after_applying(alloc, moment, sent, desk),
     }
 }
 

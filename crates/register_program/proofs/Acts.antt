@@ -1,22 +1,22 @@
 -- What was done without words, and by a job.
 use Rattle.std.proofs.Common.{◌≡◌, ℕ, List, Option, Some, Result, Ok, Err, IfOk, IfErr, OnErr, inl, inr, ap, subst, sym}
+use Rattle.std.proofs.Common.{◌∙◌, refl}
 use Rattle.sqlite_trees.specs.declared.store.Store.{Ghosts}
 use Rattle.sqlite.specs.Recovery.{Image}
 use Rattle.register_requests.specs.declared.request.Request.{Request}
-use Rattle.register_desk.specs.declared.opening.OpenRefusal.{OpenRefusal}
-use Rattle.register_desk.specs.declared.runs.Outcome.{Outcome}
-use Rattle.register_desk.specs.InMemory.{RunsInMemory}
-use Rattle.register_desk.specs.Input.{HasItems}
-use Rattle.register_desk.specs.Run.{LeavesReader, LeavesWriter}
+use Rattle.register_desk.specs.declared.end.End.TheVariants.{Memory, Store, Broken, ReadFault, WriteFault, BadHeader}
+use Rattle.register_desk.specs.declared.runs.Finish.TheVariants.{AtEnd, Ended}
+use Rattle.register_desk.specs.{declared.opening.OpenRefusal.OpenRefusal, declared.runs.Outcome.Outcome}
+use Rattle.register_desk.specs.{InMemory.RunsInMemory, Input.HasItems, Run.LeavesReader, Run.LeavesWriter}
+use Rattle.register_desk.specs.{Run.LeavesDesk, declared.desk.Desk.Desk, declared.desk.DeskMark.DeskMark}
+use Rattle.register_desk.specs.{declared.runs.Finish.Finish, Desk.IsMarkOf, Desk.IsWhole}
 use Rattle.register_words.specs.declared.words.Job.{Job}
-use Rattle.register_program.specs.declared.acting.Done.{Done}
-use Rattle.register_program.specs.declared.acting.Inputs.{Inputs}
-use Rattle.register_program.specs.Act.{ActsOver}
-use Rattle.register_program.specs.Alone.{RunsWithoutFile, end_alone}
-use Rattle.register_program.specs.Ends.{EndsRun}
-use Rattle.register_program.specs.declared.register_file.FileLife.{FileLife}
 use Rattle.register_program.specs.Job.{BreaksSo, EndsSo, Performs, status_after}
+use Rattle.register_program.specs.Ends.{EndsRun, BreaksAs, BreaksNone}
+use Rattle.register_program.specs.{Alone.RunsWithoutFile, Alone.end_alone, declared.register_file.FileLife.FileLife}
+use Rattle.register_program.specs.{declared.acting.Done.Done, declared.acting.Inputs.Inputs, Act.ActsOver}
 use Rattle.streams.specs.declared.watched.Watched.{Watched}
+use Rattle.register_report.specs.TextWriter.{LeavesAlone}
 
 -- ---- over no file
 
@@ -74,3 +74,22 @@ pub breaks_so : {S E : Type 0} (given job : Job) → given ≡ job → (came : R
     → IfOk came (λ life. BreaksSo given life.outcome.end life.mark)
 breaks_so given job is came breaks =
     subst (λ (it : Job). IfOk came (λ life. BreaksSo it life.outcome.end life.mark)) (sym is) breaks
+
+-- ---- What a call left of its desk, by the mark that this was given up with.
+
+module _ {S : Type 0} (g : Ghosts S) (mark : DeskMark) (kept now : Desk S g) (whole : IsWhole kept)
+    (is : IsMarkOf mark now) where
+  pub breaks_as : (end : Finish) → LeavesDesk kept now end → BreaksAs end mark
+  breaks_as (AtEnd rest) leaves = is ∙ leaves.whole whole (λ other. absurd cc)
+  breaks_as (Ended Memory) leaves = is ∙ leaves.whole whole (λ other. absurd cc)
+  breaks_as (Ended Store) leaves = is ∙ (leaves.store refl).1
+  breaks_as (Ended Broken) leaves = absurd (let broken = leaves.was_broken refl in let both = sym whole ∙ broken in cc)
+  breaks_as (Ended ReadFault) leaves = is ∙ leaves.whole whole (λ other. absurd cc)
+  breaks_as (Ended WriteFault) leaves = is ∙ leaves.whole whole (λ other. absurd cc)
+  breaks_as (Ended BadHeader) leaves = is ∙ leaves.whole whole (λ other. absurd cc)
+
+  pub breaks_none : (end : Finish) → LeavesAlone g kept now end → BreaksNone end mark
+  breaks_none end alone = record {
+    whole = is ∙ alone.mark ∙ whole;
+    none = λ broken. absurd (let was = alone.was_broken broken in let both = sym whole ∙ was in cc);
+  }

@@ -1,47 +1,37 @@
 -- What the program's runs left is found again, run by run.
-use Rattle.std.proofs.Common.{◌≡◌, ◌≢◌, ◌⊎◌, inl, inr, ℕ, ◌+◌, ◌<◌, ◌≤◌, Bool, true, false, List, [], ◌∷◌, ◌++◌}
-use Rattle.std.proofs.Common.{length, take, drop, Option, None, Some, Result, Ok, Err, refl, sym, ap, subst, ◌∙◌, arith}
-use Rattle.std.specs.Io.KnownBytes.{Appends}
+use Rattle.std.proofs.Common.{◌≡◌, ◌≢◌, ◌⊎◌, inl, inr, ℕ, ◌+◌, ◌<◌, ◌≤◌, Bool, true, false, List, [], ◌∷◌, ◌++◌, length}
+use Rattle.std.proofs.Common.{take, drop, Option, None, Some, Result, Ok, Err, refl, sym, ap, subst, ◌∙◌, arith}
 use Rattle.std.proofs.lemmas.Bool.{cases_lt}
 use Rattle.std.proofs.lemmas.Grind.{flat_map-append}
 use Rattle.std.proofs.lemmas.List.{append-nil, take-append-drop, take-take, take_all}
 use Rattle.std.proofs.Math.Logic.{∥∥₁_elim, ∥∥₁_map}
+use Rattle.std.specs.Io.KnownBytes.{Appends}
 use Rattle.sqlite_trees.specs.declared.store.Store.{Ghosts}
 use Rattle.sqlite.specs.Recovery.{Image}
 use Rattle.register_requests.specs.declared.request.Request.{Request}
-use Rattle.register_core.specs.declared.reply.Reply.{Reply}
-use Rattle.register_core.specs.declared.reply.Refusal.{Refusal}
 use Rattle.register_core.specs.Fold.{IsLawful, answers, history}
-use Rattle.register_desk.specs.declared.desk.Desk.{Desk}
+use Rattle.register_core.specs.{declared.reply.Reply.Reply, declared.reply.Refusal.Refusal}
 use Rattle.register_desk.specs.declared.end.End.TheVariants.{Memory, Store, Broken, ReadFault, WriteFault, BadHeader}
 use Rattle.register_desk.specs.declared.opening.OpenRefusal.{OpenRefusal}
-use Rattle.register_desk.specs.declared.runs.Finish.{Finish}
 use Rattle.register_desk.specs.declared.runs.Finish.TheVariants.{AtEnd, Ended}
 use Rattle.register_desk.specs.DatabaseFiles.{HoldsNothing, HoldsOneOf, HoldsRegister}
-use Rattle.register_desk.specs.Input.{HasItems}
 use Rattle.register_desk.specs.Lives.{AreInRange, Life, MayApplyOneMore, after, life_of}
 use Rattle.register_desk.specs.Run.{Answered as AnsweredWhole, AnsweredInPart, IsPrefixOf, RunsOver, answer_line}
 use Rattle.register_desk.specs.Run.{answer_lines}
-use Rattle.register_desk.proofs.Answering.{appends_none}
-use Rattle.register_desk.proofs.Cutting.{items_in}
-use Rattle.register_desk.proofs.Lived.{items_in_range}
-use Rattle.register_desk.proofs.Lives.{lawful_on}
-use Rattle.register_program.specs.declared.files.Closed.{Closed}
-use Rattle.register_program.specs.declared.register_file.FileLife.{FileLife}
-use Rattle.register_program.specs.declared.refused.Refused.{Refused}
-use Rattle.register_program.specs.declared.refused.RefusedFiles.{RefusedFiles}
+use Rattle.register_desk.specs.{declared.desk.Desk.Desk, declared.runs.Finish.Finish, Input.HasItems}
+use Rattle.register_desk.proofs.{Answering.appends_none, LinesCut.items_in, Lived.items_in_range, Lives.lawful_on}
 use Rattle.register_program.specs.declared.refused.RefusedFiles.TheVariants.{Failed, Shut}
-use Rattle.register_program.specs.FileCalls.{Exports, LivesAnyway, MakesFile, OpensFirst}
-use Rattle.register_program.specs.FileCalls.{Reports, RunsLines, ServesExchanges}
-use Rattle.register_program.specs.Closing.{LeftIn}
+use Rattle.register_program.specs.FileCalls.{Exports, LivesAnyway, MakesFile, OpensFirst, Reports, RunsLines}
+use Rattle.register_program.specs.FileCalls.{ServesExchanges}
 use Rattle.register_program.specs.Life.{LeavesInFiles, LeavesNoRequest, LeavesNothing, LivesOver, OfLeft}
 use Rattle.register_program.specs.Life.{SparesRegister}
-use Rattle.register_program.specs.declared.acting.Done.{Done}
 use Rattle.register_program.specs.declared.acting.Done.TheVariants.{Lived, Made}
 use Rattle.register_program.specs.Sentence.{WroteAnswers, AreItemsOf, Follow, FoundAgain, HoldsHistory, IsLifeOf}
-use Rattle.register_program.specs.Sentence.{LeadsFrom, LeftBy, LeftByClosed, LeftByRefused, ProgramRun}
-use Rattle.register_program.specs.Sentence.{WasLife, outcome_of}
-use Rattle.register_program.specs.Job.{Performs}
+use Rattle.register_program.specs.Sentence.{LeadsFrom, LeftBy, LeftByClosed, LeftByRefused, ProgramRun, WasLife}
+use Rattle.register_program.specs.Sentence.{outcome_of}
+use Rattle.register_program.specs.{declared.files.Closed.Closed, declared.register_file.FileLife.FileLife}
+use Rattle.register_program.specs.{declared.refused.Refused.Refused, declared.refused.RefusedFiles.RefusedFiles}
+use Rattle.register_program.specs.{Closing.LeftIn, declared.acting.Done.Done, Job.Performs}
 use Rattle.register_program.proofs.Served.{AppliesWithin, applies_within, served_life}
 use Rattle.register_words.specs.declared.words.Job.{Job}
 use Rattle.register_words.specs.declared.words.Job.TheVariants.{Export, Import, Init, Report, Run, Serve}
@@ -49,6 +39,26 @@ use Rattle.register_words.specs.declared.words.Job.TheVariants.{Export, Import, 
 -- a life in which nothing was applied
 abbrev no_life : Life
 no_life = life_of [] 0 false
+
+-- whether an answer was written in part
+is_part : (end : Finish) → (end ≡ Ended WriteFault) ⊎ (end ≢ Ended WriteFault)
+is_part (Ended WriteFault) = inl refl
+is_part (AtEnd left) = inr (λ is. absurd (cc is))
+is_part (Ended Memory) = inr (λ is. absurd (cc is))
+is_part (Ended Store) = inr (λ is. absurd (cc is))
+is_part (Ended Broken) = inr (λ is. absurd (cc is))
+is_part (Ended ReadFault) = inr (λ is. absurd (cc is))
+is_part (Ended BadHeader) = inr (λ is. absurd (cc is))
+
+-- whether there was no header row
+is_unbegun : (end : Finish) → (end ≡ Ended BadHeader) ⊎ (end ≢ Ended BadHeader)
+is_unbegun (AtEnd left) = inr (λ is. absurd (cc is))
+is_unbegun (Ended Memory) = inr (λ is. absurd (cc is))
+is_unbegun (Ended BadHeader) = inl refl
+is_unbegun (Ended Store) = inr (λ is. absurd (cc is))
+is_unbegun (Ended Broken) = inr (λ is. absurd (cc is))
+is_unbegun (Ended ReadFault) = inr (λ is. absurd (cc is))
+is_unbegun (Ended WriteFault) = inr (λ is. absurd (cc is))
 
 -- ---- the lines that were written
 
@@ -87,13 +97,10 @@ module _ {S : Type 0} (g : Ghosts S) (h : List Request) (items : List (Option Re
 
   told_over : (rest : List ℕ) (end : Finish) → (end ≡ Ended WriteFault → one_more ≡ true)
       → RunsOver g h items rest end replies old new desk → WroteAnswers h (life_of items replies one_more) old new
-  told_over rest (AtEnd left) applied over = told over.0
-  told_over rest (Ended Memory) applied over = told over
-  told_over rest (Ended Store) applied over = told over.0
-  told_over rest (Ended Broken) applied over = told over.0
-  told_over rest (Ended ReadFault) applied over = told over
-  told_over rest (Ended WriteFault) applied over = told_in_part (applied refl) over
-  told_over rest (Ended BadHeader) applied over = absurd over
+  told_over rest end applied over = elim (is_part end) [
+    | inl part ↦ told_in_part (applied part) (over.in_part part)
+    | inr whole ↦ told (over.whole whole)
+  ]
 
   told_none : new ≡ old → replies ≡ 0 → WroteAnswers h (life_of items replies one_more) old new
   told_none same none = record {
@@ -106,22 +113,16 @@ module _ {S : Type 0} (g : Ghosts S) (h : List Request) (items : List (Option Re
   told_some : (rest : List ℕ) (end : Finish) → MayApplyOneMore end one_more
       → (end ≢ Ended BadHeader → RunsOver g h items rest end replies old new desk)
       → (end ≡ Ended BadHeader → (new ≡ old) × (replies ≡ 0)) → WroteAnswers h (life_of items replies one_more) old new
-  told_some rest (Ended BadHeader) may over unbegun = let none = unbegun refl in told_none none.0 none.1
-  told_some rest (Ended WriteFault) may over unbegun = told_in_part may (over (λ is. absurd (cc is)))
-  told_some rest (AtEnd left) may over unbegun = told (over (λ is. absurd (cc is))).0
-  told_some rest (Ended Memory) may over unbegun = told (over (λ is. absurd (cc is)))
-  told_some rest (Ended Store) may over unbegun = told (over (λ is. absurd (cc is))).0
-  told_some rest (Ended Broken) may over unbegun = told (over (λ is. absurd (cc is))).0
-  told_some rest (Ended ReadFault) may over unbegun = told (over (λ is. absurd (cc is)))
+  told_some rest end may over unbegun = elim (is_unbegun end) [
+    | inl header ↦ let none = unbegun header in told_none none.0 none.1
+    | inr begun ↦ told_over rest end (λ part. subst (λ e. MayApplyOneMore e one_more) part may) (over begun)
+  ]
 
   within : (rest : List ℕ) (end : Finish) → RunsOver g h items rest end replies old new desk → replies ≤ length items
-  within rest (AtEnd left) over = over.0.some
-  within rest (Ended Memory) over = over.some
-  within rest (Ended Store) over = over.0.some
-  within rest (Ended Broken) over = over.0.some
-  within rest (Ended ReadFault) over = over.some
-  within rest (Ended WriteFault) over = omega (arith, over.some)
-  within rest (Ended BadHeader) over = absurd over
+  within rest end over = elim (is_part end) [
+    | inl part ↦ omega (arith, (over.in_part part).some)
+    | inr whole ↦ (over.whole whole).some
+  ]
 
 -- ---- the register that is left
 
@@ -184,12 +185,12 @@ module _ {S U : Type 0} (g : Ghosts S) (may_leave : S → Image → Type 0) (may
     abbrev the_run : Option (List ℕ) → Job → Done S U → ProgramRun
     the_run input job done = record {
       found = found;
+      left = left;
       job = job;
+      outcome = outcome_of done;
       input = input;
       old = old;
       new = new;
-      outcome = outcome_of done;
-      left = left;
     }
 
     abbrev Fits : Option (List ℕ) → Job → Done S U → Life → Type 0
@@ -242,16 +243,6 @@ module _ {S U : Type 0} (g : Ghosts S) (may_leave : S → Image → Type 0) (may
           one.2,
         ))
 
-    -- whether an answer was written in part
-    is_part : (end : Finish) → (end ≡ Ended WriteFault) ⊎ (end ≢ Ended WriteFault)
-    is_part (AtEnd left) = inr (λ is. absurd (cc is))
-    is_part (Ended Memory) = inr (λ is. absurd (cc is))
-    is_part (Ended Store) = inr (λ is. absurd (cc is))
-    is_part (Ended Broken) = inr (λ is. absurd (cc is))
-    is_part (Ended ReadFault) = inr (λ is. absurd (cc is))
-    is_part (Ended WriteFault) = inl refl
-    is_part (Ended BadHeader) = inr (λ is. absurd (cc is))
-
     -- a life over the items of the input, of which perhaps one more was applied than were answered
     module _ (bytes : List ℕ) (items : List (Option Request)) (rest : List ℕ) (has : HasItems bytes items rest)
         (lived : FileLife S) (desk : Desk S g) (may : Image → Type 0) (may_be : may left)
@@ -303,10 +294,8 @@ module _ {S U : Type 0} (g : Ghosts S) (may_leave : S → Image → Type 0) (may
       known_life : ∥ LifeOver (Some bytes) lived.outcome.replies ∥₁
       known_life = elim (is_part lived.outcome.end) [
         | inl is ↦
-            let part = subst (λ (end : Finish). RunsOver g h items rest end lived.outcome.replies old new desk) is
-            lives.over in
             ∥∥₁_map (lives.in_part is left may_be)
-            (λ one. more (omega (arith, part.some)) (either _ left one))
+            (λ one. more (omega (arith, (lives.over.in_part is).some)) (either _ left one))
         | inr whole ↦ ∥∥₁_map (lives.leaves left may_be) (λ one. elim one [
           | inl here ↦ no_more whole here
           | inr there ↦ one_or_none whole there

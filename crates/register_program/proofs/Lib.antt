@@ -1,5 +1,3 @@
-mod Breaking
-mod OfDesk
 mod Living
 mod Refusing
 mod Served

@@ -1,33 +1,42 @@
--- The life in files that a call was, whatever its reader told.
-use Rattle.std.proofs.Common.{◌≡◌, ◌∙◌, ◌+◌, ℕ, List, take, Option, Result, Ok, Err, ap, subst, sym}
-use Rattle.std.specs.Prelude.{IsErrAnd}
-use Rattle.sqlite_trees.specs.declared.store.Store.{Ghosts}
-use Rattle.sqlite_trees.specs.View.{IsClean as IsCleanStore}
+-- What is said of closed files by what is left of a desk's database.
+use Rattle.sqlite_trees.specs.{declared.store.Store.Ghosts, View.IsClean as IsCleanStore}
 use Rattle.sqlite.specs.Recovery.{Image}
-use Rattle.register_requests.specs.declared.request.Request.{Request}
-use Rattle.register_core.specs.Fold.{IsLawful, history}
-use Rattle.register_desk.specs.declared.desk.Desk.{Desk}
-use Rattle.register_desk.specs.declared.desk.DeskMark.{DeskMark}
-use Rattle.register_desk.specs.declared.runs.Finish.{Finish}
-use Rattle.register_desk.specs.declared.runs.Finish.TheVariants.{Ended}
 use Rattle.register_desk.specs.declared.end.End.TheVariants.{BadHeader, WriteFault}
-use Rattle.register_desk.specs.declared.runs.Outcome.{Outcome}
-use Rattle.register_desk.specs.DatabaseFiles.{HoldsNothing, HoldsRegister}
-use Rattle.register_desk.specs.Desk.{IsClean, IsWhole, LeavesEither}
-use Rattle.register_desk.specs.Run.{LeavesDesk, RunsOver}
-use Rattle.register_desk.proofs.Found.{leaves_alone}
-use Rattle.register_desk.specs.Register.{StandsFor}
-use Rattle.register_desk.specs.Lives.{LeavesLife, DeskLives as RunsSome}
-use Rattle.register_program.specs.declared.files.Closed.{Closed}
-use Rattle.register_program.specs.Closing.{ClosesDesk}
-use Rattle.register_program.specs.Within.Closing.{LeavesAsDesk}
-use Rattle.register_program.proofs.OfDesk.{of_desk}
-use Rattle.register_program.specs.declared.register_file.FileLife.{FileLife}
-use Rattle.register_program.specs.declared.refused.Refused.{Refused}
+use Rattle.register_desk.specs.Desk.{ChangesNothing, IsClean, IsWhole, LeavesEither}
+use Rattle.register_desk.specs.{declared.desk.Desk.Desk, DatabaseFiles.HoldsNothing, DatabaseFiles.HoldsRegister}
+use Rattle.register_desk.specs.{Lives.LeavesLife, Lives.DeskLives as RunsSome, declared.desk.DeskMark.DeskMark}
+use Rattle.register_desk.specs.{declared.runs.Finish.Finish, declared.runs.Finish.TheVariants.Ended}
+use Rattle.register_desk.specs.{declared.runs.Outcome.Outcome, Run.LeavesDesk, Run.RunsOver, Register.StandsFor}
 use Rattle.register_program.specs.FileCalls.{Exports, ImportsRows, LivesAnyway, OpensFirst, Reports, RunsLines}
 use Rattle.register_program.specs.FileCalls.{ServesExchanges}
-use Rattle.register_program.specs.Life.{LeavesLifeInFiles, LivesSome, Refuses}
+use Rattle.register_program.specs.Life.{LeavesInFiles, LeavesLifeInFiles, LivesSome, Refuses}
+use Rattle.register_program.specs.declared.register_file.FileLife.{FileLife}
+use Rattle.register_program.specs.{declared.files.Closed.Closed, Closing.ClosesDesk, Closing.OfClosed}
+use Rattle.register_program.specs.{Within.Closing.LeavesAsDesk, declared.refused.Refused.Refused}
+use Rattle.std.proofs.Common.{◌≡◌, ◌∙◌, ◌+◌, ℕ, List, take, Option, Result, Ok, Err, ap, subst, sym}
+use Rattle.std.specs.Prelude.{IsErrAnd}
+use Rattle.register_requests.specs.declared.request.Request.{Request}
+use Rattle.register_core.specs.Fold.{IsLawful, history}
+use Rattle.register_desk.proofs.Found.{leaves_alone, leaves_still}
 use Rattle.register_words.specs.declared.values.Terms.{Terms}
+
+-- what follows from what is said of either set of files is said of both
+pub of_desk : {S : Type 0} {g : Ghosts S} {may_leave : S → Image → Type 0} {closed : Closed S} {desk : Desk S g}
+    {P : (Image → Type 0) → Type 0} {Q : Desk S g → (Image → Type 0) → Type 0}
+    → ClosesDesk g may_leave desk closed P → ((may : Image → Type 0) → P may → Q desk may)
+    → OfClosed g may_leave closed Q
+of_desk {desk = desk} both follows = (
+  desk,
+  record {
+    before = both.before;
+    gives = both.gives;
+    closes = both.closes;
+    up_to = follows _ both.up_to;
+    from = follows _ both.from;
+  },
+)
+
+-- ---- The life in files that a call was, whatever its reader told.
 
 -- where an answer was written in part its item was applied, and a stop leaves that alone
 pub fault_leaves : {S : Type 0} (g : Ghosts S) (h : List Request) (items : List (Option Request)) (rest : List ℕ)
@@ -36,8 +45,7 @@ pub fault_leaves : {S : Type 0} (g : Ghosts S) (h : List Request) (items : List 
     → RunsOver g h items rest outcome.end outcome.replies old new now → outcome.end ≡ Ended WriteFault
     → LeavesEither g (history h (take (outcome.replies + 1) items)) (history h (take (outcome.replies + 1) items)) now
 fault_leaves g h items rest outcome old new kept now whole leaves clean over is =
-    let part = subst (λ (end : Finish). RunsOver g h items rest end outcome.replies old new now) is over in
-    leaves_alone g _ now part.stands (leaves.whole whole (λ store. absurd (let both = sym is ∙ store in cc))) clean
+    leaves_alone g _ now (over.in_part is).stands (leaves.whole whole (λ store. absurd (let both = sym is ∙ store in cc))) clean
 
 module _ {S : Type 0} (g : Ghosts S) (may_leave : Image → Type 0) (outcome : Outcome) (old new : Option (List ℕ))
     (kept now : Desk S g) where
@@ -75,6 +83,23 @@ lives_anyway g may_leave may_stay found outcome mark files old new kept now whol
       unbegun = unbegun;
       opens = record { nothing = λ none clean. nothing none (before (closes clean)); refuses = tt };
     }
+
+-- a call that asked the desk of opened files changed nothing of what was left there
+pub asked_leaves : {S : Type 0} {g : Ghosts S} {h : List Request} {kept now : Desk S g} {may : Image → Type 0}
+    → ChangesNothing g kept now → StandsFor g kept h → IsWhole kept → IsClean g now → LeavesAsDesk g now may
+    → LeavesInFiles h h may
+asked_leaves {S} {g} {h} {kept} {now} changes stands whole clean leaves =
+    leaves.one_of h h (leaves_still g h kept now changes stands whole clean)
+
+-- and it opened a register
+pub opens_asked : {S U : Type 0} {g : Ghosts S} {may_leave : S → Image → Type 0} {may_stay : U → Image → Type 0}
+    {found : Image} {life : FileLife S} (kept now : Desk S g) → (HoldsNothing found → IsClean g kept → ⊥)
+    → (IsClean g now → IsClean g kept) → (IsCleanStore (g.view life.files.store) → IsClean g now)
+    → OpensFirst g may_leave may_stay found (Ok life)
+opens_asked kept now nothing before after = record {
+  nothing = λ none clean. nothing none (before (after clean));
+  refuses = tt;
+}
 
 -- ---- a call that opened no register
 

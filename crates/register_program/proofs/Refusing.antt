@@ -1,39 +1,28 @@
 -- Files that were refused are left as they were found.
 use Rattle.std.proofs.Common.{◌≡◌, ◌⊎◌, List, [], Result, Ok, Err, IsTrue, inl, inr, refl, sym, subst, ◌∙◌}
-use Rattle.std.specs.Prelude.{IsErrAnd}
 use Rattle.std.proofs.Math.Logic.{∥∥₁_map}
-use Rattle.sqlite_trees.specs.declared.store.Store.{Ghosts}
-use Rattle.sqlite_trees.specs.View.{IsClean as IsCleanStore}
-use Rattle.sqlite.specs.Files.{AreFoundIn, HoldsDatabase, IsEmpty}
-use Rattle.sqlite.specs.Held.{Held, AreDatabases, state}
-use Rattle.sqlite.specs.Recovery.{Image}
-use Rattle.sqlite.specs.State.{State, HasCleanDisk}
-use Rattle.sqlite.specs.Tree.{Trees}
-use Rattle.register_requests.specs.declared.request.Request.{Request}
-use Rattle.register_requests.specs.declared.version.Version.{Version}
+use Rattle.std.specs.Prelude.{IsErrAnd}
+use Rattle.sqlite_trees.specs.{declared.store.Store.Ghosts, View.IsClean as IsCleanStore}
+use Rattle.sqlite.specs.{Files.AreFoundIn, Files.HoldsDatabase, Files.IsEmpty, Held.Held, Held.AreDatabases, Held.state}
+use Rattle.sqlite.specs.{Recovery.Image, State.State, State.HasCleanDisk, Tree.Trees}
+use Rattle.register_requests.specs.{declared.request.Request.Request, declared.version.Version.Version}
 use Rattle.register_core.specs.Fold.{IsLawful, IsLawfulIn}
-use Rattle.register_desk.specs.declared.opening.OpenRefusal.{OpenRefusal}
 use Rattle.register_desk.specs.declared.opening.OpenRefusal.TheVariants.{Memory, NewerVersion, NotARegister, Store}
-use Rattle.register_desk.specs.declared.opening.Unopened.{Unopened}
-use Rattle.register_desk.specs.declared.desk.Desk.{Desk}
 use Rattle.register_desk.specs.DatabaseFiles.{HoldsNothing, HoldsRegister, ShowsFiles}
 use Rattle.register_desk.specs.OpenRefusal.{IsMadeIn, IsReasonOf, IsTakenIn, LeavesBehind, LeavesCommitted, LeavesMade}
 use Rattle.register_desk.specs.OpenRefusal.{LeavesStored, RefusesNoTable, ShowsTable, connection_in, refusal_in}
-use Rattle.register_desk.specs.Within.Register.{HasHistoryIn}
+use Rattle.register_desk.specs.{declared.opening.OpenRefusal.OpenRefusal, declared.opening.Unopened.Unopened}
+use Rattle.register_desk.specs.{declared.desk.Desk.Desk, Within.Register.HasHistoryIn}
 use Rattle.register_desk.proofs.Found.{finds_empty, finds_nothing, finds_register, holds_now, lawful_there, shows_table}
 use Rattle.register_desk.proofs.Found.{registered_left}
-use Rattle.register_desk.proofs.NoRegister.{passes_nothing}
-use Rattle.register_desk.proofs.Opened.{stored_in}
-use Rattle.register_program.specs.declared.files.Closed.{Closed}
-use Rattle.register_program.specs.declared.refused.Refused.{Refused}
+use Rattle.register_desk.proofs.{NoRegister.passes_nothing, Opened.stored_in}
 use Rattle.register_program.specs.declared.refused.RefusedFiles.{RefusedFiles}
 use Rattle.register_program.specs.declared.refused.RefusedFiles.TheVariants.{Failed, Shut}
-use Rattle.register_program.specs.Closing.{StandsAs}
-use Rattle.register_program.specs.FileCalls.{MakesFile, OpensFile}
 use Rattle.register_program.specs.Life.{ClosesAs, GivesBack, IsCommittedOrMade, IsFoundIn, IsOfFailed, LeavesBehindIn}
 use Rattle.register_program.specs.Life.{LeavesFound, LeavesInFiles, LeavesNoRequest, LeavesNothing, OfLeft, OfSound}
 use Rattle.register_program.specs.Life.{RefusesFiles, Refuses, RefusesMaking, RefusesToMake, SparesRegister}
-use Rattle.register_program.specs.Opening.{IsSound}
+use Rattle.register_program.specs.{declared.files.Closed.Closed, declared.refused.Refused.Refused, Closing.StandsAs}
+use Rattle.register_program.specs.{FileCalls.MakesFile, FileCalls.OpensFile, Opening.IsSound}
 
 not_failed : {S U A : Type 0} (files : RefusedFiles S U) (store : S) (failed : U) → files ≡ Shut store
     → files ≡ Failed failed → A

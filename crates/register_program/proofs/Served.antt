@@ -1,37 +1,29 @@
 -- Exchanges that were served one after the other.
 use Rattle.std.proofs.Common.{◌≡◌, ◌≢◌, inl, inr, ◌+◌, ◌≤◌, ◌++◌, ℕ, List, [], ◌∷◌, length, Option, None, Some, sym, ap}
 use Rattle.std.proofs.Common.{subst, ◌∙◌, arith, refl, true, false, Bool, length-append, IfSome, Result, Ok, Err}
-use Rattle.std.specs.Prelude.{MatchResult, String}
-use Rattle.std.specs.declared.alloc.Global.{Global}
 use Rattle.std.proofs.lemmas.List.{append-nil, take_all}
 use Rattle.std.proofs.Math.Logic.{∥∥₁_map}
-use Rattle.sqlite.specs.Recovery.{Image}
 use Rattle.std.proofs.lemmas.List.Sums.{fold-append}
+use Rattle.std.specs.{Prelude.MatchResult, Prelude.String, declared.alloc.Global.Global}
+use Rattle.sqlite.specs.Recovery.{Image}
 use Rattle.sqlite_trees.specs.declared.store.Store.{Ghosts}
-use Rattle.register_requests.specs.declared.request.Request.{Request}
+use Rattle.register_requests.specs.{declared.request.Request.Request, Request.IsRequest}
 use Rattle.register_core.specs.Fold.{history, history_after}
-use Rattle.register_requests.specs.Request.{IsRequest}
 use Rattle.register_core.proofs.Lawful.{all_more}
-use Rattle.register_desk.specs.declared.desk.Desk.{Desk}
 use Rattle.register_desk.specs.declared.end.End.TheVariants.{Memory, Store, Broken, ReadFault, WriteFault, BadHeader}
-use Rattle.register_desk.specs.declared.end.End.{End}
-use Rattle.register_desk.specs.declared.runs.Finish.{Finish}
-use Rattle.register_desk.specs.declared.runs.Outcome.{Outcome}
 use Rattle.register_desk.specs.declared.runs.Finish.TheVariants.{AtEnd, Ended}
 use Rattle.register_desk.specs.Desk.{GoesOn, IsClean, IsWhole, LeavesEither}
 use Rattle.register_desk.specs.DatabaseFiles.{HoldsOneOf, HoldsRegister}
 use Rattle.register_desk.specs.Lives.{AreInRange, Life, after, life_of}
-use Rattle.register_desk.specs.Register.{StandsFor}
+use Rattle.register_desk.specs.{declared.desk.Desk.Desk, declared.end.End.End, declared.runs.Finish.Finish}
+use Rattle.register_desk.specs.{declared.runs.Outcome.Outcome, Register.StandsFor, Run.LeavesDesk}
 use Rattle.register_desk.proofs.Found.{leaves_alone}
-use Rattle.http_messages.specs.declared.asked.AskFault.{AskFault}
+use Rattle.register_desk.proofs.Lived.{goes_then, leaves_going, leaves_stopped, still}
+use Rattle.http_messages.specs.{declared.asked.AskFault.AskFault, declared.asked.Asked.Asked}
 use Rattle.http_messages.specs.declared.asked.AskFault.TheVariants as fault
-use Rattle.http_messages.specs.declared.asked.Asked.{Asked}
-use Rattle.register_http.specs.Action.{StopsAsked}
 use Rattle.register_http.specs.Exchange.{EndsAs, Exchanges, ServesAsked}
-use Rattle.register_http.specs.OneItem.{LeavesOne}
-use Rattle.register_desk.specs.Run.{LeavesDesk}
-use Rattle.register_desk.proofs.Goings.{goes_then, leaves_going, leaves_stopped, still}
-use Rattle.register_program.specs.ServedExchanges.{EndsServing, ExplainsEnd, LeavesSome}
+use Rattle.register_http.specs.{Action.StopsAsked, OneItem.LeavesOne}
+use Rattle.register_program.specs.ServedExchanges.{EndsServing, ExplainsEnd, LeavesSome, ServesClients}
 use Rattle.register_program.specs.declared.attendance.Attendance.{Attendance}
 use Rattle.register_program.specs.Within.ServedExchanges.{StandsForSome, may_serve_on}
 
@@ -228,6 +220,19 @@ module _ {S : Type 0} (g : Ghosts S) (old new : Desk S g) where
   pub left_exchange : (moment : ℕ) (input before after : Option (List ℕ)) (outcome : Outcome)
       → Exchanges g moment input old new before after outcome → LeavesDesk old new outcome.end
   left_exchange moment input before after outcome it = left_asked moment it.asked before after outcome it.serves
+
+-- no client was accepted any more, or no moment told
+pub served_to_fault : {S : Type 0} (g : Ghosts S) (n exchanges : ℕ) (attendance : Attendance) (old new : Desk S g)
+    → ((h : List Request) → StandsFor g old h → IsWhole old → IsClean g new → StandsForSome g h n new) → n ≤ exchanges
+    → (IsClean g new → IsClean g old) → GoesOn old new → ExplainsEnd exchanges attendance (Ended ReadFault)
+    → ServesClients g exchanges attendance old new (Ended ReadFault)
+served_to_fault g n exchanges attendance old new so_far within clean goes_on cause = record {
+  leaves = λ h stands whole is_clean. served_all g h n exchanges new (so_far h stands whole is_clean) within is_clean;
+  clean = clean;
+  ends = tt;
+  cause = cause;
+  desk = leaves_at_fault g old new goes_on;
+}
 
 -- one exchange after others
 pub goes_on_by : {S : Type 0} (g : Ghosts S) (old mid new : Desk S g) (end : Finish) → GoesOn old mid

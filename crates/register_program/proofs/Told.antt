@@ -1,11 +1,8 @@
 -- What was told on the writer of faults.
 use Rattle.std.proofs.Common.{ℕ, List, [], Option, None, Some, Result, Ok, Err, OnErr, take, drop, refl, sym}
-use Rattle.std.specs.Prelude.{IfErr, OnOk}
 use Rattle.std.proofs.lemmas.List.{append-nil, take-append-drop}
-use Rattle.std.specs.Io.KnownBytes.{Appends}
-use Rattle.streams.specs.declared.watched.Watched.{Watched}
-use Rattle.streams.specs.declared.watched.WriteFault.{WriteFault}
-use Rattle.streams.specs.Watched.{IsFaulted}
+use Rattle.std.specs.{Prelude.IfErr, Prelude.OnOk, Io.KnownBytes.Appends}
+use Rattle.streams.specs.{declared.watched.Watched.Watched, declared.watched.WriteFault.WriteFault, Watched.IsFaulted}
 use Rattle.register_desk.specs.Run.{max_idle_turns}
 use Rattle.register_program.specs.Faults.{Tells}
 
@@ -15,14 +12,6 @@ appends_nothing None = tt
 appends_nothing (Some xs) = sym (append-nil xs)
 
 module _ {E : Type 0} (contents : E → Option (List ℕ)) where
-  pub tells_nothing : (faults : Watched E) → Tells contents [] faults faults
-  tells_nothing faults = record {
-    part = [];
-    prefix = ([], refl);
-    written = appends_nothing (contents faults.inner);
-    whole = λ other. absurd (other refl);
-  }
-
   pub tells_by : (bytes : List ℕ) (old new : Watched E) (written : Result (Unit {0}) WriteFault)
       → OnOk written (Appends (contents old.inner) (contents new.inner) bytes)
       → IfErr written (λ fault. Appends (contents old.inner) (contents new.inner) (take fault.written bytes))

@@ -2,13 +2,9 @@
 use Rattle.std.specs.Prelude.{◌≡◌, ℕ, List, Option, Result, Ok, Err, IfOk}
 use Rattle.streams.specs.declared.watched.Watched.{Watched}
 use Rattle.register_desk.specs.declared.opening.OpenRefusal.{OpenRefusal}
-use Rattle.register_desk.specs.declared.runs.Finish.{Finish}
-use Rattle.register_desk.specs.declared.runs.Outcome.{Outcome}
-use Rattle.register_desk.specs.InMemory.{RunsInMemory}
-use Rattle.register_program.specs.declared.acting.Outputs.{Outputs}
-use Rattle.register_program.specs.Ends.{EndsRun}
-use Rattle.register_program.specs.Faults.{Tells}
+use Rattle.register_desk.specs.{declared.runs.Finish.Finish, declared.runs.Outcome.Outcome, InMemory.RunsInMemory}
 use Rattle.register_program.specs.Job.{line_after, status_after}
+use Rattle.register_program.specs.{declared.acting.Outputs.Outputs, Ends.EndsRun, Faults.Tells}
 
 -- request lines over a register in memory, or none was made and nothing was written
 abbrev pub RunsWithoutFile : Option (List ℕ) → Option (List ℕ) → Option (List ℕ) → Result Outcome OpenRefusal → Type 0

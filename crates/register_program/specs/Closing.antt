@@ -1,17 +1,10 @@
 -- What closing the files of a store leaves in them.
 use Rattle.std.specs.Prelude.{◌≡◌, ◌⊎◌, true, false, [], IsTrue}
-use Rattle.sqlite_trees.specs.declared.store.Store.{Ghosts}
-use Rattle.sqlite_trees.specs.View.{IsClean as IsCleanStore}
-use Rattle.sqlite.specs.Files.{HoldsDatabase}
-use Rattle.sqlite.specs.Held.{AreDatabases}
-use Rattle.sqlite.specs.Recovery.{Image}
-use Rattle.sqlite.specs.Tree.{Trees}
-use Rattle.register_desk.specs.declared.desk.Desk.{Desk}
-use Rattle.register_desk.specs.DatabaseFiles.{HoldsNothing}
-use Rattle.register_desk.specs.Desk.{connection_of}
-use Rattle.register_program.specs.declared.files.Closed.{Closed}
+use Rattle.sqlite_trees.specs.{declared.store.Store.Ghosts, View.IsClean as IsCleanStore}
+use Rattle.sqlite.specs.{Files.HoldsDatabase, Held.AreDatabases, Recovery.Image, Tree.Trees}
+use Rattle.register_desk.specs.{declared.desk.Desk.Desk, DatabaseFiles.HoldsNothing, Desk.connection_of}
 use Rattle.register_program.specs.declared.files.LogCopy.TheVariants.{Copied, Broken}
-use Rattle.register_program.specs.Life.{ClosesAs}
+use Rattle.register_program.specs.{declared.files.Closed.Closed, Life.ClosesAs}
 
 -- the database file of these two alone, with no log beside it
 abbrev pub alone : Image → Image

@@ -1,17 +1,11 @@
 -- The lines on standard error by which the program names what kept it from its work. They are this register's own.
 use Rattle.std.specs.Prelude.{◌≡◌, ◌≢◌, ◌⊎◌, ℕ, List, [], ◌∷◌, ◌++◌, Option, codes}
 use Rattle.std.specs.Io.KnownBytes.{Appends}
-use Rattle.streams.specs.Lines.{line_feed}
-use Rattle.streams.specs.declared.watched.Watched.{Watched}
-use Rattle.streams.specs.Watched.{IsFaulted}
-use Rattle.register_desk.specs.declared.end.End.{End}
-use Rattle.register_desk.specs.declared.end.End.TheVariants.{Memory}
-use Rattle.register_desk.specs.declared.opening.OpenRefusal.{OpenRefusal}
-use Rattle.register_desk.specs.declared.runs.Finish.{Finish}
+use Rattle.streams.specs.{Lines.line_feed, declared.watched.Watched.Watched, Watched.IsFaulted}
 use Rattle.register_desk.specs.declared.runs.Finish.TheVariants.{AtEnd, Ended}
-use Rattle.register_desk.specs.End.{end_name, exit_status}
-use Rattle.register_desk.specs.OpenRefusal.{open_refusal_name}
-use Rattle.register_desk.specs.Run.{IsPrefixOf, max_idle_turns}
+use Rattle.register_desk.specs.{declared.end.End.End, declared.end.End.TheVariants.Memory}
+use Rattle.register_desk.specs.{declared.opening.OpenRefusal.OpenRefusal, declared.runs.Finish.Finish, End.end_name}
+use Rattle.register_desk.specs.{End.exit_status, OpenRefusal.open_refusal_name, Run.IsPrefixOf, Run.max_idle_turns}
 use Rattle.register_program.specs.Act.{usage_status}
 
 -- The line on standard error with this name. Own.

@@ -1,34 +1,22 @@
 -- What each call over the register in files says of what it came to. The files hold `found` before the call; what is
 -- said of files that it left is said of sound ones.
 use Rattle.std.specs.Prelude.{◌≡◌, ℕ, List, [], Option, Some, Result, IfOk, IfErr}
-use Rattle.sqlite_trees.specs.declared.store.Store.{Ghosts}
-use Rattle.sqlite_trees.specs.View.{IsClean as IsCleanStore}
-use Rattle.sqlite.specs.Held.{Held, state}
-use Rattle.sqlite.specs.Recovery.{Image}
-use Rattle.key_rows.specs.declared.key_row.KeyRow.{KeyRow}
-use Rattle.key_rows.specs.DueRows.{AreListed}
-use Rattle.key_rows.specs.Export.{export_text}
+use Rattle.sqlite_trees.specs.{declared.store.Store.Ghosts, View.IsClean as IsCleanStore}
+use Rattle.sqlite.specs.{Held.Held, Held.state, Recovery.Image}
 use Rattle.key_rows.specs.Report.{horizon, report_text}
+use Rattle.key_rows.specs.{declared.key_row.KeyRow.KeyRow, DueRows.AreListed, Export.export_text}
 use Rattle.register_requests.specs.declared.request.Request.{Request}
-use Rattle.register_core.specs.Fold.{IsLawful}
-use Rattle.register_core.specs.History.{latest, period}
-use Rattle.register_desk.specs.declared.desk.Desk.{Desk}
-use Rattle.register_desk.specs.declared.end.End.TheVariants.{BadHeader}
+use Rattle.register_core.specs.{Fold.IsLawful, History.latest, History.period}
 use Rattle.register_desk.specs.declared.runs.Finish.TheVariants.{Ended}
 use Rattle.register_desk.specs.DatabaseFiles.{HoldsNothing, HoldsRegister, ShowsFiles}
-use Rattle.register_desk.specs.Desk.{IsClean, IsWhole}
-use Rattle.register_desk.specs.Input.{HasItems}
-use Rattle.register_desk.specs.KeyRows.{all_rows}
-use Rattle.register_desk.specs.OpenRefusal.{ShowsTable}
-use Rattle.register_program.specs.declared.files.Closed.{Closed}
+use Rattle.register_desk.specs.{declared.desk.Desk.Desk, declared.end.End.TheVariants.BadHeader, Desk.IsClean}
+use Rattle.register_desk.specs.{Desk.IsWhole, Input.HasItems, KeyRows.all_rows, OpenRefusal.ShowsTable}
 use Rattle.register_program.specs.declared.register_file.FileLife.{FileLife}
-use Rattle.register_program.specs.declared.refused.Refused.{Refused}
+use Rattle.register_program.specs.Life.{EndsUnbegun, LeavesInFiles, LeavesMadeIn, LivesOver, LivesSome, Refuses}
+use Rattle.register_program.specs.Life.{RefusesMaking, ServesInFiles, WritesOut}
+use Rattle.register_program.specs.{declared.files.Closed.Closed, declared.refused.Refused.Refused, Closing.OfClosed}
+use Rattle.register_program.specs.{Opening.OpensRegister, ServedExchanges.EndsServing}
 use Rattle.register_words.specs.declared.values.Terms.{Terms}
-use Rattle.register_program.specs.Closing.{OfClosed}
-use Rattle.register_program.specs.Life.{EndsUnbegun, LeavesInFiles, LeavesMadeIn, LivesOver}
-use Rattle.register_program.specs.Life.{LivesSome, Refuses, RefusesMaking, ServesInFiles, WritesOut}
-use Rattle.register_program.specs.Opening.{OpensRegister}
-use Rattle.register_program.specs.ServedExchanges.{EndsServing}
 use Rattle.register_report.specs.ImportRows.{BeginsWithHeader, HasRowItems}
 
 module _ {S U : Type 0} (g : Ghosts S) (may_leave : S → Image → Type 0) (may_stay : U → Image → Type 0)

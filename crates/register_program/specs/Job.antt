@@ -2,22 +2,17 @@
 use Rattle.std.specs.Prelude.{◌≡◌, ℕ, List, Option, Result, Ok, Err, IfOk, OnErr}
 use Rattle.sqlite_trees.specs.declared.store.Store.{Ghosts}
 use Rattle.sqlite.specs.Recovery.{Image}
-use Rattle.register_desk.specs.declared.desk.DeskMark.{DeskMark}
 use Rattle.register_desk.specs.declared.opening.OpenRefusal.{OpenRefusal}
-use Rattle.register_desk.specs.declared.runs.Finish.{Finish}
-use Rattle.register_desk.specs.declared.runs.Finish.TheVariants.{AtEnd}
-use Rattle.register_desk.specs.declared.runs.Outcome.{Outcome}
+use Rattle.register_desk.specs.{declared.desk.DeskMark.DeskMark, declared.runs.Finish.Finish}
+use Rattle.register_desk.specs.{declared.runs.Finish.TheVariants.AtEnd, declared.runs.Outcome.Outcome}
 use Rattle.streams.specs.declared.watched.Watched.{Watched}
 use Rattle.register_words.specs.declared.words.Job.{Job}
 use Rattle.register_words.specs.declared.words.Job.TheVariants.{Init, Run, Import, Export, Report, Serve}
-use Rattle.register_program.specs.declared.acting.Done.{Done}
 use Rattle.register_program.specs.declared.acting.Done.TheVariants.{Made, Lived}
-use Rattle.register_program.specs.declared.acting.Inputs.{Inputs}
-use Rattle.register_program.specs.Act.{unopened_status, status_of}
 use Rattle.register_program.specs.Ends.{BreaksAs, BreaksNone, EndsImport, EndsRun, EndsWriting}
-use Rattle.register_program.specs.Faults.{finish_line, refusal_line}
 use Rattle.register_program.specs.FileCalls.{Exports, ImportsRows, MakesFile, Reports, RunsLines, ServesExchanges}
-use Rattle.register_program.specs.ServedExchanges.{ExplainsEnd}
+use Rattle.register_program.specs.{declared.acting.Done.Done, declared.acting.Inputs.Inputs, Act.unopened_status}
+use Rattle.register_program.specs.{Act.status_of, Faults.finish_line, Faults.refusal_line, ServedExchanges.ExplainsEnd}
 
 -- how it ended: at an end of the register, which one that was made has not, or before that
 abbrev pub end_of : {S U : Type 0} → Done S U → Result Finish OpenRefusal

@@ -1,32 +1,22 @@
 -- A life of a register in files: it is opened, something is done over it, and it may be stopped.
 use Rattle.std.specs.Prelude.{◌≡◌, ◌≢◌, ◌⊎◌, ◌+◌, ◌≤◌, ◌++◌, ℕ, List, [], length, take, Option, IsTrue}
-use Rattle.sqlite_trees.specs.declared.store.Store.{Ghosts}
-use Rattle.sqlite_trees.specs.View.{IsClean as IsCleanStore}
-use Rattle.sqlite.specs.Files.{AreFoundIn, HoldsDatabase}
-use Rattle.sqlite.specs.Held.{Held, AreDatabases, state}
-use Rattle.sqlite.specs.Recovery.{Image}
-use Rattle.sqlite.specs.State.{State, HasCleanDisk}
-use Rattle.sqlite.specs.Tree.{Trees}
+use Rattle.sqlite_trees.specs.{declared.store.Store.Ghosts, View.IsClean as IsCleanStore}
+use Rattle.sqlite.specs.{Files.AreFoundIn, Files.HoldsDatabase, Held.Held, Held.AreDatabases, Held.state}
+use Rattle.sqlite.specs.{Recovery.Image, State.State, State.HasCleanDisk, Tree.Trees}
 use Rattle.register_requests.specs.declared.request.Request.{Request}
 use Rattle.register_core.specs.Fold.{IsLawful, history}
-use Rattle.register_desk.specs.declared.desk.Desk.{Desk}
 use Rattle.register_desk.specs.declared.end.End.TheVariants.{BadHeader, WriteFault}
 use Rattle.register_desk.specs.declared.opening.OpenRefusal.{OpenRefusal}
 use Rattle.register_desk.specs.declared.opening.OpenRefusal.TheVariants.{NotARegister, Store}
-use Rattle.register_desk.specs.declared.opening.Unopened.{Unopened}
-use Rattle.register_desk.specs.declared.runs.Finish.{Finish}
-use Rattle.register_desk.specs.declared.runs.Finish.TheVariants.{Ended}
-use Rattle.register_desk.specs.declared.runs.Outcome.{Outcome}
 use Rattle.register_desk.specs.DatabaseFiles.{HoldsLife, HoldsNothing, HoldsOneOf, HoldsRegister, ShowsFiles}
 use Rattle.register_desk.specs.OpenRefusal.{IsMadeIn, IsTakenIn, IsReasonOf, RefusesNoTable, ShowsTable, connection_in}
 use Rattle.register_desk.specs.OpenRefusal.{refusal_in}
-use Rattle.register_desk.specs.Lives.{AreInRange}
-use Rattle.register_desk.specs.Run.{RunsOver}
-use Rattle.register_program.specs.declared.refused.Refused.{Refused}
-use Rattle.register_program.specs.declared.refused.RefusedFiles.{RefusedFiles}
+use Rattle.register_desk.specs.{declared.desk.Desk.Desk, declared.opening.Unopened.Unopened}
+use Rattle.register_desk.specs.{declared.runs.Finish.Finish, declared.runs.Finish.TheVariants.Ended}
+use Rattle.register_desk.specs.{declared.runs.Outcome.Outcome, Lives.AreInRange, Run.RunsOver}
 use Rattle.register_program.specs.declared.refused.RefusedFiles.TheVariants.{Failed, Shut}
-use Rattle.register_report.specs.Import.{EndsWithoutHeader}
-use Rattle.register_report.specs.TextWriter.{WritesText}
+use Rattle.register_program.specs.{declared.refused.Refused.Refused, declared.refused.RefusedFiles.RefusedFiles}
+use Rattle.register_report.specs.{Import.EndsWithoutHeader, TextWriter.WritesText}
 
 -- ---- what a stop leaves
 

@@ -1,21 +1,13 @@
 -- What an opening of files finds that hold a register.
 use Rattle.std.specs.Prelude.{◌≡◌, false, List, Result, Ok, Err}
-use Rattle.sqlite_trees.specs.declared.store.Store.{Ghosts}
-use Rattle.sqlite_trees.specs.View.{IsClean as IsCleanStore}
-use Rattle.sqlite.specs.Recovery.{Image}
+use Rattle.sqlite_trees.specs.{declared.store.Store.Ghosts, View.IsClean as IsCleanStore}
+use Rattle.sqlite.specs.{Recovery.Image, Held.state, State.HasCleanDisk}
 use Rattle.register_requests.specs.declared.request.Request.{Request}
-use Rattle.register_core.specs.Fold.{IsLawful}
-use Rattle.register_core.specs.History.{count, latest}
-use Rattle.sqlite.specs.Held.{state}
-use Rattle.sqlite.specs.State.{HasCleanDisk}
-use Rattle.register_desk.specs.declared.desk.Desk.{Desk}
-use Rattle.register_desk.specs.DatabaseFiles.{HoldsRegister}
-use Rattle.register_desk.specs.Desk.{IsClean, connection_of}
-use Rattle.register_desk.specs.OpenRefusal.{RefusesNoTable}
-use Rattle.register_desk.specs.Register.{KeepsHistory, StandsFor}
-use Rattle.register_program.specs.declared.refused.Refused.{Refused}
-use Rattle.register_program.specs.declared.refused.RefusedFiles.{RefusedFiles}
+use Rattle.register_core.specs.{Fold.IsLawful, History.count, History.latest}
+use Rattle.register_desk.specs.{declared.desk.Desk.Desk, DatabaseFiles.HoldsRegister, Desk.IsClean, Desk.connection_of}
+use Rattle.register_desk.specs.{OpenRefusal.RefusesNoTable, Register.KeepsHistory, Register.StandsFor}
 use Rattle.register_program.specs.declared.refused.RefusedFiles.TheVariants.{Failed, Shut}
+use Rattle.register_program.specs.{declared.refused.Refused.Refused, declared.refused.RefusedFiles.RefusedFiles}
 
 -- The desk is that of this history: it knows its latest moment and how many keys it made, and as long as it is whole its
 -- connection keeps the history's tables.

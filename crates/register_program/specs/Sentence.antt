@@ -2,27 +2,20 @@
 -- finds exactly the register of what was accepted, with every request whose reply line was written and at most one more
 -- of each run. A stop within a write is a disk that fails from that write on.
 use Rattle.std.specs.Prelude.{◌≡◌, ◌⊎◌, ℕ, ◌+◌, ◌≤◌, List, [], ◌∷◌, length, take, Option, None, Some, Ok, Err, IfSome}
-use Rattle.std.specs.List.{AllByRecursion}
-use Rattle.std.specs.Io.KnownBytes.{Appends}
-use Rattle.sqlite_trees.specs.declared.store.Store.{Ghosts}
-use Rattle.sqlite_trees.specs.View.{IsClean as IsCleanStore}
+use Rattle.std.specs.{List.AllByRecursion, Io.KnownBytes.Appends}
+use Rattle.sqlite_trees.specs.{declared.store.Store.Ghosts, View.IsClean as IsCleanStore}
 use Rattle.sqlite.specs.Recovery.{Image}
-use Rattle.register_requests.specs.declared.request.Request.{Request}
-use Rattle.register_requests.specs.Request.{IsRequest}
+use Rattle.register_requests.specs.{declared.request.Request.Request, Request.IsRequest}
 use Rattle.register_core.specs.Fold.{IsLawful, answers}
-use Rattle.register_desk.specs.declared.runs.Outcome.{Outcome}
 use Rattle.register_desk.specs.DatabaseFiles.{HoldsNothing, HoldsRegister}
-use Rattle.register_desk.specs.Input.{HasItems}
 use Rattle.register_desk.specs.Lives.{Life, after, after_lives}
-use Rattle.register_desk.specs.Run.{IsPrefixOf, answer_lines}
-use Rattle.register_program.specs.declared.files.Closed.{Closed}
-use Rattle.register_program.specs.Closing.{LeftIn}
-use Rattle.register_words.specs.declared.words.Job.{Job}
-use Rattle.register_words.specs.declared.words.Job.TheVariants.{Import, Run, Serve}
+use Rattle.register_desk.specs.{declared.runs.Outcome.Outcome, Input.HasItems, Run.IsPrefixOf, Run.answer_lines}
 use Rattle.register_program.specs.declared.refused.RefusedFiles.{RefusedFiles}
 use Rattle.register_program.specs.declared.refused.RefusedFiles.TheVariants.{Failed, Shut}
-use Rattle.register_program.specs.declared.acting.Done.{Done}
 use Rattle.register_program.specs.declared.acting.Done.TheVariants.{Lived, Made}
+use Rattle.register_program.specs.{declared.files.Closed.Closed, Closing.LeftIn, declared.acting.Done.Done}
+use Rattle.register_words.specs.declared.words.Job.{Job}
+use Rattle.register_words.specs.declared.words.Job.TheVariants.{Import, Run, Serve}
 
 -- ---- a run
 

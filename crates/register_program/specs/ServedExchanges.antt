@@ -4,15 +4,11 @@ use Rattle.std.specs.Io.KnownBytes.{Consumes}
 use Rattle.sqlite_trees.specs.declared.store.Store.{Ghosts}
 use Rattle.register_requests.specs.declared.request.Request.{Request}
 use Rattle.register_core.specs.Fold.{history}
-use Rattle.register_desk.specs.declared.desk.Desk.{Desk}
-use Rattle.register_program.specs.declared.attendance.Attendance.{Attendance}
 use Rattle.register_desk.specs.declared.end.End.TheVariants.{Memory, Store, Broken, ReadFault, WriteFault, BadHeader}
-use Rattle.register_desk.specs.declared.runs.Finish.{Finish}
 use Rattle.register_desk.specs.declared.runs.Finish.TheVariants.{AtEnd, Ended}
-use Rattle.register_desk.specs.Desk.{IsClean, IsWhole, LeavesEither}
-use Rattle.register_desk.specs.Register.{StandsFor}
-use Rattle.register_desk.specs.Lives.{AreInRange}
-use Rattle.register_desk.specs.Run.{LeavesDesk}
+use Rattle.register_desk.specs.{declared.desk.Desk.Desk, declared.runs.Finish.Finish, Desk.IsClean, Desk.IsWhole}
+use Rattle.register_desk.specs.{Desk.LeavesEither, Register.StandsFor, Lives.AreInRange, Run.LeavesDesk}
+use Rattle.register_program.specs.declared.attendance.Attendance.{Attendance}
 
 -- some bytes that were to come were taken off
 abbrev pub LosesSome : Option (List ℕ) → Option (List ℕ) → Type 0

@@ -2,11 +2,8 @@
 use Rattle.std.specs.Prelude.{◌≡◌, ℕ, List, Option, Result, Ok, Err}
 use Rattle.clap.specs.declared.error.Error.{Error}
 use Rattle.streams.specs.declared.watched.Watched.{Watched}
-use Rattle.register_words.specs.declared.words.GivenTask.{GivenTask}
-use Rattle.register_words.specs.declared.words.Task.{Task}
-use Rattle.register_words.specs.Words.{IsTask}
-use Rattle.register_program.specs.Act.{usage_status}
-use Rattle.register_program.specs.Faults.{Tells, TellsOfWords, bad_value_line}
+use Rattle.register_words.specs.{declared.words.GivenTask.GivenTask, declared.words.Task.Task, Words.IsTask}
+use Rattle.register_program.specs.{Act.usage_status, Faults.Tells, Faults.TellsOfWords, Faults.bad_value_line}
 
 module _ {E : Type 0} (contents : E → Option (List ℕ)) where
   -- What is given is that task, of which nothing is told; where a value is none it is none, and that is named; where

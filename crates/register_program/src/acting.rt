@@ -1,13 +1,10 @@
 //! What the program does, over the streams that it is given.
 ghost use Rattle.std.specs.Prelude.{◌≡◌, false};
-ghost use Rattle.register_program.specs.Act.{ActsInMemory};
 ghost use Rattle.register_program.specs.Alone.{ActsAlone, end_alone};
-ghost use Rattle.register_program.specs.Faults.{Tells};
-ghost use Rattle.register_program.specs.Words.{ReadsTask};
 ghost use Rattle.register_program.specs.Job.{BreaksFor, EndsFor, Performs, end_of, line_after};
 ghost use Rattle.register_program.specs.Job.{status_after};
-ghost use Rattle.register_program.specs.Sentence.{LeadsFrom};
-ghost use Rattle.register_program.specs.ServedExchanges.{nobody};
+ghost use Rattle.register_program.specs.{Act.ActsInMemory, Faults.Tells, Words.ReadsTask};
+ghost use Rattle.register_program.specs.{Sentence.LeadsFrom, ServedExchanges.nobody};
 
 use crate::attendance::Attendance;
 use crate::faults::{report_bad_value, report_finish, report_no_command, report_refusal};

@@ -1,12 +1,8 @@
 //! The files of a register, whoever opens them.
 ghost use Rattle.std.specs.Prelude.{◌≡◌, ℕ, List, false, IfOk, IfErr, IsTrue};
 ghost use Rattle.sqlite.specs.Held.{AreDatabases, state};
-ghost use Rattle.sqlite.specs.Files.{HoldsDatabase};
-ghost use Rattle.sqlite.specs.Recovery.{Image};
-ghost use Rattle.sqlite.specs.State.{HasCleanDisk};
-ghost use Rattle.sqlite.specs.Tree.{Trees};
-ghost use Rattle.register_desk.specs.DatabaseFiles.{ShowsFiles};
-ghost use Rattle.register_desk.specs.OpenRefusal.{RefusesNoTable};
+ghost use Rattle.sqlite.specs.{Files.HoldsDatabase, Recovery.Image, State.HasCleanDisk, Tree.Trees};
+ghost use Rattle.register_desk.specs.{DatabaseFiles.ShowsFiles, OpenRefusal.RefusesNoTable};
 ghost use Rattle.register_program.specs.Closing.{ClosesFiles, StandsAs};
 
 use register_desk::OpenRefusal;

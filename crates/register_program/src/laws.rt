@@ -5,11 +5,9 @@ ghost use Rattle.sqlite.specs.Recovery.{Image};
 ghost use Rattle.register_requests.specs.declared.request.Request.{Request};
 ghost use Rattle.register_desk.specs.DatabaseFiles.{HoldsOneOf, HoldsRegister};
 ghost use Rattle.register_desk.specs.Lives.{after_lives};
-ghost use Rattle.register_program.specs.Closing.{LeftIn, alone};
-ghost use Rattle.register_program.specs.FileCalls.{OpensFile};
-ghost use Rattle.register_program.specs.Life.{LeavesInFiles};
-ghost use Rattle.register_program.specs.Opening.{FindsHistory};
 ghost use Rattle.register_program.specs.Sentence.{AreFoundAgain, FoundAgain, ProgramRun};
+ghost use Rattle.register_program.specs.{Closing.LeftIn, Closing.alone, FileCalls.OpensFile};
+ghost use Rattle.register_program.specs.{Life.LeavesInFiles, Opening.FindsHistory};
 
 use crate::files::{Closed, Files, LogCopy};
 

@@ -2,13 +2,12 @@
 ghost use Rattle.std.specs.Prelude.{◌≡◌, false, IfErr, IfOk};
 ghost use Rattle.sqlite_trees.specs.View.{IsClean as IsCleanStore};
 ghost use Rattle.register_desk.specs.Desk.{IsClean, IsMarkOf};
-ghost use Rattle.register_program.specs.Closing.{ClosesDesk};
-ghost use Rattle.register_program.specs.Within.Closing.{LeavesAsDesk};
 ghost use Rattle.register_program.specs.FileCalls.{Exports, ImportsRows, MakesFile, OpensFile};
 ghost use Rattle.register_program.specs.FileCalls.{Reports, RunsLines, ServesExchanges};
 ghost use Rattle.register_program.specs.Ends.{BreaksAs, BreaksNone, EndsImport, EndsRun};
 ghost use Rattle.register_program.specs.Ends.{EndsWriting};
 ghost use Rattle.register_program.specs.ServedExchanges.{ExplainsEnd, nobody};
+ghost use Rattle.register_program.specs.{Closing.ClosesDesk, Within.Closing.LeavesAsDesk};
 
 use crate::attendance::Attendance;
 use crate::files::{Absent, Closed, Files};

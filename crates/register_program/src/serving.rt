@@ -2,10 +2,8 @@
 ghost use Rattle.std.specs.Prelude.{◌≡◌, List, true};
 ghost use Rattle.register_requests.specs.declared.request.Request.{Request};
 ghost use Rattle.register_desk.specs.Desk.{IsClean, IsWhole, KeepsToSteps};
-ghost use Rattle.register_desk.specs.Register.{StandsFor};
-ghost use Rattle.register_http.specs.Exchange.{Exchanges};
-ghost use Rattle.register_http.specs.OneItem.{LeavesOne};
-ghost use Rattle.register_desk.specs.Run.{LeavesDesk};
+ghost use Rattle.register_desk.specs.{Register.StandsFor, Run.LeavesDesk};
+ghost use Rattle.register_http.specs.{Exchange.Exchanges, OneItem.LeavesOne};
 ghost use Rattle.register_program.specs.ServedExchanges.{ServesClients, TookThenSome, nobody};
 ghost use Rattle.register_program.specs.Within.ServedExchanges.{may_serve_on};
 

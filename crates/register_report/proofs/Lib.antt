@@ -1,11 +1,9 @@
 pub mod RowLemmas
 pub mod RowsLemmas
-pub mod HeaderLemmas
 pub mod TableRead
 pub mod RowsCut
 pub mod Retold
 pub mod TextLemmas
-pub mod RowsWritten
 pub mod TableWritten
 pub mod WholeTable
-pub mod ListedRows
+pub mod RowsWritten

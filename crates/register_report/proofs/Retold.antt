@@ -3,21 +3,24 @@ use Rattle.std.proofs.Common.{◌≡◌, ◌∙◌, ℕ, List, [], Option, subst
 use Rattle.sqlite_trees.specs.declared.store.Store.{Ghosts}
 use Rattle.register_requests.specs.declared.request.Request.{Request}
 use Rattle.streams.specs.declared.watched.Watched.{Watched}
-use Rattle.register_desk.specs.declared.desk.Desk.{Desk}
 use Rattle.register_desk.specs.declared.end.End.TheVariants.{Memory, ReadFault}
-use Rattle.register_desk.specs.declared.runs.Finish.{Finish}
-use Rattle.register_desk.specs.declared.runs.Finish.TheVariants.{Ended}
-use Rattle.register_desk.specs.declared.runs.Outcome.{Outcome}
-use Rattle.register_desk.specs.Lives.{DeskLives}
 use Rattle.register_desk.specs.Run.{LeavesDesk, LeavesWriter, RunsItems}
+use Rattle.register_desk.specs.{declared.desk.Desk.Desk, declared.runs.Finish.Finish}
+use Rattle.register_desk.specs.{declared.runs.Finish.TheVariants.Ended, declared.runs.Outcome.Outcome, Lives.DeskLives}
+use Rattle.register_desk.proofs.Answering.{over_unread}
 use Rattle.register_report.specs.Import.{CountsRows, ImportsTable}
 
 module _ {S : Type 0} {g : Ghosts S} {kept now : Desk S g} where
   runs_retold : {items : List (Option Request)} {rest : List ℕ} {replies : ℕ} {old new : Option (List ℕ)}
       → RunsItems g items rest (Ended ReadFault) replies old new kept now
       → RunsItems g items rest (Ended Memory) replies old new kept now
-  runs_retold runs =
-      record { agrees = runs.agrees; leaves = runs.leaves; uses = λ is. absurd cc; broken = runs.broken }
+  runs_retold runs = record {
+    agrees = λ h stands clean.
+        over_unread g h _ _ Memory _ _ _ _ tt ((runs.agrees h stands clean).whole (λ e. absurd cc));
+    leaves = runs.leaves;
+    uses = λ is. absurd cc;
+    broken = runs.broken;
+  }
 
   pub lives_retold : {h : List Request} {end : Finish} {replies : ℕ} {old new : Option (List ℕ)}
       → end ≡ Ended ReadFault → DeskLives g h end replies old new kept now
@@ -27,7 +30,8 @@ module _ {S : Type 0} {g : Ghosts S} {kept now : Desk S g} where
       record {
         items = lives.items;
         rest = lives.rest;
-        over = λ other. lives.over (λ header. cc);
+        over = λ other.
+            over_unread g h _ _ Memory _ _ _ _ tt ((lives.over (λ header. cc)).whole (λ e. absurd cc));
         leaves = λ whole trees may.
             let left = lives.leaves whole trees may in (
               left.0,

@@ -2,33 +2,24 @@
 -- for a list of items, and for no two.
 use Rattle.std.proofs.Common.{◌≡◌, ◌⊎◌, inl, inr, ℕ, zero, suc, ◌+◌, ◌≤◌, ◌<◌, nat_le, Bool, true, false, if◌then◌else◌}
 use Rattle.std.proofs.Common.{List, [], ◌∷◌, ◌++◌, length, Option, None, Some, refl, sym, ap, subst, ◌∙◌, arith}
-use Rattle.std.specs.Str.{bytes_eq}
 use Rattle.std.proofs.lemmas.Bool.{leb-true, leb-false}
 use Rattle.std.proofs.lemmas.List.{append-nil}
 use Rattle.std.proofs.lemmas.Slice.Eq.{bytes_eq-Decides}
+use Rattle.std.specs.Str.{bytes_eq}
 use Rattle.csv.specs.Machine.{Read, ends_at_end, field_after, fields_after, is_end, next_record, step}
 use Rattle.csv.specs.Reading.{AreRecords, Reached, default_config, strip_bom}
-use Rattle.csv.specs.declared.parser.Config.{Config}
-use Rattle.csv.specs.declared.parser.State.{State}
+use Rattle.csv.specs.{declared.parser.Config.Config, declared.parser.State.State}
 use Rattle.csv.specs.declared.parser.State.TheVariants as states
-use Rattle.moment_core.specs.Moment.{IsMoment, last_second}
-use Rattle.moment_core.specs.MomentText.{moment_text}
-use Rattle.period_core.specs.declared.key_type.KeyType.{KeyType}
-use Rattle.period_core.specs.KeyType.{key_type_text}
-use Rattle.register_requests.specs.declared.request.Request.{Request}
-use Rattle.register_requests.specs.declared.request.Command.TheVariants.{Register}
-use Rattle.register_requests.specs.declared.request.Registration.{Registration}
-use Rattle.register_requests.specs.Name.{IsName}
-use Rattle.register_requests.specs.Number.{IsNumber, max_request_number}
-use Rattle.register_requests.specs.Purpose.{IsPurpose}
+use Rattle.moment_core.specs.{Moment.IsMoment, Moment.last_second, MomentText.moment_text}
+use Rattle.period_core.specs.{declared.key_type.KeyType.KeyType, KeyType.key_type_text}
 use Rattle.register_requests.specs.Request.{IsDate, IsRequest, IsReadAs}
-use Rattle.register_requests.specs.Within.FieldText.{Writes as IsTextOf}
-use Rattle.register_requests.proofs.Texts.{IsExact}
-use Rattle.register_requests.proofs.FieldTexts.{key_types, names, purposes}
+use Rattle.register_requests.specs.{declared.request.Request.Request, declared.request.Command.TheVariants.Register}
+use Rattle.register_requests.specs.{declared.request.Registration.Registration, Name.IsName, Number.IsNumber}
+use Rattle.register_requests.specs.{Number.max_request_number, Purpose.IsPurpose, Within.FieldText.Writes as IsTextOf}
+use Rattle.register_requests.proofs.{Texts.IsExact, FieldTexts.key_types, FieldTexts.names, FieldTexts.purposes}
 use Rattle.register_report.specs.ImportRows.{AreRowItems, BeginsWithHeader, HasRowItems, HasRows, IsRowItem, IsRowOf}
 use Rattle.register_report.specs.ImportRows.{Item, RowTexts, date_field, header}
-use Rattle.register_report.proofs.HeaderLemmas.{same_tail}
-use Rattle.register_report.proofs.RowsLemmas.{none_after, one_item, rows_split}
+use Rattle.register_report.proofs.RowsLemmas.{same_tail, none_after, one_item, rows_split}
 
 -- ---- what is so, or is not
 

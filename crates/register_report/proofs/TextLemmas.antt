@@ -1,12 +1,11 @@
 -- What is written one piece after another.
 use Rattle.std.proofs.Common.{◌≡◌, ◌≢◌, ℕ, Bool, inl, inr, List, [], ◌++◌, length, Option, Result, Ok, Err, IfOk, OnOk}
 use Rattle.std.proofs.Common.{refl, sym, ap, subst, ◌∙◌, append_assoc, length-append, arith}
-use Rattle.std.specs.Prelude.{IsErrAnd}
 use Rattle.std.proofs.lemmas.List.{append-nil}
+use Rattle.std.specs.Prelude.{IsErrAnd}
 use Rattle.streams.specs.declared.watched.Watched.{Watched}
-use Rattle.register_desk.specs.declared.end.End.{End}
 use Rattle.register_desk.specs.declared.end.End.TheVariants.{WriteFault}
-use Rattle.register_desk.specs.Run.{AreFlushed, IsPrefixOf}
+use Rattle.register_desk.specs.{declared.end.End.End, Run.AreFlushed, Run.IsPrefixOf}
 use Rattle.register_desk.proofs.Answering.{appends_none, appends_then}
 use Rattle.register_report.specs.Within.TextWriter.{Puts, PutsText}
 

@@ -5,15 +5,12 @@
 use Rattle.std.specs.Prelude.{◌≡◌, ℕ, ◌+◌, List, [], ◌∷◌, codes, Option, None, Some}
 use Rattle.std.specs.List.{AllByRecursion}
 use Rattle.csv.specs.Reading.{AreRecords, Reached, default_config, strip_bom}
-use Rattle.csv.specs.Records.{AllText}
-use Rattle.csv.specs.declared.parser.State.{State}
+use Rattle.csv.specs.{Records.AllText, declared.parser.State.State}
 use Rattle.csv.specs.declared.parser.State.TheVariants as states
 use Rattle.moment_core.specs.MomentText.{moment_text}
 use Rattle.period_core.specs.KeyType.{key_type_text}
-use Rattle.register_requests.specs.declared.request.Registration.{Registration}
-use Rattle.register_requests.specs.declared.request.Request.{Request}
-use Rattle.register_requests.specs.declared.request.Command.TheVariants.{Register}
-use Rattle.register_requests.specs.Request.{IsRequest}
+use Rattle.register_requests.specs.{declared.request.Registration.Registration, declared.request.Request.Request}
+use Rattle.register_requests.specs.{declared.request.Command.TheVariants.Register, Request.IsRequest}
 
 -- a row's fields
 abbrev pub RowTexts : Type 0

@@ -1,10 +1,9 @@
 -- The rows of a table as its items: what stands between two places of it.
 use Rattle.std.specs.Prelude.{◌≡◌, ◌⊎◌, ℕ, ◌+◌, ◌≤◌, Bool, true, false, List, length, Option, Some}
-use Rattle.csv.specs.declared.reader.Reader.{Reader}
-use Rattle.csv.specs.declared.reader.Trim.TheVariants as trim
 use Rattle.csv.specs.Reading.{Reached, ReadRecord, Ready, TookRecord, default_config, is_flexible, reader_config}
 use Rattle.csv.specs.Reading.{reader_state, reader_trim, source_of}
-use Rattle.csv.specs.Records.{AllText}
+use Rattle.csv.specs.{declared.reader.Reader.Reader, Records.AllText}
+use Rattle.csv.specs.declared.reader.Trim.TheVariants as trim
 use Rattle.register_desk.specs.declared.end.End.{End}
 use Rattle.register_desk.specs.declared.end.End.TheVariants.{Memory, Store, Broken, ReadFault, WriteFault, BadHeader}
 use Rattle.register_requests.specs.Number.{max_request_number}

@@ -2,13 +2,10 @@
 use Rattle.std.specs.Prelude.{◌≡◌, ℕ, List, Option}
 use Rattle.std.specs.Io.KnownBytes.{Appends}
 use Rattle.sqlite_trees.specs.declared.store.Store.{Ghosts}
-use Rattle.register_desk.specs.declared.desk.Desk.{Desk}
-use Rattle.register_desk.specs.declared.end.End.{End}
 use Rattle.register_desk.specs.declared.end.End.TheVariants.{Memory, Store, Broken, ReadFault, WriteFault, BadHeader}
-use Rattle.register_desk.specs.declared.runs.Finish.{Finish}
 use Rattle.register_desk.specs.declared.runs.Finish.TheVariants.{AtEnd, Ended}
-use Rattle.register_desk.specs.Desk.{ChangesNothing, IsBroken}
-use Rattle.register_desk.specs.Run.{IsPrefixOf}
+use Rattle.register_desk.specs.{declared.desk.Desk.Desk, declared.end.End.End, declared.runs.Finish.Finish}
+use Rattle.register_desk.specs.{Desk.ChangesNothing, Desk.IsBroken, Run.IsPrefixOf}
 
 -- ---- whole calls
 

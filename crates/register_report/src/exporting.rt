@@ -2,14 +2,10 @@
 ghost use Rattle.std.specs.Prelude.{◌≡◌, false, List, IfErr};
 ghost use Rattle.register_report.specs.Within.TextWriter.{IsExport, IsReport, PutsAll, finish_of};
 ghost use Rattle.register_report.specs.TextWriter.{EndsText, LeavesAlone, WritesText};
-ghost use Rattle.register_desk.specs.Run.{LeavesWriter};
 ghost use Rattle.register_desk.specs.Register.{StandsFor};
-ghost use Rattle.register_desk.specs.Desk.{IsClean};
-ghost use Rattle.register_desk.specs.KeyRows.{all_rows};
-ghost use Rattle.key_rows.specs.DueRows.{AreListed};
-ghost use Rattle.key_rows.specs.Report.{horizon, report_text};
-ghost use Rattle.key_rows.specs.Export.{export_text};
-ghost use Rattle.key_rows.specs.declared.key_row.KeyRow.{KeyRow};
+ghost use Rattle.register_desk.specs.{Run.LeavesWriter, Desk.IsClean, KeyRows.all_rows};
+ghost use Rattle.key_rows.specs.{DueRows.AreListed, Report.horizon, Report.report_text};
+ghost use Rattle.key_rows.specs.{Export.export_text, declared.key_row.KeyRow.KeyRow};
 ghost use Rattle.register_core.specs.History.{latest, period};
 ghost use Rattle.register_requests.specs.declared.request.Request.{Request};
 

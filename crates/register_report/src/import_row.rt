@@ -1,6 +1,6 @@
 //! What a row of an import asks for.
-ghost use Rattle.std.specs.Prelude.{◌≡◌, ◌≢◌, ◌<◌, ◌↔◌, ℕ, true, length};
-ghost use Rattle.std.specs.Prelude.{Option, Some, IfSome, IfNone};
+ghost use Rattle.std.specs.Prelude.{◌≡◌, ◌≢◌, ◌<◌, ◌↔◌, ℕ, true, length, Option, Some, IfSome};
+ghost use Rattle.std.specs.Prelude.{IfNone};
 ghost use Rattle.csv.specs.Records.{fields_of, field_at};
 ghost use Rattle.register_requests.specs.Request.{IsDate, IsRequest};
 ghost use Rattle.register_report.specs.ImportRows.{date_field, header, IsRowItem};

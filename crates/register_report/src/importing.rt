@@ -1,22 +1,18 @@
 //! An import: each row is read, applied and answered before the next one is looked at.
 ghost use Rattle.std.specs.Prelude.{◌≡◌, ◌⊎◌, ◌-◌, ℕ, List, Some, true, false, IfOk, IfErr, OnOk};
 ghost use Rattle.std.specs.Bool.{OnFalse, OnTrue};
-ghost use Rattle.csv.specs.Records.{AllText, fields_of};
-ghost use Rattle.csv.specs.Reading.{ReadRecord};
-ghost use Rattle.register_requests.specs.declared.request.Request.{Request};
-ghost use Rattle.register_requests.specs.Number.{IsNumber};
+ghost use Rattle.csv.specs.{Records.AllText, Records.fields_of, Reading.ReadRecord};
+ghost use Rattle.register_requests.specs.{declared.request.Request.Request, Number.IsNumber};
 ghost use Rattle.register_desk.specs.Run.{LeavesDesk, LeavesWriter, max_reads};
-ghost use Rattle.register_desk.specs.Desk.{IsClean};
-ghost use Rattle.register_desk.specs.Register.{StandsFor};
-ghost use Rattle.register_desk.specs.Lives.{DeskLives};
+ghost use Rattle.register_desk.specs.{Desk.IsClean, Register.StandsFor, Lives.DeskLives};
 ghost use Rattle.streams.specs.Watched.{IsFaulted};
 ghost use Rattle.register_report.specs.declared.importing.TheConstants.{MAX_ROWS};
 ghost use Rattle.register_report.specs.Import.{CountsRows, DoesNothing, EndsImporting};
 ghost use Rattle.register_report.specs.Import.{ImportsTable, StopsAtRecord};
 ghost use Rattle.register_report.specs.ImportRows.{header};
-ghost use Rattle.register_report.specs.TableRows.{AreRowsReady, IsPlainTable, IsUnread};
+ghost use Rattle.register_report.specs.TableRows.{AreRowsReady, IsPlainTable, IsUnread, RowsCame};
+ghost use Rattle.register_report.specs.TableRows.{RowsEnd, RowsFail};
 ghost use Rattle.register_report.specs.Within.TableRows.{KeepsRows, LacksHeader, ReadsRecord};
-ghost use Rattle.register_report.specs.TableRows.{RowsCame, RowsEnd, RowsFail};
 
 use crate::import_row::{is_header, row_item};
 use csv::{ErrorKind, Reader, ReaderBuilder, StringRecord};

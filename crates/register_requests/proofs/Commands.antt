@@ -1,21 +1,36 @@
 -- A command is its kind and its fields.
-use Rattle.std.proofs.Common.{◌≡◌, ℕ, List, ◌++◌, Some, None, ap, ◌∙◌, arith}
-use Rattle.register_requests.specs.declared.command_fields.CommandKind.{CommandKind}
-use Rattle.register_requests.specs.declared.command_fields.CommandKind.TheVariants as kinds
-use Rattle.register_requests.specs.declared.request.Command.{Command}
-use Rattle.register_requests.specs.declared.command_fields.Fields.{Fields}
+use Rattle.std.proofs.Common.{◌≡◌, ℕ, List, ◌++◌, Some, None, Option, arith}
 use Rattle.register_requests.specs.declared.command_fields.Fields.TheVariants.{Nothing, Key, KeyAndName, KeyAndOwner}
 use Rattle.register_requests.specs.declared.command_fields.Fields.TheVariants.{KeyAndNeed, TypeAndPeriod, Registration}
 use Rattle.register_requests.specs.declared.command_fields.Fields.TheVariants.{DateEdits, Revocation}
 use Rattle.register_requests.specs.CommandKind.{command_kind_text, command_shape, kind_of}
 use Rattle.register_requests.specs.Request.{IsCommand, arguments_text, command_text}
 use Rattle.register_requests.specs.Fields.{command_with, fields_of, shape_of}
-use Rattle.register_requests.specs.Within.Fields.{command_of}
+use Rattle.register_requests.specs.{declared.command_fields.CommandKind.CommandKind, declared.request.Command.Command}
+use Rattle.register_requests.specs.{declared.command_fields.Fields.Fields, Within.Fields.command_of}
+use Rattle.register_requests.specs.declared.request.Registration.{Registration as Registered}
+use Rattle.period_core.specs.declared.key_type.KeyType.{KeyType}
+use Rattle.register_requests.specs.declared.command_fields.CommandKind.TheVariants as kinds
+
+-- the registration with these fields
+abbrev pub registration_of : KeyType → List ℕ → Option ℕ → Option ℕ → Option ℕ → List ℕ → Registered
+registration_of kind owner activation protect_stop deactivation purpose = record {
+  kind = kind;
+  owner = owner;
+  activation = activation;
+  protect_stop = protect_stop;
+  deactivation = deactivation;
+  purpose = purpose;
+}
+
+-- two registrations with the same fields are one
+pub one_registration : (a b : Registered) → a.kind ≡ b.kind → a.owner ≡ b.owner
+    → a.activation ≡ b.activation → a.protect_stop ≡ b.protect_stop → a.deactivation ≡ b.deactivation
+    → a.purpose ≡ b.purpose → a ≡ b
+one_registration a b kinds owners activations protect_stops deactivations purposes = λ i.
+    registration_of (kinds i) (owners i) (activations i) (protect_stops i) (deactivations i) (purposes i)
 
 -- The last row of each has every other command.
-
-pub made_again : (c : Command) → command_with (kind_of c) (fields_of c) ≡ Some c
-made_again c = grind arith
 
 -- the fields have the shape of the kind
 pub has_shape : (c : Command) → shape_of (fields_of c) ≡ command_shape (kind_of c)

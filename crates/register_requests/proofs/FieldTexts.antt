@@ -1,35 +1,29 @@
 -- The texts of the fields: none has a space in it but that of a purpose, and each is of one value.
 use Rattle.std.proofs.Common.{◌≡◌, ◌≢◌, ℕ, suc, ◌<◌, ◌≤◌, ◌^◌, nat_le, Bool, true, false, ◌&&◌, ◌↔◌, inl, inr, List, []}
 use Rattle.std.proofs.Common.{◌∷◌, length, Option, Some, None, IfSome, IfNone, refl, sym, ap, subst, ◌∙◌, arith}
-use Rattle.std.specs.Prelude.{◌⊎◌, decimal, find, codes, not, slice_index, ◌-◌}
-use Rattle.std.specs.List.{All, list_all}
-use Rattle.std.specs.Fmt.{digits}
-use Rattle.std.specs.Str.{bytes_eq, is_utf8}
-use Rattle.std.specs.Str.Parse.{AllDigits, digits_value}
 use Rattle.std.proofs.lemmas.Bool.Decides.{nat_tests}
 use Rattle.std.proofs.lemmas.Fmt.{decimal_is_IsNumeral, decimal_injective}
 use Rattle.std.proofs.lemmas.Grind.{common_steps}
 use Rattle.std.proofs.lemmas.Slice.Eq.{bytes_eq-Decides}
 use Rattle.std.proofs.lemmas.Str.{IsUtf8-from_is_utf8, is_utf8-from_IsUtf8}
+use Rattle.std.specs.Prelude.{◌⊎◌, decimal, find, codes, not, slice_index, ◌-◌}
+use Rattle.std.specs.Str.Parse.{AllDigits, digits_value}
+use Rattle.std.specs.{List.All, List.list_all, Fmt.digits, Str.bytes_eq, Str.is_utf8}
 use Rattle.moment_core.specs.Moment.{IsMoment, last_second}
-use Rattle.lifecycle_core.specs.declared.reason.Reason.{Reason}
 use Rattle.lifecycle_core.specs.declared.reason.Reason.TheVariants.{Unspecified, KeyCompromise, CaCompromise}
 use Rattle.lifecycle_core.specs.declared.reason.Reason.TheVariants.{AffiliationChanged, Superseded}
 use Rattle.lifecycle_core.specs.declared.reason.Reason.TheVariants.{CessationOfOperation, PrivilegeWithdrawn}
-use Rattle.lifecycle_core.specs.Reason.{reason_code}
+use Rattle.lifecycle_core.specs.{declared.reason.Reason.Reason, Reason.reason_code}
 use Rattle.period_core.specs.KeyType.{key_type_text}
 use Rattle.period_core.proofs.Types.{types}
 use Rattle.register_requests.specs.declared.command_fields.CommandKind.{CommandKind}
-use Rattle.register_requests.specs.declared.command_fields.CommandKind.TheVariants as kinds
-use Rattle.register_requests.specs.declared.request.Edit.{Edit}
 use Rattle.register_requests.specs.declared.request.Edit.TheVariants.{Keep, Clear, Set}
-use Rattle.register_requests.specs.CommandKind.{command_kind_text}
-use Rattle.register_requests.specs.Name.{IsName, is_name_byte}
-use Rattle.register_requests.specs.Number.{IsNumber, max_request_number}
-use Rattle.register_requests.specs.Purpose.{IsPurpose, is_purpose_byte}
-use Rattle.register_requests.specs.Quorum.{IsQuorum, min_approvals}
 use Rattle.register_requests.specs.Request.{IsDate, IsKeyNumber, IsEdit, IsReadAs, date_text, edit_text, max_key_number}
 use Rattle.register_requests.specs.Within.FieldText.{Writes, IsAny, itself, IsShort, reason_text, is_space, HasNoSpace}
+use Rattle.register_requests.specs.{declared.request.Edit.Edit, CommandKind.command_kind_text, Name.IsName}
+use Rattle.register_requests.specs.{Name.is_name_byte, Number.IsNumber, Number.max_request_number, Purpose.IsPurpose}
+use Rattle.register_requests.specs.{Purpose.is_purpose_byte, Quorum.IsQuorum, Quorum.min_approvals}
+use Rattle.register_requests.specs.declared.command_fields.CommandKind.TheVariants as kinds
 use Rattle.register_requests.proofs.Texts.{IsExact, IsFieldText}
 
 -- ---- numbers

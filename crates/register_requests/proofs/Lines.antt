@@ -1,41 +1,32 @@
 -- Fields of a command, commands and requests: no bytes are the text of two, and it is decided of which they are.
 use Rattle.std.proofs.Common.{◌≡◌, ℕ, nat_le, ◌≤◌, Bool, true, false, List, [], ◌∷◌, ◌++◌, length, drop, append_assoc}
 use Rattle.std.proofs.Common.{Option, Some, None, refl, sym, ap, subst, ◌∙◌, arith, inl, inr, ◌&&◌, ◌↔◌, IsSome, IfSome}
-use Rattle.std.specs.Prelude.{codes, decimal, ◌⊎◌}
 use Rattle.std.proofs.lemmas.Bool.{and_parts, leb-true, leb-false}
 use Rattle.std.proofs.lemmas.List.{append-nil}
-use Rattle.period_core.specs.KeyType.{key_type_text}
+use Rattle.std.specs.Prelude.{codes, decimal, ◌⊎◌}
 use Rattle.period_core.specs.Period.{Period, IsPeriod, of_months, max_months}
-use Rattle.lifecycle_core.specs.declared.reason.Reason.{Reason}
-use Rattle.lifecycle_core.specs.Reason.{is_compromise}
-use Rattle.period_core.specs.declared.key_type.KeyType.{KeyType}
-use Rattle.register_requests.specs.declared.request.Edit.{Edit}
-use Rattle.register_requests.specs.declared.request.Request.{Request}
-use Rattle.register_requests.specs.declared.request.Command.{Command}
-use Rattle.register_requests.specs.declared.command_fields.CommandKind.{CommandKind}
-use Rattle.register_requests.specs.declared.command_fields.Fields.{Fields}
+use Rattle.period_core.specs.{KeyType.key_type_text, declared.key_type.KeyType.KeyType}
+use Rattle.lifecycle_core.specs.{declared.reason.Reason.Reason, Reason.is_compromise}
 use Rattle.register_requests.specs.declared.command_fields.Fields.TheVariants.{Nothing, Key, KeyAndName, KeyAndOwner}
 use Rattle.register_requests.specs.declared.command_fields.Fields.TheVariants.{KeyAndNeed, TypeAndPeriod, Registration}
 use Rattle.register_requests.specs.declared.command_fields.Fields.TheVariants.{DateEdits, Revocation}
-use Rattle.register_requests.specs.declared.command_fields.Shape.{Shape}
-use Rattle.register_requests.specs.declared.command_fields.Shape.TheVariants as shapes
 use Rattle.register_requests.specs.CommandKind.{command_kind_text, command_shape, kind_of}
 use Rattle.register_requests.specs.Fields.{command_with, fields_of, shape_of}
-use Rattle.register_requests.specs.Within.Fields.{command_of}
-use Rattle.register_requests.specs.CommandText.{IsCommandText}
-use Rattle.register_requests.specs.Name.{IsName}
-use Rattle.register_requests.specs.Number.{IsNumber}
-use Rattle.register_requests.specs.Purpose.{IsPurpose}
-use Rattle.register_requests.specs.Quorum.{IsQuorum}
-use Rattle.moment_core.specs.Moment.{IsMoment}
 use Rattle.register_requests.specs.Request.{IsDate, IsEdit, IsKeyNumber, IsLineOf, IsItem, IsRequest, IsReadAs}
 use Rattle.register_requests.specs.Request.{arguments_text, command_text, date_text, edit_text, request_text}
 use Rattle.register_requests.specs.Within.FieldText.{Writes, IsAny, itself, IsShort, reason_text, period_text}
 use Rattle.register_requests.specs.Within.FieldText.{HasNoSpace, AreSplit, AreFieldsOf, after_word}
+use Rattle.register_requests.specs.{declared.request.Edit.Edit, declared.request.Request.Request}
+use Rattle.register_requests.specs.{declared.request.Command.Command, declared.command_fields.CommandKind.CommandKind}
+use Rattle.register_requests.specs.{declared.command_fields.Fields.Fields, declared.command_fields.Shape.Shape}
+use Rattle.register_requests.specs.{Within.Fields.command_of, CommandText.IsCommandText, Name.IsName, Number.IsNumber}
+use Rattle.register_requests.specs.{Purpose.IsPurpose, Quorum.IsQuorum}
+use Rattle.register_requests.specs.declared.command_fields.Shape.TheVariants as shapes
+use Rattle.moment_core.specs.Moment.{IsMoment}
 use Rattle.register_requests.proofs.Texts.{IsExact, IsFieldText, Makes, made_stands, made_exact, Only, only_none}
 use Rattle.register_requests.proofs.Texts.{only_not, only_exact, split_exact, one_split, split_word}
 use Rattle.register_requests.proofs.Commands.{made, some_made, has_shape, same_command as same_parts, text_is}
-use Rattle.register_requests.proofs.Commands.{in_range_of, is_command}
+use Rattle.register_requests.proofs.Commands.{in_range_of, is_command, registration_of}
 use Rattle.register_requests.proofs.FieldTexts.{moments, key_numbers, request_numbers, quorums, shorts, dates, edits}
 use Rattle.register_requests.proofs.FieldTexts.{key_types, reasons, command_kinds, names, purposes}
 
@@ -231,14 +222,7 @@ Registered = KeyType × (List ℕ × (Option ℕ × (Option ℕ × (Option ℕ �
 
 abbrev pub registered : Registered → Fields
 registered (kind, (owner, (activation, (protect_stop, (deactivation, purpose))))) =
-    Registration (record {
-      kind = kind;
-      owner = owner;
-      activation = activation;
-      protect_stop = protect_stop;
-      deactivation = deactivation;
-      purpose = purpose;
-    })
+    Registration (registration_of kind owner activation protect_stop deactivation purpose)
 
 abbrev IsRegistered : List ℕ → Registered → Type 0
 IsRegistered =

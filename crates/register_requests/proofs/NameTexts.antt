@@ -1,10 +1,9 @@
 -- A name is ASCII, and so UTF-8.
 use Rattle.std.proofs.Common.{◌≡◌, ℕ, ◌<◌, true, List, [], ◌∷◌, arith}
-use Rattle.std.specs.List.{list_all}
-use Rattle.std.specs.Str.{IsAscii, IsUtf8}
 use Rattle.std.proofs.lemmas.Str.{IsUtf8-from_ascii}
 use Rattle.std.proofs.lemmas.Str.Ascii.{IsAscii-nil, IsAscii-cons}
 use Rattle.std.proofs.lemmas.Bool.Decides.{nat_tests}
+use Rattle.std.specs.{List.list_all, Str.IsAscii, Str.IsUtf8}
 use Rattle.register_requests.specs.Name.{is_name_byte, IsName}
 
 is_name_byte_ascii : (b : ℕ) → is_name_byte b ≡ true → b < 128

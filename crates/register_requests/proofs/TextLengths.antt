@@ -1,15 +1,13 @@
 -- How long the texts of commands are.
 use Rattle.std.proofs.Common.{ℕ, ◌≤◌, length, Option, arith}
-use Rattle.std.specs.Prelude.{decimal}
 use Rattle.std.proofs.lemmas.Fmt.{length-decimal-le}
 use Rattle.std.proofs.lemmas.List.{length-append}
+use Rattle.std.specs.Prelude.{decimal}
 use Rattle.moment_core.specs.Moment.{IsMoment}
-use Rattle.register_requests.specs.declared.request.Command.{Command}
-use Rattle.register_requests.specs.declared.request.Command.TheVariants.{Register}
-use Rattle.register_requests.specs.declared.request.Edit.{Edit}
-use Rattle.register_requests.specs.CommandText.{max_command_length}
-use Rattle.register_requests.specs.Request.{IsCommand, IsDate, IsEdit, IsKeyNumber}
-use Rattle.register_requests.specs.Request.{arguments_text, command_text, date_text, edit_text}
+use Rattle.register_requests.specs.Request.{IsCommand, IsDate, IsEdit, IsKeyNumber, arguments_text, command_text}
+use Rattle.register_requests.specs.Request.{date_text, edit_text}
+use Rattle.register_requests.specs.{declared.request.Command.Command, declared.request.Command.TheVariants.Register}
+use Rattle.register_requests.specs.{declared.request.Edit.Edit, CommandText.max_command_length}
 
 moment_short : (t : ℕ) → IsMoment t → length (decimal t) ≤ 12
 moment_short t is = length-decimal-le 12 t (omega arith) (omega (arith, is)) (omega (arith, is))

@@ -2,10 +2,10 @@
 -- which they are.
 use Rattle.std.proofs.Common.{◌≡◌, ℕ, ◌+◌, Bool, true, false, List, [], ◌∷◌, ◌++◌, length, take, drop, one-add, Option}
 use Rattle.std.proofs.Common.{Some, None, refl, sym, ap, subst, ◌∙◌, arith, inl, inr}
-use Rattle.std.specs.Prelude.{option_map, not, position, ◌⊎◌}
-use Rattle.std.specs.List.{list_all, prefix_len}
 use Rattle.std.proofs.lemmas.List.{append-nil, length-append, take_all}
 use Rattle.std.proofs.lemmas.List.Sums.{split_at_first, passes_at_first}
+use Rattle.std.specs.Prelude.{option_map, not, position, ◌⊎◌}
+use Rattle.std.specs.List.{list_all, prefix_len}
 use Rattle.register_requests.specs.Request.{IsReadAs}
 use Rattle.register_requests.specs.Within.FieldText.{IsItself, is_space, HasNoSpace, AreSplit, after_word}
 

@@ -1,20 +1,16 @@
 -- The kinds of commands: what the reader of a command knows of it by its word alone.
 use Rattle.std.specs.Prelude.{ℕ, List, [], None}
 use Rattle.lifecycle_core.specs.declared.reason.Reason.TheVariants.{Unspecified}
-use Rattle.period_core.specs.declared.key_type.KeyType.TheVariants.{DataEncryption}
-use Rattle.period_core.specs.Period.{of_months}
+use Rattle.period_core.specs.{declared.key_type.KeyType.TheVariants.DataEncryption, Period.of_months}
 use Rattle.register_requests.specs.declared.command_fields.CommandKind.{CommandKind}
-use Rattle.register_requests.specs.declared.command_fields.CommandKind.TheVariants as kinds
-use Rattle.register_requests.specs.declared.command_fields.Shape.{Shape}
-use Rattle.register_requests.specs.declared.request.Command.{Command}
 use Rattle.register_requests.specs.declared.request.Command.TheVariants.{Register, Activate, SetDates, Revoke, Assign}
 use Rattle.register_requests.specs.declared.request.Command.TheVariants.{AddCustodian, RemoveCustodian, Approve}
-use Rattle.register_requests.specs.declared.request.Command.TheVariants.{Withdraw, Destroy, Advance}
-use Rattle.register_requests.specs.declared.request.Command.TheVariants.{SetQuorum, SetPeriod}
-use Rattle.register_requests.specs.declared.request.Edit.TheVariants.{Keep}
-use Rattle.register_requests.specs.declared.version.Version.{Version}
-use Rattle.register_requests.specs.CommandRule.{rule}
-use Rattle.register_requests.specs.Fields.{fields_of, shape_of}
+use Rattle.register_requests.specs.declared.request.Command.TheVariants.{Withdraw, Destroy, Advance, SetQuorum}
+use Rattle.register_requests.specs.declared.request.Command.TheVariants.{SetPeriod}
+use Rattle.register_requests.specs.{declared.command_fields.Shape.Shape, declared.request.Command.Command}
+use Rattle.register_requests.specs.{declared.request.Edit.TheVariants.Keep, declared.version.Version.Version}
+use Rattle.register_requests.specs.{CommandRule.rule, Fields.fields_of, Fields.shape_of}
+use Rattle.register_requests.specs.declared.command_fields.CommandKind.TheVariants as kinds
 
 -- the kind of a command, which is the command without its fields
 abbrev pub kind_of : Command → CommandKind

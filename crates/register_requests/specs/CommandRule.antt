@@ -2,22 +2,18 @@
 -- which states. All of it is this register's own, within the transitions of the State attribute, KMIP 1.2 section 3.22.
 use Rattle.std.specs.Prelude.{ℕ, ◌==◌, Bool, true, false, List, [], ◌∷◌, if◌then◌else◌, codes}
 use Rattle.std.specs.List.{list_any}
-use Rattle.lifecycle_core.specs.declared.state.State.{State}
 use Rattle.lifecycle_core.specs.declared.state.State.TheVariants.{PreActive, Active, Deactivated, Compromised}
 use Rattle.lifecycle_core.specs.declared.state.State.TheVariants.{Destroyed, DestroyedCompromised}
-use Rattle.lifecycle_core.specs.State.{state_code}
-use Rattle.lifecycle_core.specs.Reason.{is_compromise}
-use Rattle.register_requests.specs.declared.command_rule.Giver.{Giver}
+use Rattle.lifecycle_core.specs.{declared.state.State.State, State.state_code, Reason.is_compromise}
 use Rattle.register_requests.specs.declared.command_rule.Giver.TheVariants.{Anybody, Owner, Custodian, Office}
-use Rattle.register_requests.specs.declared.command_rule.KeyPart.{KeyPart}
 use Rattle.register_requests.specs.declared.command_rule.KeyPart.TheVariants.{Row, Custody, CustodyAndNeed}
-use Rattle.register_requests.specs.declared.request.Command.{Command}
 use Rattle.register_requests.specs.declared.request.Command.TheVariants.{Register, Activate, SetDates, Revoke, Assign}
 use Rattle.register_requests.specs.declared.request.Command.TheVariants.{AddCustodian, RemoveCustodian, Approve}
-use Rattle.register_requests.specs.declared.request.Command.TheVariants.{Withdraw}
-use Rattle.register_requests.specs.declared.request.Command.TheVariants.{Destroy, Advance, SetQuorum, SetPeriod}
-use Rattle.register_requests.specs.declared.version.Version.{Version}
+use Rattle.register_requests.specs.declared.request.Command.TheVariants.{Withdraw, Destroy, Advance, SetQuorum}
+use Rattle.register_requests.specs.declared.request.Command.TheVariants.{SetPeriod}
 use Rattle.register_requests.specs.declared.version.Version.TheVariants.{First, Second}
+use Rattle.register_requests.specs.{declared.command_rule.Giver.Giver, declared.command_rule.KeyPart.KeyPart}
+use Rattle.register_requests.specs.{declared.request.Command.Command, declared.version.Version.Version}
 
 -- What is asked of a command beside its moment, its key and its dates: its word in a line, the first version of the
 -- register that knows it, who may give it, and the states of a key for which it is.

@@ -1,17 +1,15 @@
 -- The fields of a command, as its reader has them before it makes the command of them and of its kind.
 use Rattle.std.specs.Prelude.{Option, None, Some}
-use Rattle.register_requests.specs.declared.command_fields.CommandKind.{CommandKind}
-use Rattle.register_requests.specs.declared.command_fields.CommandKind.TheVariants as kinds
-use Rattle.register_requests.specs.declared.request.Command.{Command}
 use Rattle.register_requests.specs.declared.request.Command.TheVariants.{Register, Activate, SetDates, Revoke, Assign}
 use Rattle.register_requests.specs.declared.request.Command.TheVariants.{AddCustodian, RemoveCustodian, Approve}
 use Rattle.register_requests.specs.declared.request.Command.TheVariants.{Withdraw, Destroy, Advance, SetQuorum}
 use Rattle.register_requests.specs.declared.request.Command.TheVariants.{SetPeriod}
-use Rattle.register_requests.specs.declared.command_fields.Fields.{Fields}
 use Rattle.register_requests.specs.declared.command_fields.Fields.TheVariants.{Nothing, Key, KeyAndName, KeyAndOwner}
 use Rattle.register_requests.specs.declared.command_fields.Fields.TheVariants.{KeyAndNeed, TypeAndPeriod, Registration}
 use Rattle.register_requests.specs.declared.command_fields.Fields.TheVariants.{DateEdits, Revocation}
-use Rattle.register_requests.specs.declared.command_fields.Shape.{Shape}
+use Rattle.register_requests.specs.{declared.command_fields.CommandKind.CommandKind, declared.request.Command.Command}
+use Rattle.register_requests.specs.{declared.command_fields.Fields.Fields, declared.command_fields.Shape.Shape}
+use Rattle.register_requests.specs.declared.command_fields.CommandKind.TheVariants as kinds
 use Rattle.register_requests.specs.declared.command_fields.Shape.TheVariants as shapes
 
 -- the fields of a command

@@ -2,23 +2,16 @@
 use Rattle.std.specs.Prelude.{IfSome, ◌≡◌, Bool, true, false, ◌&&◌, nat_lt, ℕ, ◌≤◌, List, [], ◌++◌, length, codes}
 use Rattle.std.specs.Prelude.{decimal, Option, None, Some}
 use Rattle.moment_core.specs.Moment.{IsMoment}
-use Rattle.register_requests.specs.Name.{IsName}
-use Rattle.register_requests.specs.Number.{IsNumber}
-use Rattle.register_requests.specs.Purpose.{IsPurpose}
-use Rattle.register_requests.specs.Quorum.{IsQuorum}
-use Rattle.period_core.specs.KeyType.{key_type_text}
-use Rattle.period_core.specs.Period.{IsPeriod}
-use Rattle.register_requests.specs.declared.request.Request.{Request}
-use Rattle.register_requests.specs.declared.request.Command.{Command}
 use Rattle.register_requests.specs.declared.request.Command.TheVariants.{Register, Activate, SetDates, Revoke, Assign}
 use Rattle.register_requests.specs.declared.request.Command.TheVariants.{AddCustodian, RemoveCustodian, Approve}
 use Rattle.register_requests.specs.declared.request.Command.TheVariants.{Withdraw, Destroy, Advance, SetQuorum}
 use Rattle.register_requests.specs.declared.request.Command.TheVariants.{SetPeriod}
-use Rattle.register_requests.specs.declared.request.Edit.{Edit}
 use Rattle.register_requests.specs.declared.request.Edit.TheVariants.{Keep, Clear, Set}
+use Rattle.register_requests.specs.{Name.IsName, Number.IsNumber, Purpose.IsPurpose, Quorum.IsQuorum}
+use Rattle.register_requests.specs.{declared.request.Request.Request, declared.request.Command.Command}
+use Rattle.register_requests.specs.{declared.request.Edit.Edit, CommandRule.rule, Subject.named}
+use Rattle.period_core.specs.{KeyType.key_type_text, Period.IsPeriod}
 use Rattle.lifecycle_core.specs.Reason.{reason_code, is_compromise}
-use Rattle.register_requests.specs.CommandRule.{rule}
-use Rattle.register_requests.specs.Subject.{named}
 
 -- ---- ranges
 

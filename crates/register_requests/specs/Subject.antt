@@ -1,11 +1,10 @@
 -- Which key a command is about: it makes one, names one by its number, or neither.
 use Rattle.std.specs.Prelude.{ℕ, ◌+◌, ◌==◌, Bool, false, Option, None, Some}
-use Rattle.register_requests.specs.declared.request.Command.{Command}
-use Rattle.register_requests.specs.declared.request.Registration.{Registration}
 use Rattle.register_requests.specs.declared.request.Command.TheVariants.{Register, Activate, SetDates, Revoke, Assign}
 use Rattle.register_requests.specs.declared.request.Command.TheVariants.{AddCustodian, RemoveCustodian, Approve}
-use Rattle.register_requests.specs.declared.request.Command.TheVariants.{Withdraw, Destroy, Advance}
-use Rattle.register_requests.specs.declared.request.Command.TheVariants.{SetQuorum, SetPeriod}
+use Rattle.register_requests.specs.declared.request.Command.TheVariants.{Withdraw, Destroy, Advance, SetQuorum}
+use Rattle.register_requests.specs.declared.request.Command.TheVariants.{SetPeriod}
+use Rattle.register_requests.specs.{declared.request.Command.Command, declared.request.Registration.Registration}
 
 -- Which key a command is about (own): it makes one, names one by its number, or is about none.
 pub data Subject : Type 0 where

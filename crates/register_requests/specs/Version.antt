@@ -1,9 +1,8 @@
 -- The versions of the register, and what they differ in beside their tables.
 use Rattle.std.specs.Prelude.{ℕ, nat_le, Bool, true}
-use Rattle.register_requests.specs.declared.request.Command.{Command}
-use Rattle.register_requests.specs.CommandRule.{rule}
 use Rattle.register_requests.specs.declared.version.Version.{Version}
 use Rattle.register_requests.specs.declared.version.Version.TheVariants.{First, Second}
+use Rattle.register_requests.specs.{declared.request.Command.Command, CommandRule.rule}
 
 -- the number that the row of meta has
 abbrev pub version_number : Version → ℕ

@@ -186,8 +186,7 @@ pub enum Fields {
 }
 
 impl Command {
-    ghost use Rattle.register_requests.specs.Request.{is_in_range};
-    ghost use Rattle.register_requests.specs.Subject.{named};
+    ghost use Rattle.register_requests.specs.{Request.is_in_range, Subject.named};
 
     /// The number of the key that the command names, if it names one.
     pub fn key(&self) -> Option<u32>

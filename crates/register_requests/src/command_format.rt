@@ -5,8 +5,8 @@ ghost use Rattle.arrayvec.specs.ArrayString.{array_string_len};
 ghost use Rattle.period_core.specs.KeyType.{key_type_text};
 ghost use Rattle.register_requests.specs.declared.request.Command.TheVariants.{SetDates, SetPeriod};
 ghost use Rattle.register_requests.specs.declared.request.Command.TheVariants.{Revoke};
-ghost use Rattle.register_requests.specs.Request.{arguments_text, command_text};
-ghost use Rattle.register_requests.specs.Request.{date_text, edit_text};
+ghost use Rattle.register_requests.specs.Request.{arguments_text, command_text, date_text};
+ghost use Rattle.register_requests.specs.Request.{edit_text};
 
 use crate::command_fields::MAX_WORD_LENGTH;
 use crate::request::{Command, Edit};

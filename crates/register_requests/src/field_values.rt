@@ -5,17 +5,14 @@ ghost use Rattle.std.specs.Prelude.{◌≡◌, ◌≢◌, ℕ, ◌<◌, ◌≤�
 ghost use Rattle.std.specs.Prelude.{option_map, length, position, IsSome, IfSome, IfNone};
 ghost use Rattle.moment_core.specs.Moment.{IsMoment};
 ghost use Rattle.lifecycle_core.specs.Reason.{reason_code};
-ghost use Rattle.period_core.specs.KeyType.{key_type_text};
-ghost use Rattle.period_core.specs.Period.{IsPeriod};
-ghost use Rattle.register_requests.specs.Name.{IsName};
-ghost use Rattle.register_requests.specs.Number.{IsNumber};
+ghost use Rattle.period_core.specs.{KeyType.key_type_text, Period.IsPeriod};
 ghost use Rattle.register_requests.specs.Purpose.{IsPurpose};
-ghost use Rattle.register_requests.specs.Quorum.{IsQuorum};
-ghost use Rattle.register_requests.specs.Request.{IsDate, IsEdit, IsKeyNumber, IsReadAs};
-ghost use Rattle.register_requests.specs.Request.{date_text, edit_text};
+ghost use Rattle.register_requests.specs.Request.{IsDate, IsEdit, IsKeyNumber, IsReadAs, date_text};
+ghost use Rattle.register_requests.specs.Request.{edit_text};
 ghost use Rattle.register_requests.specs.Within.FieldText.{Writes, IsAny, itself, IsItself};
 ghost use Rattle.register_requests.specs.Within.FieldText.{IsShort, reason_text, period_text};
 ghost use Rattle.register_requests.specs.Within.FieldText.{is_space, AreSplit};
+ghost use Rattle.register_requests.specs.{Name.IsName, Number.IsNumber, Quorum.IsQuorum};
 
 use crate::request::Edit;
 use crate::values::{Name, Purpose, Quorum, RequestNumber};

@@ -2,8 +2,8 @@
 ghost use Rattle.std.specs.Prelude.{◌≡◌, ◌++◌, codes, option_map};
 ghost use Rattle.register_requests.specs.CommandText.{IsCommandItem, IsCommandText};
 ghost use Rattle.register_requests.specs.Request.{IsRequest, IsReadAs, request_text};
-ghost use Rattle.register_requests.specs.Within.FieldText.{Writes, HasNoSpace};
-ghost use Rattle.register_requests.specs.Within.FieldText.{AreFieldsOf, after_word};
+ghost use Rattle.register_requests.specs.Within.FieldText.{Writes, HasNoSpace, AreFieldsOf};
+ghost use Rattle.register_requests.specs.Within.FieldText.{after_word};
 ghost use Rattle.register_requests.specs.declared.command_fields.Shape.TheVariants as shapes;
 
 use crate::command_fields::{CommandKind, Fields, Shape};

@@ -1,15 +1,12 @@
 //! The values of a request, each of a type of its own, so that none out of its range can be made:
 //! names, purposes, request numbers and numbers of approvals.
 ghost use Rattle.std.specs.Prelude.{◌≡◌, ◌↔◌, IsSome, IfSome, Some, nat_eq, refl, ◌≤◌, length};
-ghost use Rattle.std.specs.List.{list_all};
-ghost use Rattle.std.specs.Ordering.{nat_cmp};
-ghost use Rattle.std.specs.Cmp.{partial_equiv_from_equiv};
 ghost use Rattle.std.specs.Cmp.Lexicographic.{pointwise, slice_cmp, nat_list_eq_equiv};
 ghost use Rattle.std.specs.Cmp.Lexicographic.{nat_list_cmp_total, texts_ties, texts_po};
+ghost use Rattle.std.specs.{List.list_all, Ordering.nat_cmp, Cmp.partial_equiv_from_equiv};
 ghost use Rattle.register_requests.specs.Name.{IsName, is_name_byte};
 ghost use Rattle.register_requests.specs.Purpose.{IsPurpose, is_purpose_byte};
-ghost use Rattle.register_requests.specs.Number.{IsNumber};
-ghost use Rattle.register_requests.specs.Quorum.{IsQuorum};
+ghost use Rattle.register_requests.specs.{Number.IsNumber, Quorum.IsQuorum};
 
 use std::cmp::Ordering;
 use std::marker::Model;

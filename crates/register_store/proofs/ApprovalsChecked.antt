@@ -1,22 +1,15 @@
 -- The check of the table of approvals.
 use Rattle.std.proofs.Common.{ℕ, List, [], ◌∷◌, arith}
-use Rattle.std.specs.List.{AllByRecursion}
-use Rattle.std.specs.Global.{Vec}
-use Rattle.sqlite.specs.Effect.{Database as Db}
-use Rattle.sqlite.specs.Order.{Row}
+use Rattle.std.specs.{List.AllByRecursion, Global.Vec}
+use Rattle.sqlite.specs.{Effect.Database as Db, Order.Row}
 use Rattle.row_checks.proofs.Each.{show_same}
-use Rattle.register_store.specs.declared.table.TableName.TheVariants.{Approval}
-use Rattle.register_store.specs.CheckedTables.{ShowsName}
-use Rattle.register_store.specs.Stored.{HoldsStored, Stored}
-use Rattle.register_store.specs.Tables.{IsNamed, name_cells}
-use Rattle.register_store.specs.CheckedRows.{IsListed}
-use Rattle.register_store.specs.Within.CheckedRows.{KnowsCustodians}
-use Rattle.register_store.specs.OpeningChecks.{IsCustodian}
-use Rattle.register_store.proofs.Actions.{shows_all}
+use Rattle.register_store.specs.{declared.table.TableName.TheVariants.Approval, CheckedTables.ShowsName}
+use Rattle.register_store.specs.{Stored.HoldsStored, Stored.Stored, Tables.IsNamed, Tables.name_cells}
+use Rattle.register_store.specs.{CheckedRows.IsListed, Within.CheckedRows.KnowsCustodians, OpeningChecks.IsCustodian}
 use Rattle.register_store.proofs.Asked.{AnswersTo, ShowsOwn, in_both, shown_of_table}
 use Rattle.register_store.proofs.CustodiansChecked.{names_past, one_name, own_row}
-use Rattle.register_store.proofs.EntriesShown.{all_permuted, own_entries}
-use Rattle.register_store.proofs.EntriesChecked.{AreChecked}
+use Rattle.register_store.proofs.EntriesChecked.{all_permuted, own_entries, AreChecked}
+use Rattle.register_store.proofs.Actions.{shows_all}
 
 own_approvals : (t : Stored) (db : Db) (rows : List Row) (holds : HoldsStored t db)
     → AnswersTo holds.schema.layout Approval db rows → ShowsOwn Approval t rows

@@ -2,14 +2,9 @@
 use Rattle.std.proofs.Common.{◌≡◌, ◌<◌, inl, inr, ℕ, List, [], ◌∷◌, ◌++◌, Result, Ok, Err, IfOk, IfErr, sym, ap, subst}
 use Rattle.std.proofs.Common.{◌∙◌, refl, arith}
 use Rattle.std.specs.List.Sorted.{IsPermutation}
-use Rattle.sqlite.specs.Command.TheVariants.{Select}
-use Rattle.sqlite.specs.Effect.{Database}
-use Rattle.sqlite.specs.Listing.{understood}
-use Rattle.sqlite.specs.Order.{Row}
-use Rattle.sqlite.specs.Program.{overlay}
-use Rattle.sqlite.specs.Query.{Query, IsSureAnswer}
 use Rattle.sqlite.specs.State.{State, HasCleanDisk, Begins, Shown, Survives}
-use Rattle.sqlite.specs.Term.{Term, col}
+use Rattle.sqlite.specs.{Command.TheVariants.Select, Effect.Database, Listing.understood, Order.Row, Program.overlay}
+use Rattle.sqlite.specs.{Query.Query, Query.IsSureAnswer, Term.Term, Term.col}
 use Rattle.sqlite.proofs.Callers.{IsPlain, begins_as, reads_as}
 use Rattle.sqlite_tied.specs.Compute.{everything}
 use Rattle.sql_steps.proofs.Statements.{plain_query}
@@ -18,22 +13,19 @@ use Rattle.row_checks.proofs.Selects.{IsSelect, select_plain}
 use Rattle.register_store.specs.declared.error.CheckError.{CheckError}
 use Rattle.register_store.specs.declared.error.CheckError.TheVariants.{NotARegister, NewerVersion, Memory}
 use Rattle.register_store.specs.declared.error.CheckError.TheVariants.{Database as Refused}
-use Rattle.register_store.specs.declared.table.TableName.{TableName}
 use Rattle.register_store.specs.declared.table.TableName.TheVariants.{Meta, Keys, Custodian, Approval, Request, Period}
 use Rattle.register_store.specs.declared.table.TableName.TheVariants.{Quorum}
+use Rattle.register_store.specs.CheckedTables.{BlamesNone, FailsCheck, HasNewer, IsReasonAt, ShowsRows, check_text}
+use Rattle.register_store.specs.Columns.{meta_columns, name_columns, request_columns, period_columns, need_columns}
+use Rattle.register_store.specs.Stored.{HoldsStored, Part, Stored, part, with_part}
+use Rattle.register_store.specs.Tables.{Layout, place_of, table_count, table_of}
+use Rattle.register_store.specs.OpeningChecks.{MeetsCheck, MeetsChecks}
+use Rattle.register_store.specs.{declared.table.TableName.TableName, Within.CheckedTables.ChecksTable, Schema.schema_in}
 use Rattle.sqlite_resolve.specs.Compile.{first}
 use Rattle.register_requests.specs.declared.version.Version.{Version}
 use Rattle.register_requests.specs.declared.version.Version.TheVariants.{First, Second}
-use Rattle.register_store.specs.CheckedTables.{BlamesNone, FailsCheck, HasNewer, IsReasonAt, ShowsRows, check_text}
-use Rattle.register_store.specs.Within.CheckedTables.{ChecksTable}
-use Rattle.register_store.specs.Columns.{meta_columns, name_columns, request_columns, period_columns, need_columns}
-use Rattle.register_store.specs.Schema.{schema_in}
-use Rattle.register_store.specs.Stored.{HoldsStored, Part, Stored, part, with_part}
-use Rattle.register_store.specs.Tables.{Layout, place_of, table_count, table_of}
 use Rattle.register_store.proofs.Meanings.{Asks, IsPlacedIn, Meant, asks, classes_in, placed_as}
-use Rattle.register_store.specs.OpeningChecks.{MeetsCheck, MeetsChecks}
-use Rattle.register_store.proofs.ColumnTerms.{key_shown, shown_from}
-use Rattle.register_store.proofs.Ordered.{ordered_query}
+use Rattle.register_store.proofs.{ColumnTerms.key_shown, ColumnTerms.shown_from, Ordered.ordered_query}
 
 -- ---- what the texts mean
 

@@ -1,55 +1,38 @@
 -- Making a register and migrating one leave what the file has beside it.
 use Rattle.std.proofs.Common.{◌≡◌, ◌<◌, ℕ, true, false, List, [], codes, Option, None, Some, Result, Ok, Err, refl, sym}
 use Rattle.std.proofs.Common.{ap, arith}
-use Rattle.std.specs.Prelude.{find, ◌+◌, get_or, ◌∷◌}
 use Rattle.std.proofs.lemmas.Grind.{common_steps}
-use Rattle.register_store.specs.Within.Creation.{MakesIndex, MakesIndexes}
 use Rattle.std.proofs.lemmas.Bool.{eqb-true}
 use Rattle.std.proofs.lemmas.Option.{none-some, same_Some}
+use Rattle.std.specs.Prelude.{find, ◌+◌, get_or, ◌∷◌}
 use Rattle.std.specs.Option.{option_and_then, option_map}
-use Rattle.sqlite.specs.Compile.{table_defined_by}
-use Rattle.sqlite.specs.Does.{sequence_text}
-use Rattle.sqlite.specs.Effect.{Database}
-use Rattle.sqlite.specs.Order.{Row}
-use Rattle.sqlite.specs.Schema.{Schema}
-use Rattle.sqlite.specs.State.{State, Executes, mode_of}
-use Rattle.sqlite.specs.Table.{Table}
-use Rattle.sqlite_ast.specs.declared.CreateIndex.{CreateIndex}
-use Rattle.sqlite_ast.specs.declared.Statement.{Statement}
+use Rattle.register_store.specs.Beside.{HasMetaApart, KeepsOthers, LacksMeta, is_meta}
+use Rattle.register_store.specs.Within.Beside.{Adds, AddsUncounted, InsertsMeta, IsMadeAs, IsUncounted, UpdatesMeta}
+use Rattle.register_store.specs.Within.Beside.{WritesMeta}
+use Rattle.register_store.specs.declared.key_index.KeyIndex.TheVariants.{Activation, Deactivation, ProtectStop}
+use Rattle.register_store.specs.{Within.Creation.MakesIndex, Within.Creation.MakesIndexes, Within.Schema.index_text}
+use Rattle.register_store.specs.{Tables.create_statement, declared.key_index.KeyIndex.KeyIndex}
+use Rattle.register_store.specs.{declared.table.TableName.TableName, declared.table.TableName.TheVariants.Meta}
+use Rattle.sqlite.specs.{Compile.table_defined_by, Does.sequence_text, Effect.Database, Order.Row, Schema.Schema}
+use Rattle.sqlite.specs.{State.State, State.Executes, State.mode_of, Table.Table}
+use Rattle.sqlite_ast.specs.{declared.CreateIndex.CreateIndex, declared.Statement.Statement}
 use Rattle.sqlite_ast.specs.declared.Statement.TheVariants as written
 use Rattle.sqlite_catalog.proofs.SoundLemmas.{lowered}
-use Rattle.sqlite_resolve.specs.Compile.{first}
-use Rattle.sqlite_resolve.specs.declared.error.CompileError.{CompileError}
+use Rattle.sqlite_resolve.specs.{Compile.first, declared.error.CompileError.CompileError}
 use Rattle.sqlite_rules.proofs.ListLemmas.{has_found}
-use Rattle.sqlite_rules.specs.Action.{work_by, works}
-use Rattle.sqlite_rules.specs.Lists.{Has}
-use Rattle.sqlite_rules.specs.declared.action.Deed.{Deed}
-use Rattle.sqlite_schema.specs.Names.{same_name}
-use Rattle.sqlite_value.specs.declared.keys.Order.{Order}
+use Rattle.sqlite_rules.specs.{Action.work_by, Action.works, Lists.Has, declared.action.Deed.Deed}
 use Rattle.sqlite_schema.specs.Rules.{ParentKey, declared_order, key_in, key_places, parent_key}
-use Rattle.sqlite_schema.specs.declared.schema.Keys.{Keys}
-use Rattle.sqlite_schema.specs.declared.schema.Reference.{Reference}
+use Rattle.sqlite_schema.specs.{Names.same_name, declared.schema.Keys.Keys, declared.schema.Reference.Reference}
+use Rattle.sqlite_value.specs.declared.keys.Order.{Order}
 use Rattle.sqlite_syntax.specs.declared.statement.Parsed.{Parsed}
 use Rattle.sqlite_tied.specs.Compute.{everything}
 use Rattle.sql_steps.specs.Steps.{DatabaseChange, StepsBy}
 use Rattle.sql_steps.proofs.Stepping.{stays, steps_as, steps_then}
-use Rattle.register_store.specs.Beside.{HasMetaApart, KeepsOthers, LacksMeta, is_meta}
-use Rattle.register_store.specs.Within.Beside.{Adds, AddsUncounted, InsertsMeta, IsMadeAs, IsUncounted, UpdatesMeta}
-use Rattle.register_store.specs.Within.Beside.{WritesMeta}
-use Rattle.register_store.specs.Within.Schema.{index_text}
-use Rattle.register_store.specs.Tables.{create_statement}
-use Rattle.register_store.specs.declared.key_index.KeyIndex.{KeyIndex}
-use Rattle.register_store.specs.declared.key_index.KeyIndex.TheVariants.{Activation, Deactivation, ProtectStop}
-use Rattle.register_store.specs.declared.table.TableName.{TableName}
-use Rattle.register_store.specs.declared.table.TableName.TheVariants.{Meta}
 use Rattle.register_store.proofs.BesideMade.{adds_by_index, adds_by_table, adds_none, adds_then}
 use Rattle.register_store.proofs.BesideMeta.{WritesOne, filter_none, flat_none, inserts_one, updates_one}
-use Rattle.register_store.proofs.Creating.{row_params, row_text}
-use Rattle.register_store.proofs.EachTable.{unplaced}
-use Rattle.register_store.proofs.NewTables.{below_next}
 use Rattle.register_store.proofs.TableTexts.{def_of, parsed, read_as, whole_is}
-use Rattle.register_store.proofs.Readings.{survives_none}
-use Rattle.register_store.proofs.VersionSet.{version_params, version_text}
+use Rattle.register_store.proofs.{Creating.row_params, Creating.row_text, EachTable.unplaced, NewTables.below_next}
+use Rattle.register_store.proofs.{Readings.survives_none, VersionSet.version_params, VersionSet.version_text}
 
 -- ---- the tables
 

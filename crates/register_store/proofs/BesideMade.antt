@@ -4,17 +4,12 @@ use Rattle.std.proofs.Common.{ap, subst, ◌∙◌, arith}
 use Rattle.std.specs.Prelude.{fold, max, slice_range, slice_get}
 use Rattle.sqlite.specs.Change.{created, indexed, next_tree}
 use Rattle.sqlite.specs.Command.TheVariants.{CreateTable as MakeTable, CreateIndex as MakeIndex}
-use Rattle.sqlite.specs.Compile.{table_defined_by}
 use Rattle.sqlite.specs.Does.{Defines, MakesIndex, MakesSequence, Tally, lacks_sequence, sequence_text}
-use Rattle.sqlite.specs.Effect.{Database}
-use Rattle.sqlite.specs.Schema.{Schema}
-use Rattle.sqlite.specs.Order.{Row}
 use Rattle.sqlite.specs.State.{State, Executes, Writes, mode_of}
-use Rattle.sqlite.specs.Table.{Table}
+use Rattle.sqlite.specs.{Compile.table_defined_by, Effect.Database, Schema.Schema, Order.Row, Table.Table}
 use Rattle.sqlite_rules.proofs.ListLemmas.{all_has, has_left, has_either}
 use Rattle.sqlite_schema.specs.declared.schema.Index.{Index}
-use Rattle.sqlite_ast.specs.declared.CreateIndex.{CreateIndex}
-use Rattle.sqlite_ast.specs.declared.CreateTable.{CreateTable}
+use Rattle.sqlite_ast.specs.{declared.CreateIndex.CreateIndex, declared.CreateTable.CreateTable}
 use Rattle.sqlite_ast.specs.declared.Statement.TheVariants as written
 use Rattle.sqlite_catalog.specs.Calls.{CreatesIndex, CreatesTable}
 use Rattle.sqlite_resolve.specs.Compile.{first}

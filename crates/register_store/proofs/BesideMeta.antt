@@ -1,36 +1,23 @@
 -- What the INSERT and the UPDATE of `meta` leave beside that table, whatever the schema is.
 use Rattle.std.proofs.Common.{◌≡◌, ◌≢◌, inl, inr, ℕ, zero, suc, ◌+◌, Bool, true, false, List, [], ◌∷◌, Option, None}
 use Rattle.std.proofs.Common.{Some, Ok, refl, sym, ap, subst, ◌∙◌, arith}
+use Rattle.std.proofs.lemmas.Option.{same_Some}
 use Rattle.std.specs.Prelude.{slice_range, slice_get, flat_map, filter_map}
 use Rattle.std.specs.List.{position_from}
-use Rattle.sqlite.specs.Command.{Command}
 use Rattle.sqlite.specs.Command.TheVariants.{Insert, Update}
-use Rattle.sqlite.specs.Does.{AtPlace, OnRows, Tally}
-use Rattle.sqlite.specs.Edit.{Edit, Applies, edit_of}
-use Rattle.sqlite.specs.Effect.{Database}
-use Rattle.sqlite.specs.Order.{Row}
 use Rattle.sqlite.specs.Rowids.TheVariants.{Chosen, Given}
-use Rattle.sqlite.specs.Rows.{Task, Written}
-use Rattle.sqlite.specs.Schema.{Schema}
-use Rattle.sqlite.specs.Source.{Source}
 use Rattle.sqlite.specs.State.{State, Executes, Writes, mode_of}
-use Rattle.sqlite.specs.Table.{Table}
+use Rattle.sqlite.specs.{Command.Command, Does.AtPlace, Does.OnRows, Does.Tally, Edit.Edit, Edit.Applies, Edit.edit_of}
+use Rattle.sqlite.specs.{Effect.Database, Order.Row, Rows.Task, Rows.Written, Schema.Schema, Source.Source, Table.Table}
 use Rattle.sqlite.proofs.Callers.{one_step}
 use Rattle.sqlite_ast.specs.declared.Conflict.TheVariants as conflict
-use Rattle.sqlite_ast.specs.declared.Expr.{Expr}
-use Rattle.sqlite_ast.specs.declared.Rows.{Rows}
+use Rattle.sqlite_ast.specs.{declared.Expr.Expr, declared.Rows.Rows}
 use Rattle.sqlite_ast.specs.declared.Statement.TheVariants as written
 use Rattle.sqlite_resolve.specs.Compile.{first, target}
-use Rattle.sqlite_rules.specs.Action.{works}
-use Rattle.sqlite_rules.specs.Calls.{ids_of}
-use Rattle.sqlite_rules.specs.Edit.{taken_by}
-use Rattle.sqlite_rules.specs.Lists.{Has}
+use Rattle.sqlite_rules.specs.{Action.works, Calls.ids_of, Edit.taken_by, Lists.Has}
 use Rattle.sqlite_rules.proofs.ListLemmas.{all_has, has_got}
-use Rattle.sqlite_schema.specs.Names.{same_name}
-use Rattle.sqlite_schema.specs.declared.program.Program.{Program}
-use Rattle.sqlite_schema.specs.declared.schema.Keys.{Keys}
+use Rattle.sqlite_schema.specs.{Names.same_name, declared.program.Program.Program, declared.schema.Keys.Keys}
 use Rattle.sqlite_syntax.specs.declared.statement.Parsed.{Parsed}
-use Rattle.std.proofs.lemmas.Option.{same_Some}
 use Rattle.sql_steps.proofs.Statements.{inserts_from, same_value, went}
 use Rattle.register_store.proofs.BesideShapes.{at_place, ran_as, Inserts, Updates, insert_understood, update_understood}
 

@@ -1,40 +1,26 @@
 -- What a text comes to in a schema of which nothing is known: it is a command of its statement's kind, or is refused.
-use Rattle.std.proofs.Common.{◌≡◌, ◌⊎◌, inl, inr, ℕ, Bool, false, cond, List, [], Option, None, Some, Ok, Err, refl}
+use Rattle.std.proofs.Common.{◌≡◌, ◌⊎◌, inl, inr, ℕ, false, cond, List, [], Option, None, Some, Ok, Err, refl}
 use Rattle.std.proofs.Common.{sym, ap, subst, ◌∙◌, subst₂, arith}
+use Rattle.std.proofs.lemmas.Bool.{cases_Bool}
 use Rattle.std.specs.Prelude.{◌+◌, slice_range, length, not, ◌&&◌, nat_eq, ◌++◌}
-use Rattle.sqlite.specs.Command.{Command}
 use Rattle.sqlite.specs.Command.TheVariants.{CreateTable as MakeTable, CreateIndex as MakeIndex, Insert, Update}
 use Rattle.sqlite.specs.Command.TheVariants.{Nothing}
 use Rattle.sqlite.specs.Listing.{understood, listing_schema, misses_table, if_select, is_select}
 use Rattle.sqlite.specs.Clock.{timed as timed_params}
-use Rattle.sqlite.specs.Does.{AtPlace}
-use Rattle.sqlite.specs.Order.{Row}
-use Rattle.sqlite.specs.Rows.{Part}
 use Rattle.sqlite.specs.State.{State, Executes, ExecutesIn, Runs, shows_rows, text_of}
-use Rattle.std.proofs.lemmas.Bool.{cases_Bool}
+use Rattle.sqlite.specs.{Command.Command, Does.AtPlace, Order.Row, Rows.Part, Schema.Schema, Table.Table, Source.Source}
 use Rattle.sqlite_resolve.specs.declared.error.CompileError.TheVariants.{Unsupported, NoSuchTable}
-use Rattle.sqlite.specs.Schema.{Schema}
-use Rattle.sqlite.specs.Table.{Table}
-use Rattle.sqlite_ast.specs.declared.CreateTable.{CreateTable}
+use Rattle.sqlite_resolve.specs.Compile.{first, compiled, planned, meaning, returning, timed, command, create_table}
+use Rattle.sqlite_resolve.specs.Compile.{create_index, insert, update, insert_or_abort, target, shows, small}
+use Rattle.sqlite_resolve.specs.Compile.{formats_of, with_command}
+use Rattle.sqlite_resolve.specs.declared.compiled.Compiled.{Compiled}
+use Rattle.sqlite_resolve.specs.{Lowering.Checked, Lowering.and_then, Program.program, Write.updated}
 use Rattle.sqlite_ast.specs.declared.CreateIndex.{CreateIndex}
-use Rattle.sqlite_ast.specs.declared.Expr.{Expr}
-use Rattle.sqlite_ast.specs.declared.Rows.{Rows}
+use Rattle.sqlite_ast.specs.{declared.CreateTable.CreateTable, declared.Expr.Expr, declared.Rows.Rows}
 use Rattle.sqlite_ast.specs.declared.Conflict.TheVariants as conflict
 use Rattle.sqlite_ast.specs.declared.Statement.TheVariants as written
-use Rattle.sqlite_resolve.specs.Lowering.{Checked, and_then}
-use Rattle.sqlite_resolve.specs.Compile.{first, compiled, planned, meaning, returning, timed, command, create_table}
-use Rattle.sqlite_resolve.specs.Compile.{create_index, creates, insert, update, insert_or_abort, target, shows, small}
-use Rattle.sqlite_resolve.specs.Compile.{formats_of, with_command, new_rows}
-use Rattle.sqlite_resolve.specs.Body.{table_at}
-use Rattle.sqlite_resolve.specs.declared.compiled.Compiled.{Compiled}
-use Rattle.sqlite_resolve.specs.Define as define
-use Rattle.sqlite_resolve.specs.Program.{program}
-use Rattle.sqlite_resolve.specs.Write.{updated}
 use Rattle.sqlite_draft.specs.declared.query.Draft.{Draft}
-use Rattle.sqlite.specs.Source.{Source}
 use Rattle.sqlite_schema.specs.declared.program.Program.{Program}
-use Rattle.sqlite_schema.specs.Names.{table_named, index_named, view_named}
-use Rattle.std.specs.Option.{option_or}
 use Rattle.sql_steps.proofs.Statements.{same_value}
 use Rattle.register_store.proofs.NextTexts.{IsText, planned_as}
 use Rattle.sqlite_syntax.specs.declared.statement.Parsed.{Parsed}
@@ -84,17 +70,9 @@ module _ (text : List ℕ) (p : Parsed) (def : CreateTable) (table : Table) (t :
   abbrev pub MakesTable : Schema → Command → Type 0
   MakesTable s k = (k ≡ MakeTable) ⊎ (k ≡ Nothing)
 
-  abbrev table_is_new : Schema → Checked Bool
-  table_is_new s =
-      creates def.if_missing def.name (option_or (table_named s def.name) (view_named s def.name))
-      (index_named s def.name)
-
   abbrev checked : Table → Checked Command
   checked t =
       cond (nat_eq (length t.computed) (length t.stamps.places) && not def.resolves) (Ok MakeTable) (Err Unsupported)
-
-  abbrev table_where : Bool → Checked Command
-  table_where is_new = cond is_new (and_then (define.table p.formats def) checked) (Ok Nothing)
 
   table_shape : (s : Schema) (k : Command) → create_table s p.formats def ≡ Ok k → MakesTable s k
   unfolding create_table
@@ -118,17 +96,6 @@ module _ (text : List ℕ) (p : Parsed) (def : CreateIndex) (parsed : first text
       → compiled s text ≡ and_then r (λ k. Ok (with_command p (p.formats, (k, None))))
   unfolding compiled planned meaning returning timed command
   index_planned s r h = search arith
-
-  abbrev index_is_new : Schema → Checked Bool
-  index_is_new s =
-      creates def.if_missing def.name (index_named s def.name)
-      (option_or (table_named s def.name) (view_named s def.name))
-
-  abbrev index_where : ℕ → Table → Bool → Checked Command
-  index_where at table is_new = cond is_new (and_then (define.index table def) (λ _. Ok (MakeIndex at))) (Ok Nothing)
-
-  abbrev indexed_at : Schema → ℕ → Checked Command
-  indexed_at s at = and_then (table_at s at) (λ table. and_then (index_is_new s) (index_where at table))
 
   index_shape : (s : Schema) (k : Command) → create_index s def ≡ Ok k → MakesIndex s k
   unfolding create_index
@@ -156,10 +123,6 @@ module _ (text : List ℕ) (p : Parsed) (name : List ℕ) (columns : List (List 
       → compiled s text ≡ and_then r (λ k. Ok (with_command p (wanted s, (k, None))))
   unfolding compiled planned meaning returning timed command shows insert_or_abort
   insert_planned s r h = search arith
-
-  abbrev rows_put : Schema → ℕ → Table → Checked Command
-  rows_put s at table =
-      and_then (new_rows s table (small p.names + small (wanted s)) columns rows) (λ from. Ok (Insert at from))
 
   insert_shape : (s : Schema) (k : Command) → inserting s ≡ Ok k → Inserts s k
   unfolding insert

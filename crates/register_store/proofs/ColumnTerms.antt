@@ -1,10 +1,7 @@
 -- What a statement shows or gives of columns, by their places.
 use Rattle.std.proofs.Common.{ℕ, ◌+◌, List, [], ◌∷◌, ◌++◌, codes, set}
-use Rattle.sqlite.specs.declared.types.Value.TheVariants.{Null}
-use Rattle.sqlite.specs.Term.{Term, col, lit}
-use Rattle.register_store.specs.Columns.{key_columns, listed}
-use Rattle.register_store.specs.Within.Columns.{given}
-use Rattle.register_store.specs.TableForms.{Named}
+use Rattle.sqlite.specs.{declared.types.Value.TheVariants.Null, Term.Term, Term.col, Term.lit}
+use Rattle.register_store.specs.{Columns.key_columns, Columns.listed, Within.Columns.given, TableForms.Named}
 
 -- the cells of a row that stand in the columns from this place on
 abbrev pub shown_from : ℕ → List Named → List Term

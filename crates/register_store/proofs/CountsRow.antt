@@ -1,28 +1,20 @@
 -- What the UPDATE of the one row of meta does.
 use Rattle.std.proofs.Common.{◌≡◌, ℕ, pos, List, [], ◌∷◌, codes, Ok, refl, sym, ap, subst}
 use Rattle.sqlite.specs.declared.types.Value.TheVariants.{Null, Int}
-use Rattle.sqlite.specs.Collation.TheVariants.{Binary}
-use Rattle.sqlite.specs.Order.{Row as Cells}
-use Rattle.sqlite.specs.State.{State, Executes}
 use Rattle.sqlite.specs.Term.{Term, lit, col, op2}
-use Rattle.sqlite.specs.Tree.{IsTable}
-use Rattle.sqlite_sql.specs.declared.ops.BinaryOp.TheVariants.{Compare}
-use Rattle.sqlite_sql.specs.declared.ops.CompareOp.TheVariants.{Eq}
+use Rattle.sqlite.specs.{Collation.TheVariants.Binary, Order.Row as Cells, State.State, State.Executes, Tree.IsTable}
+use Rattle.sqlite_sql.specs.{declared.ops.BinaryOp.TheVariants.Compare, declared.ops.CompareOp.TheVariants.Eq}
 use Rattle.sqlite_tied.specs.Compute.{everything}
 use Rattle.sql_steps.proofs.Changing as changing
-use Rattle.sql_steps.proofs.Queries.{compares}
-use Rattle.sql_steps.proofs.Statements.{plain_query, cast_int, cast_null}
+use Rattle.sql_steps.proofs.{Queries.compares, Statements.plain_query, Statements.cast_int, Statements.cast_null}
 use Rattle.moment_core.specs.Moment.{IsMoment}
-use Rattle.register_store.specs.declared.table.TableName.TheVariants.{Meta}
 use Rattle.register_store.specs.Tables.{Layout, fresh, place_of, Counts}
-use Rattle.register_store.specs.Within.Tables.{meta, counts_row}
-use Rattle.register_store.specs.Schema.{schema_with, table_rows}
-use Rattle.register_store.specs.TableChanges.{Makes}
 use Rattle.register_store.specs.Within.TableChanges.{Always, with_counts}
-use Rattle.register_store.proofs.Actions.{idle, shows_all}
-use Rattle.sqlite_resolve.specs.Compile.{first}
+use Rattle.register_store.specs.{declared.table.TableName.TheVariants.Meta, Within.Tables.meta}
+use Rattle.register_store.specs.{Within.Tables.counts_row, Schema.schema_with, Schema.table_rows, TableChanges.Makes}
 use Rattle.register_store.proofs.Meanings.{Sets, classes, placed, sets}
-use Rattle.register_store.proofs.Frame.{holds_with}
+use Rattle.register_store.proofs.{Actions.idle, Actions.shows_all, Frame.holds_with}
+use Rattle.sqlite_resolve.specs.Compile.{first}
 
 abbrev pub counts_text : List ℕ
 counts_text = codes "UPDATE meta SET latest = ?1, key_count = ?2 WHERE id = 1"

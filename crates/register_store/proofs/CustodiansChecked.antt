@@ -5,44 +5,31 @@ use Rattle.std.proofs.Common.{Ok, Err, IsTrue, refl, sym, ap, subst, ◌∙◌, 
 use Rattle.std.proofs.lemmas.Bool.{eq-eqb, eqb-true}
 use Rattle.std.proofs.lemmas.List.{append-nil, length-append}
 use Rattle.std.proofs.lemmas.List.Sorted.{IsPermutation-map, length_permutation, list_any-IsPermutation}
-use Rattle.std.specs.Prelude.{IsErrAnd}
-use Rattle.std.specs.List.{AllByRecursion}
-use Rattle.std.specs.List.Sorted.{IsPermutation}
-use Rattle.std.specs.Global.{Vec}
-use Rattle.std.specs.Vec.{vec_len}
+use Rattle.std.specs.{Prelude.IsErrAnd, List.AllByRecursion, List.Sorted.IsPermutation, Global.Vec, Vec.vec_len}
 use Rattle.sqlite.specs.declared.types.Value.TheVariants.{Null, Int, Text as Words}
-use Rattle.sqlite.specs.Effect.{Database as Db}
-use Rattle.sqlite.specs.Order.{Row, column}
 use Rattle.sqlite.specs.State.{State, HasCleanDisk, IsUnchanged, Survives}
-use Rattle.sqlite.specs.Term.{eval_all}
+use Rattle.sqlite.specs.{Effect.Database as Db, Order.Row, Order.column, Term.eval_all}
 use Rattle.sqlite_rules.proofs.ListLemmas.{all_has}
 use Rattle.sqlite_rules.specs.Lists.{Has}
-use Rattle.row_checks.specs.declared.error.RowsError.{RowsError}
 use Rattle.row_checks.specs.declared.error.RowsError.TheVariants.{NoMeaning, Refused, Memory}
-use Rattle.row_checks.specs.EachRow.{ShowEach}
 use Rattle.row_checks.specs.ShownRows.{HasNoMeaning, ShowsAll, ShowsFirst}
+use Rattle.row_checks.specs.{declared.error.RowsError.RowsError, EachRow.ShowEach}
 use Rattle.row_checks.proofs.Each.{all_prefix, all_last, all_more, show_prefix, show_less, show_more, show_same}
 use Rattle.sql_steps.proofs.Members.{filter_permutation}
-use Rattle.register_requests.specs.Version.{custodians_of}
+use Rattle.register_requests.specs.{Version.custodians_of, Name.is_among}
 use Rattle.register_core.specs.KeyName.{KeyName, is_at, names_at}
-use Rattle.register_requests.specs.Name.{is_among}
-use Rattle.register_store.specs.declared.error.CheckError.{CheckError}
 use Rattle.register_store.specs.declared.error.CheckError.TheVariants.{Memory as Ran_out}
 use Rattle.register_store.specs.declared.table.TableName.TheVariants.{Custodian}
 use Rattle.register_store.specs.CheckedTables.{IsOdd, ShowsName, check_error, check_text}
-use Rattle.register_store.specs.Within.CheckedTables.{ChecksTable}
-use Rattle.register_store.specs.Stored.{HoldsStored, Stored}
-use Rattle.register_store.specs.Tables.{IsNamed, name_cells}
 use Rattle.register_store.specs.CheckedRows.{AreKept, HasCustodians, IsListed, RefusesCustodians, list_at}
 use Rattle.register_store.specs.Within.CheckedRows.{AreEmpty, KnowsCustodians}
 use Rattle.register_store.specs.OpeningChecks.{AreCustodians, IsCustodian, MayBeCustodian, owner_at, owners_of}
-use Rattle.register_store.proofs.Actions.{shows_all}
+use Rattle.register_store.specs.{declared.error.CheckError.CheckError, Within.CheckedTables.ChecksTable}
+use Rattle.register_store.specs.{Stored.HoldsStored, Stored.Stored, Tables.IsNamed, Tables.name_cells}
 use Rattle.register_store.proofs.Asked.{AnswersTo, IsWithin, ShowsOwn, in_both, shown_of_table, checks_table}
-use Rattle.register_store.proofs.Decoding.{same_number, same_words}
-use Rattle.register_store.proofs.EntriesShown.{all_permuted, own_entries}
-use Rattle.register_store.proofs.MetaChecked.{newer_not}
-use Rattle.register_store.proofs.NameLists.{get_below, get_some}
-use Rattle.register_store.proofs.RowsFailed.{reason_of}
+use Rattle.register_store.proofs.EntriesChecked.{all_permuted, own_entries}
+use Rattle.register_store.proofs.{Actions.shows_all, Decoding.same_number, Decoding.same_words, MetaChecked.newer_not}
+use Rattle.register_store.proofs.{NameLists.get_below, NameLists.get_some, RowsFailed.reason_of}
 
 -- ---- rows of names at keys
 

@@ -2,25 +2,19 @@
 use Rattle.std.proofs.Common.{◌≡◌, ℕ, ◌+◌, pos, List, [], ◌∷◌, map, Bool, Ok, set, refl, ap, subst, arith}
 use Rattle.std.specs.List.{enumerate_from}
 use Rattle.sqlite.specs.declared.types.Value.TheVariants.{Int}
-use Rattle.sqlite.specs.Collation.TheVariants.{Binary}
-use Rattle.sqlite.specs.Order.{Row as Cells}
-use Rattle.sqlite.specs.State.{State as View, Executes}
 use Rattle.sqlite.specs.Term.{Term, lit, col, op2}
+use Rattle.sqlite.specs.{Collation.TheVariants.Binary, Order.Row as Cells, State.State as View, State.Executes}
 use Rattle.sqlite_sql.specs.declared.ops.BinaryOp.TheVariants.{Compare}
 use Rattle.sqlite_sql.specs.declared.ops.CompareOp.TheVariants.{Eq, Le}
 use Rattle.sqlite_tied.specs.Compute.{everything}
-use Rattle.sql_steps.proofs.Comparing.{equal_numbers, most_numbers}
-use Rattle.sql_steps.proofs.Statements.{cast_int, cast_null}
+use Rattle.sql_steps.proofs.{Comparing.equal_numbers, Comparing.most_numbers, Statements.cast_int, Statements.cast_null}
 use Rattle.moment_core.specs.Moment.{IsMoment}
 use Rattle.lifecycle_core.specs.State.{state_code}
 use Rattle.register_core.specs.declared.key.Key.{Key}
-use Rattle.register_store.specs.declared.accepted_request.DueDate.{DueDate}
 use Rattle.register_store.specs.declared.accepted_request.DueDate.TheVariants.{Activation, Deactivation}
-use Rattle.register_store.specs.Tables.{IsKey, key_row}
-use Rattle.register_store.specs.Schema.{Holds}
-use Rattle.register_store.specs.TableChanges.{Makes}
-use Rattle.register_store.specs.Within.TableChanges.{Always, in_state}
 use Rattle.register_store.specs.Within.Due.{is_date_due, moved_on, state_before, state_after, update_text, with_each}
+use Rattle.register_store.specs.{declared.accepted_request.DueDate.DueDate, Tables.IsKey, Tables.key_row, Schema.Holds}
+use Rattle.register_store.specs.{TableChanges.Makes, Within.TableChanges.Always, Within.TableChanges.in_state}
 use Rattle.sqlite_resolve.specs.Compile.{first}
 use Rattle.register_store.proofs.ColumnTerms.{key_kept}
 use Rattle.register_store.proofs.KeyChange.{IsUpdate, changed_where, changes_keys, image_of, passes_row}

@@ -4,13 +4,9 @@ use Rattle.std.proofs.Common.{None, Ok, Err, refl, sym, ap, subst, ◌∙◌, ar
 use Rattle.std.proofs.lemmas.Bool.{cases_lt}
 use Rattle.std.specs.Ordering.{is_lt}
 use Rattle.sqlite.specs.declared.error.Error.TheVariants.{QueryReturnedNoRows}
-use Rattle.sqlite.specs.declared.types.Value.TheVariants.{Int}
-use Rattle.sqlite.specs.Collation.TheVariants.{Binary}
-use Rattle.sqlite.specs.Command.TheVariants.{Select}
-use Rattle.sqlite.specs.Order.{Row as Cells}
-use Rattle.sqlite.specs.Query.{output_cmp}
-use Rattle.sqlite.specs.State.{State, QueriesRow}
 use Rattle.sqlite.specs.Term.{Term, col, lit, op2, eval_all}
+use Rattle.sqlite.specs.{declared.types.Value.TheVariants.Int, Collation.TheVariants.Binary, Command.TheVariants.Select}
+use Rattle.sqlite.specs.{Order.Row as Cells, Query.output_cmp, State.State, State.QueriesRow}
 use Rattle.sqlite_resolve.specs.Compile.{first}
 use Rattle.sqlite_rules.specs.Lists.{Has}
 use Rattle.sqlite_sql.specs.declared.ops.BinaryOp.TheVariants.{Compare, Or}
@@ -21,28 +17,20 @@ use Rattle.sqlite_value.proofs.OrderLemmas.{value_cmp-Int}
 use Rattle.sqlite_value.specs.Keys.{ascending}
 use Rattle.sqlite_value.specs.declared.keys.Key as sorted_by
 use Rattle.sql_steps.proofs.Firsts.{ShowsLeast, gives_first, gives_no_row, ordered_by, out_of, passing}
-use Rattle.sql_steps.proofs.Members.{from_picked, to_picked}
-use Rattle.sql_steps.proofs.Statements.{is_picked}
+use Rattle.sql_steps.proofs.{Members.from_picked, Members.to_picked, Statements.is_picked}
 use Rattle.row_checks.specs.ShownRows.{IsQuery}
 use Rattle.row_checks.proofs.Selects.{IsSelect, select_plain}
 use Rattle.register_core.specs.declared.key.Key.{Key}
 use Rattle.register_store.specs.declared.table.TableName.TheVariants.{Keys}
-use Rattle.register_store.specs.declared.key_scan.DueSearch.{DueSearch}
 use Rattle.register_store.specs.declared.key_scan.DueSearch.TheVariants.{LaterStop, Past, SameStop}
-use Rattle.register_store.specs.KeyScan.{IsAfterKey}
-use Rattle.register_store.specs.Within.TableReads.{ShowsAt}
-use Rattle.register_store.specs.Schema.{Holds, schema_with}
 use Rattle.register_store.specs.Within.DueSearch.{HasFirst, IsFirstDue, IsNumbered, cell_cursor, search_text, stop_cell}
 use Rattle.register_store.specs.Tables.{Layout, Tables, key_row, numbered}
-use Rattle.register_store.specs.Within.Tables.{keys}
-use Rattle.register_store.proofs.Asked.{shown_of_table}
-use Rattle.register_store.proofs.Decoding.{same_number, one_key}
-use Rattle.register_store.proofs.Actions.{shows_all}
+use Rattle.register_store.specs.{declared.key_scan.DueSearch.DueSearch, KeyScan.IsAfterKey, Within.TableReads.ShowsAt}
+use Rattle.register_store.specs.{Schema.Holds, Schema.schema_with, Within.Tables.keys}
 use Rattle.register_store.proofs.Meanings.{Asks, IsPlaced, Meant, asks, classes, placed}
-use Rattle.register_store.proofs.KeyFound.{at_number, in_range_at, shows_key}
-use Rattle.register_store.proofs.AnswersRead.{ReadsRow}
-use Rattle.register_store.proofs.RowFound.{answer_read}
-use Rattle.register_store.proofs.Texts.{find_names}
+use Rattle.register_store.proofs.RowFound.{at_number, in_range_at, shows_key, ReadsRow, answer_read}
+use Rattle.register_store.proofs.Decoding.{same_number, one_key}
+use Rattle.register_store.proofs.{Asked.shown_of_table, Actions.shows_all, Texts.find_names}
 
 -- ---- the texts
 

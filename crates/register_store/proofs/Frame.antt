@@ -1,14 +1,12 @@
 -- A statement that writes one table leaves every other as it was: so it proves its own table alone.
 use Rattle.std.proofs.Common.{◌≡◌, ℕ, sym, subst, arith}
-use Rattle.sqlite.specs.Effect.{Database}
+use Rattle.sqlite.specs.{Effect.Database, Order.Row as Cells}
 use Rattle.sqlite_rules.proofs.ListLemmas.{all_has}
 use Rattle.sql_steps.proofs.Written.{Kept, Wrote}
-use Rattle.sqlite.specs.Order.{Row as Cells}
 use Rattle.std.specs.Prelude.{List}
-use Rattle.register_store.specs.declared.table.TableName.{TableName}
 use Rattle.register_store.specs.Tables.{Layout, Tables, Content, with_content, IsInRange}
-use Rattle.register_store.specs.Within.Tables.{Shows}
 use Rattle.register_store.specs.Schema.{schema_with, Holds, table_rows}
+use Rattle.register_store.specs.{declared.table.TableName.TableName, Within.Tables.Shows}
 use Rattle.register_store.proofs.EachTable.{each, content_with}
 
 module _ (l : Layout) (written : ℕ → Type 0) (old new : Database) (kept : Kept (schema_with l) written old new) where

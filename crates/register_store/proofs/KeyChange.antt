@@ -4,41 +4,29 @@ use Rattle.std.proofs.Common.{not, ◌&&◌, true, false, refl, sym, ap₂, subs
 use Rattle.std.proofs.Math.Bool.{and-true}
 use Rattle.std.specs.List.{AllByRecursion, enumerate_from}
 use Rattle.sqlite.specs.declared.types.Value.TheVariants.{Int, Text as Words}
-use Rattle.sqlite.specs.Collation.TheVariants.{Binary}
-use Rattle.sqlite.specs.Order.{Row as Cells}
 use Rattle.sqlite.specs.State.{State as View, Executes}
-use Rattle.sqlite.specs.Ops.{from_truth}
 use Rattle.sqlite.specs.Term.{Term, eval, col, op1, op2}
-use Rattle.sqlite.specs.Tree.{IsTable}
+use Rattle.sqlite.specs.{Collation.TheVariants.Binary, Order.Row as Cells, Ops.from_truth, Tree.IsTable}
 use Rattle.sqlite_sql.specs.declared.ops.BinaryOp.TheVariants.{Compare}
-use Rattle.sqlite_sql.specs.declared.ops.CompareOp.TheVariants.{Eq}
-use Rattle.sqlite_sql.specs.declared.ops.UnaryOp.TheVariants.{Not}
+use Rattle.sqlite_sql.specs.{declared.ops.CompareOp.TheVariants.Eq, declared.ops.UnaryOp.TheVariants.Not}
 use Rattle.sqlite_tied.specs.Compute.{everything}
 use Rattle.sql_steps.proofs.Changing as changing
 use Rattle.sql_steps.proofs.Updates as typed
 use Rattle.sql_steps.proofs.Comparing.{equal_integers, equal_numbers, equal_texts, opposite}
 use Rattle.sql_steps.proofs.Statements.{plain_query, cast_int, cast_null}
 use Rattle.moment_core.specs.Moment.{IsMoment}
-use Rattle.lifecycle_core.specs.declared.dates.Dates.{Dates}
-use Rattle.lifecycle_core.specs.declared.row.Row.{Row}
-use Rattle.lifecycle_core.specs.State.{state_code}
-use Rattle.register_core.specs.declared.key.Key.{Key}
+use Rattle.lifecycle_core.specs.{declared.dates.Dates.Dates, declared.row.Row.Row, State.state_code}
+use Rattle.register_core.specs.{declared.key.Key.Key, Dates.AreDates}
 use Rattle.register_requests.specs.Name.{IsName}
-use Rattle.register_store.specs.declared.table.TableName.TheVariants.{Keys}
-use Rattle.register_store.specs.Columns.{joined}
-use Rattle.register_core.specs.Dates.{AreDates}
 use Rattle.register_store.specs.Tables.{Layout, fresh, place_of, IsKey, date_cell, key_row, numbered}
-use Rattle.register_store.specs.Within.Tables.{keys}
-use Rattle.register_store.specs.Schema.{schema_with, Holds, table_rows}
 use Rattle.register_store.specs.TableChanges.{Makes, with_owner_and_row, where_number, with_key_at}
-use Rattle.register_store.specs.Within.TableChanges.{Always}
-use Rattle.register_store.proofs.Actions.{idle, shows_all}
+use Rattle.register_store.specs.{declared.table.TableName.TheVariants.Keys, Columns.joined, Within.Tables.keys}
+use Rattle.register_store.specs.{Schema.schema_with, Schema.Holds, Schema.table_rows, Within.TableChanges.Always}
 use Rattle.register_store.proofs.ColumnTerms.{key_kept, with_given}
-use Rattle.sqlite_resolve.specs.Compile.{first}
 use Rattle.register_store.proofs.Meanings.{Sets, classes, placed, sets}
-use Rattle.register_store.proofs.Frame.{holds_with}
 use Rattle.register_store.proofs.KeyStands.{both_so, given_places, stands, stands_so, where_it_differs}
-use Rattle.register_store.proofs.Numbers.{is_table}
+use Rattle.register_store.proofs.{Actions.idle, Actions.shows_all, Frame.holds_with, Numbers.is_table}
+use Rattle.sqlite_resolve.specs.Compile.{first}
 
 -- the text gives the rows that pass other cells
 abbrev pub IsUpdate : List ℕ → List Term → List Term → Type 0

@@ -1,31 +1,22 @@
 -- What the statements do by which an entry is taken out of a table by its number, and by which one is put in.
 use Rattle.std.proofs.Common.{◌≢◌, ◌==◌, ℕ, [], ◌∷◌, ◌++◌, filter, not, Ok, sym, ap, refl, subst, Bool, Result, arith}
 use Rattle.std.proofs.lemmas.Bool.{eq-eqb}
-use Rattle.sqlite.specs.Edit.{put_all}
-use Rattle.sqlite.specs.State.{State, Executes}
+use Rattle.sqlite.specs.{Edit.put_all, State.State, State.Executes}
 use Rattle.sqlite_rules.proofs.ListLemmas.{has_filtered}
 use Rattle.sqlite_rules.specs.Lists.{Has}
 use Rattle.sqlite_trees.proofs.ListLemmas.{all-filter}
-use Rattle.sql_steps.specs.Steps.{StepsBy}
-use Rattle.sql_steps.specs.Within.Steps.{Then}
-use Rattle.sql_steps.proofs.Deletes.{ids_shown}
-use Rattle.sql_steps.proofs.Inserting.{puts}
-use Rattle.sql_steps.proofs.Removing.{removes}
-use Rattle.sql_steps.proofs.Statements.{is_picked}
+use Rattle.sql_steps.specs.{Steps.StepsBy, Within.Steps.Then}
 use Rattle.sql_steps.proofs.Stepping.{steps_then, steps_weaker}
+use Rattle.sql_steps.proofs.{Deletes.ids_shown, Inserting.puts, Removing.removes, Statements.is_picked}
 use Rattle.register_core.proofs.Lawful.{all_more}
-use Rattle.register_store.specs.TableChanges.{Makes}
-use Rattle.register_store.specs.Within.TableChanges.{Always}
-use Rattle.register_store.specs.Schema.{schema_with}
 use Rattle.register_store.specs.Tables.{ShowsKeyed, Tables, place_of, table_of}
-use Rattle.register_store.proofs.Actions.{shows_all}
-use Rattle.register_store.proofs.ColumnTerms.{inserted}
+use Rattle.register_store.specs.{TableChanges.Makes, Within.TableChanges.Always, Schema.schema_with}
 use Rattle.register_store.proofs.KeyedRows.{keyed_counted, keyed_left, keyed_more}
 use Rattle.register_store.proofs.Meanings.{classes, placed, takes}
 use Rattle.register_store.proofs.SettingTables.{IsEntry, IsSetting, Setting, check_is, clear_text, entries_are}
 use Rattle.register_store.proofs.SettingTables.{number_params, params, put_text, row, table_holds, table_in_range}
 use Rattle.register_store.proofs.SettingTables.{there, tree_shown, width}
-use Rattle.register_store.proofs.Texts.{has_number}
+use Rattle.register_store.proofs.{Actions.shows_all, ColumnTerms.inserted, Texts.has_number}
 
 module _ {A X : Type 0} {s : Setting A X} (set : IsSetting s) where
   abbrev is_other : ℕ → A → Bool

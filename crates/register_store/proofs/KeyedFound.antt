@@ -3,28 +3,18 @@ use Rattle.std.proofs.Common.{◌≡◌, ◌==◌, inl, inr, ℕ, Bool, true, fa
 use Rattle.std.proofs.Common.{None, Some, Ok, Err, refl, sym, ap, subst, ◌∙◌, arith}
 use Rattle.std.proofs.lemmas.Bool.{cases_Bool, eqb-true}
 use Rattle.std.proofs.lemmas.List.Sorted.{IsPermutation-map}
-use Rattle.std.specs.Prelude.{find}
-use Rattle.std.specs.Option.{option_map}
-use Rattle.std.specs.List.Sorted.{IsPermutation}
+use Rattle.std.specs.{Prelude.find, Option.option_map, List.Sorted.IsPermutation}
 use Rattle.sqlite.specs.declared.error.Error.TheVariants.{QueryReturnedNoRows}
-use Rattle.sqlite.specs.Order.{Row as Cells}
-use Rattle.sqlite.specs.State.{State, QueriesRow}
-use Rattle.sqlite.specs.Term.{eval_all}
+use Rattle.sqlite.specs.{Order.Row as Cells, State.State, State.QueriesRow, Term.eval_all}
 use Rattle.sqlite_rules.proofs.ListLemmas.{all_has, has_filtered}
 use Rattle.sqlite_rules.specs.Lists.{Has}
 use Rattle.sqlite_trees.proofs.ListLemmas.{all_of, filter-map, filter_same, map-map}
-use Rattle.sql_steps.proofs.Members.{filter_permutation}
-use Rattle.sql_steps.proofs.SameRows.{map_has}
-use Rattle.sql_steps.proofs.Statements.{picked, is_picked}
-use Rattle.register_store.specs.Tables.{Tables}
-use Rattle.register_store.specs.Schema.{Holds, table_rows}
-use Rattle.register_store.proofs.KeyedRows.{one_row}
-use Rattle.register_store.proofs.Readings.{IsSearch, search_by}
-use Rattle.register_store.proofs.AnswersRead.{ReadsRow}
-use Rattle.register_store.proofs.RowFound.{answer_read, none_is, row_is}
+use Rattle.sql_steps.proofs.{Members.filter_permutation, SameRows.map_has, Statements.picked, Statements.is_picked}
+use Rattle.register_store.specs.{Tables.Tables, Schema.Holds, Schema.table_rows}
 use Rattle.register_store.proofs.SettingTables.{IsSetting, Setting, check_is, find_text, names, number_params, row}
 use Rattle.register_store.proofs.SettingTables.{shown, table_in_range, table_shown}
-use Rattle.register_store.proofs.Texts.{has_number}
+use Rattle.register_store.proofs.RowFound.{ReadsRow, answer_read, none_is, row_is}
+use Rattle.register_store.proofs.{KeyedRows.one_row, Readings.IsSearch, Readings.search_by, Texts.has_number}
 
 module _ {A X : Type 0} {s : Setting A X} (set : IsSetting s) where
   pub searched : IsSearch (find_text s) s.name has_number (shown s) (names s)

@@ -4,24 +4,20 @@ use Rattle.std.proofs.Common.{subst, ◌∙◌, arith}
 use Rattle.std.proofs.lemmas.List.{map-append}
 use Rattle.std.proofs.lemmas.List.Sorted.{IsPermutation-append, IsPermutation-append_comm, IsPermutation-middle}
 use Rattle.std.proofs.lemmas.List.Sorted.{IsPermutation-refl, IsPermutation-sym, IsPermutation-trans}
-use Rattle.std.specs.List.Sorted.{IsPermutation}
-use Rattle.std.specs.Ordering.{match_ordering, int_cmp}
 use Rattle.std.proofs.lemmas.Cmp.{tied_itself, int_cmp_total}
-use Rattle.std.specs.declared.cmp.Ordering.{Ordering}
+use Rattle.std.specs.Ordering.{match_ordering, int_cmp}
 use Rattle.std.specs.declared.cmp.Ordering.TheVariants.{Less, Equal, Greater}
+use Rattle.std.specs.{List.Sorted.IsPermutation, declared.cmp.Ordering.Ordering}
 use Rattle.sqlite.specs.declared.types.Value.TheVariants.{Int}
-use Rattle.sqlite.specs.Order.{Row as Cells, value_cmp}
-use Rattle.sqlite.specs.Tree.{rowid, put_row}
+use Rattle.sqlite.specs.{Order.Row as Cells, Order.value_cmp, Tree.rowid, Tree.put_row}
 use Rattle.sqlite_rules.proofs.ListLemmas.{all_from}
 use Rattle.sqlite_rules.specs.Lists.{Has}
 use Rattle.sqlite_trees.proofs.ListLemmas.{ascending-filter, filter-map, filter_same, all_of}
 use Rattle.sqlite_trees.proofs.TreeLemmas.{IsTable-put_row}
 use Rattle.sqlite_trees.specs.View.{is_int}
 use Rattle.sqlite_value.proofs.OrderLemmas.{value_cmp-Int}
-use Rattle.sql_steps.proofs.Appending.{AreCounted}
-use Rattle.sql_steps.proofs.Members.{filter_permutation}
 use Rattle.sql_steps.proofs.SameRows.{has_map, map_has, same_row}
-use Rattle.sql_steps.proofs.Updates.{has_permutation}
+use Rattle.sql_steps.proofs.{Appending.AreCounted, Members.filter_permutation, Updates.has_permutation}
 use Rattle.register_store.specs.Tables.{ShowsKeyed}
 
 -- where no row has its rowid, a row is put among the others

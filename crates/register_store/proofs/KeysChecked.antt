@@ -3,43 +3,28 @@ use Rattle.std.proofs.Common.{◌≡◌, ◌≢◌, ◌==◌, ◌≤◌, ◌<◌
 use Rattle.std.proofs.Common.{◌++◌, length, length-append, map, sym, ap, subst, ◌∙◌, refl, arith, Option}
 use Rattle.std.proofs.lemmas.Bool.{eq-eqb, eqb-true}
 use Rattle.std.proofs.lemmas.List.{map-append}
-use Rattle.std.specs.List.{AllByRecursion, enumerate_from}
-use Rattle.std.specs.Global.{Vec}
-use Rattle.sqlite.specs.Effect.{Database as Db}
-use Rattle.sqlite.specs.Order.{Row}
-use Rattle.sqlite.specs.Program.{overlay}
+use Rattle.std.specs.{List.AllByRecursion, List.enumerate_from, Global.Vec, Bool.then_some, Option.ok_or}
 use Rattle.sqlite.specs.State.{State, HasCleanDisk, IsUnchanged, Survives}
-use Rattle.sqlite.specs.Tree.{IsTable}
-use Rattle.row_checks.specs.declared.error.RowsError.{RowsError}
+use Rattle.sqlite.specs.{Effect.Database as Db, Order.Row, Program.overlay, Tree.IsTable}
 use Rattle.row_checks.specs.declared.error.RowsError.TheVariants.{NoMeaning, Refused, Memory}
-use Rattle.row_checks.specs.EachRow.{ShowEach}
 use Rattle.row_checks.specs.ShownRows.{HasNoMeaning, ShowsAll, ShowsFirst}
+use Rattle.row_checks.specs.{declared.error.RowsError.RowsError, EachRow.ShowEach}
 use Rattle.row_checks.proofs.Each.{all_prefix, all_last, all_more, show_prefix, show_length, show_more, show_same}
 use Rattle.row_checks.proofs.Each.{show_split}
 use Rattle.register_core.specs.declared.key.Key.{Key}
-use Rattle.register_store.specs.declared.found.Found.{Found}
-use Rattle.register_store.specs.declared.error.CheckError.{CheckError}
-use Rattle.register_store.specs.declared.error.CheckError.TheVariants.{NotARegister}
-use Rattle.register_store.specs.declared.table.TableName.TheVariants.{Keys}
-use Rattle.register_requests.specs.declared.version.Version.{Version}
 use Rattle.register_store.specs.CheckedTables.{IsOdd, ShowsNumbered, ShowsRows, check_error, check_text, mark_of}
-use Rattle.register_store.specs.Within.CheckedTables.{ChecksTable}
-use Rattle.register_store.specs.Schema.{table_rows}
-use Rattle.std.specs.Bool.{then_some}
-use Rattle.std.specs.Option.{ok_or}
-use Rattle.register_store.specs.Stored.{HoldsStored, Stored, mark}
 use Rattle.register_store.specs.Tables.{Counts, IsKey, key_row, numbered}
 use Rattle.register_store.specs.CheckedRows.{AreCounted, HasCountedKeys, RefusesKeys}
-use Rattle.register_store.specs.Within.CheckedRows.{AreOwners, owners_where}
-use Rattle.register_store.specs.OpeningChecks.{IsSoundAt, owners_of}
-use Rattle.register_store.proofs.Actions.{shows_all}
+use Rattle.register_store.specs.{declared.error.CheckError.TheVariants.NotARegister, Within.CheckedRows.AreOwners}
+use Rattle.register_store.specs.{Within.CheckedRows.owners_where, OpeningChecks.IsSoundAt, OpeningChecks.owners_of}
+use Rattle.register_store.specs.{declared.found.Found.Found, declared.error.CheckError.CheckError}
+use Rattle.register_store.specs.{declared.table.TableName.TheVariants.Keys, Within.CheckedTables.ChecksTable}
+use Rattle.register_store.specs.{Schema.table_rows, Stored.HoldsStored, Stored.Stored, Stored.mark}
+use Rattle.register_requests.specs.declared.version.Version.{Version}
 use Rattle.register_store.proofs.Asked.{AnswersTo, IsWithin, ShowsOwn, in_both, shown_of_table, checks_table}
-use Rattle.register_store.proofs.Decoding.{one_key, same_number}
-use Rattle.register_store.proofs.KeyFound.{shows_key}
-use Rattle.register_store.proofs.MetaChecked.{newer_not}
 use Rattle.register_store.proofs.Numbers.{enumerate_append, is_table}
-use Rattle.register_store.proofs.Ordered.{in_order, shown_of}
-use Rattle.register_store.proofs.RowsFailed.{reason_of}
+use Rattle.register_store.proofs.{Actions.shows_all, Decoding.one_key, Decoding.same_number, RowFound.shows_key}
+use Rattle.register_store.proofs.{MetaChecked.newer_not, Ordered.in_order, Ordered.shown_of, RowsFailed.reason_of}
 
 -- ---- numbered keys
 

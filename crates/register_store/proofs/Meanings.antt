@@ -3,31 +3,23 @@
 -- be shown.
 use Rattle.std.proofs.Common.{◌≡◌, ◌<◌, ◌==◌, ◌^◌, inl, inr, ℕ, ◌&&◌, Bool, true, false, cond, List, [], ◌∷◌, map, take}
 use Rattle.std.proofs.Common.{Option, None, Some, Ok, sym, ap, subst, ◌∙◌, arith}
-use Rattle.std.specs.Prelude.{option_map, find, filter, nat_le}
-use Rattle.std.specs.List.{AllZip}
-use Rattle.std.specs.Option.{option_and_then}
 use Rattle.std.proofs.lemmas.Bool.{cases_Bool, eq-eqb, eqb-true, lt-leb}
-use Rattle.sqlite.specs.Command.{Command}
+use Rattle.std.specs.Prelude.{option_map, find, filter, nat_le}
+use Rattle.std.specs.{List.AllZip, Option.option_and_then}
 use Rattle.sqlite.specs.Command.TheVariants.{Select, Update, Delete}
-use Rattle.sqlite.specs.Effect.{Database, IsDatabase}
 use Rattle.sqlite.specs.Listing.{understood, reads_listing}
-use Rattle.sqlite.specs.Order.{Row}
-use Rattle.sqlite.specs.Schema.{Schema}
-use Rattle.sqlite.specs.Table.{Table}
+use Rattle.sqlite.specs.{Command.Command, Effect.Database, Effect.IsDatabase, Order.Row, Schema.Schema, Table.Table}
 use Rattle.sqlite.proofs.Callers.{IsPlain, command_of}
 use Rattle.sqlite_ast.specs.declared.Expr.{Expr}
 use Rattle.sqlite_ast.specs.declared.Select as asked
 use Rattle.sqlite_ast.specs.declared.Statement.TheVariants as written
 use Rattle.sqlite_catalog.specs.Listing.{IsTableRow, is_table_row}
 use Rattle.sqlite_trees.specs.Objects.{catalog_tree}
-use Rattle.sqlite_draft.specs.declared.query.Draft.{Draft}
-use Rattle.sqlite_draft.specs.Query.{query_of}
+use Rattle.sqlite_draft.specs.{declared.query.Draft.Draft, Query.query_of}
 use Rattle.sqlite_resolve.specs.declared.compiled.Compiled.{Compiled}
-use Rattle.sqlite_resolve.specs.Body.{table_at}
-use Rattle.sqlite_resolve.specs.Program.{query, program}
-use Rattle.sqlite_resolve.specs.Write.{updated, deleted}
 use Rattle.sqlite_resolve.specs.Compile.{first, compiled, planned, meaning, returning, timed, command, read, update}
 use Rattle.sqlite_resolve.specs.Compile.{delete, target, shows, with_command}
+use Rattle.sqlite_resolve.specs.{Body.table_at, Program.query, Program.program, Write.updated, Write.deleted}
 use Rattle.sqlite_rules.specs.Lists.{Has}
 use Rattle.sqlite_schema.specs.declared.program.Program.{Program}
 use Rattle.sqlite_sql.specs.Query.{Query, inner, end}
@@ -36,10 +28,9 @@ use Rattle.sqlite_typing.specs.declared.class.Class.{Class}
 use Rattle.sqlite_typing.specs.Types.{accepts_after, is_count, table_classes, row_classes}
 use Rattle.sqlite_value.specs.declared.keys.Collation.{Collation}
 use Rattle.register_store.specs.declared.table.TableName.{TableName}
-use Rattle.register_requests.specs.declared.version.Version.{Version}
-use Rattle.register_requests.specs.Version.{current}
 use Rattle.register_store.specs.Tables.{Layout, AreApartIn, Tables, all_tables, place_of, table_count, table_of}
 use Rattle.register_store.specs.Schema.{Holds, HoldsIn, schema_in, schema_with}
+use Rattle.register_requests.specs.{declared.version.Version.Version, Version.current}
 use Rattle.register_store.proofs.EachTable.{AreApart, each, in_version, low_in_version, placed_low, same_place}
 
 -- ---- one table

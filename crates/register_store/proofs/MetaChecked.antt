@@ -1,36 +1,24 @@
 -- The check of the table meta.
 use Rattle.std.proofs.Common.{◌≡◌, ◌≤◌, ℕ, Option, None, Some, Result, Ok, Err, List, [], ◌∷◌, ◌++◌, IfOk, IfErr}
 use Rattle.std.proofs.Common.{IsErrAnd, sym, ap, subst, ◌∙◌, refl, arith}
-use Rattle.sqlite.specs.Effect.{Database as Db}
-use Rattle.sqlite.specs.Order.{Row, column}
-use Rattle.sqlite.specs.Program.{overlay}
 use Rattle.sqlite.specs.State.{State, HasCleanDisk, IsUnchanged, Survives}
-use Rattle.sqlite.specs.Tree.{IsTable}
-use Rattle.row_checks.specs.EachRow.{ShowEach}
-use Rattle.row_checks.specs.declared.error.RowsError.{RowsError}
+use Rattle.sqlite.specs.{Effect.Database as Db, Order.Row, Order.column, Program.overlay, Tree.IsTable}
 use Rattle.row_checks.specs.declared.error.RowsError.TheVariants.{NoMeaning, Refused, Memory}
 use Rattle.row_checks.specs.ShownRows.{HasNoMeaning, ShowsAll, ShowsFirst}
-use Rattle.register_store.specs.declared.found.Found.{Found}
-use Rattle.register_store.specs.declared.error.CheckError.{CheckError}
+use Rattle.row_checks.specs.{EachRow.ShowEach, declared.error.RowsError.RowsError}
 use Rattle.register_store.specs.declared.error.CheckError.TheVariants.{NewerVersion, NotARegister}
-use Rattle.register_store.specs.declared.meta_check.MetaRow.{MetaRow}
 use Rattle.register_store.specs.declared.meta_check.MetaRow.TheVariants.{Newer, Counts as CountsKeys}
-use Rattle.register_store.specs.declared.table.TableName.TheVariants.{Meta}
-use Rattle.register_requests.specs.declared.version.Version.{Version}
-use Rattle.register_requests.specs.Version.{version_number}
 use Rattle.register_store.specs.CheckedTables.{HasNewer, IsOdd, IsReasonAt, ShowsCounts, ShowsRows, check_error}
 use Rattle.register_store.specs.CheckedTables.{check_text}
-use Rattle.register_store.specs.Within.CheckedTables.{ChecksTable}
-use Rattle.register_store.specs.Schema.{table_rows}
 use Rattle.register_store.specs.Stored.{HoldsStored, Stored, mark, with_part}
-use Rattle.register_store.specs.Tables.{Counts, counts_row_in, version}
-use Rattle.register_store.specs.OpeningChecks.{MeetsCheck}
-use Rattle.register_store.specs.CheckedRows.{HasMeta, RefusesMeta}
-use Rattle.register_store.specs.Within.CheckedRows.{IsCounts, counts_in}
-use Rattle.register_store.proofs.Actions.{shows_all}
+use Rattle.register_store.specs.{declared.found.Found.Found, declared.error.CheckError.CheckError}
+use Rattle.register_store.specs.{declared.meta_check.MetaRow.MetaRow, declared.table.TableName.TheVariants.Meta}
+use Rattle.register_store.specs.{Within.CheckedTables.ChecksTable, Schema.table_rows, Tables.Counts}
+use Rattle.register_store.specs.{Tables.counts_row_in, Tables.version, OpeningChecks.MeetsCheck, CheckedRows.HasMeta}
+use Rattle.register_store.specs.{CheckedRows.RefusesMeta, Within.CheckedRows.IsCounts, Within.CheckedRows.counts_in}
+use Rattle.register_requests.specs.{declared.version.Version.Version, Version.version_number}
 use Rattle.register_store.proofs.Asked.{AnswersTo, IsWithin, ShowsOwn, in_both, shown_of_table, shown_own, checks_table}
-use Rattle.register_store.proofs.Decoding.{same_number}
-use Rattle.register_store.proofs.Ordered.{in_order, shown_of}
+use Rattle.register_store.proofs.{Actions.shows_all, Decoding.same_number, Ordered.in_order, Ordered.shown_of}
 
 -- ---- a register's own row
 

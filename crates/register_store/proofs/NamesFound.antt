@@ -3,43 +3,33 @@ use Rattle.std.proofs.Common.{◌≡◌, ◌≢◌, ℕ, pos, List, [], ◌∷�
 use Rattle.std.proofs.Common.{IfErr, OnOk, refl, sym, ap, subst, ◌∙◌, arith}
 use Rattle.std.proofs.lemmas.List.Sorted.{IsPermutation-map, IsPermutation-sym, IsPermutation-trans, length_permutation}
 use Rattle.std.proofs.lemmas.List.{length-map}
-use Rattle.std.specs.List.{AllByRecursion}
-use Rattle.std.specs.List.Sorted.{IsPermutation}
-use Rattle.sqlite.specs.declared.error.Error.{Error}
-use Rattle.sqlite.specs.declared.types.Value.{Value}
+use Rattle.std.specs.{List.AllByRecursion, List.Sorted.IsPermutation}
 use Rattle.sqlite.specs.declared.types.Value.TheVariants.{Null, Int, Text as Words}
-use Rattle.sqlite.specs.Order.{Row as Cells, column}
 use Rattle.sqlite.specs.State.{State, HasCleanDisk, Shown, IsUnchanged, Survives, CommitsShowing}
 use Rattle.sqlite.specs.Term.{Term, col, eval_all}
+use Rattle.sqlite.specs.{declared.error.Error.Error, declared.types.Value.Value, Order.Row as Cells, Order.column}
 use Rattle.sqlite_tied.specs.Compute.{everything}
 use Rattle.sqlite_resolve.specs.Compile.{first}
 use Rattle.row_checks.proofs.Selects.{IsSelect, select_plain}
 use Rattle.sqlite_rules.proofs.ListLemmas.{all_has}
 use Rattle.sqlite_trees.proofs.ListLemmas.{all-filter, map-map}
-use Rattle.sql_steps.proofs.SameRows.{has_map, map_has}
-use Rattle.sql_steps.proofs.Updates.{has_permutation}
-use Rattle.sql_steps.proofs.Queries.{gives_all, only_reads}
-use Rattle.sql_steps.proofs.Statements.{plain_query, picked}
-use Rattle.register_core.specs.KeyName.{KeyName, is_at, names_at}
+use Rattle.sql_steps.proofs.{SameRows.has_map, SameRows.map_has, Updates.has_permutation, Queries.gives_all}
+use Rattle.sql_steps.proofs.{Queries.only_reads, Statements.plain_query, Statements.picked}
+use Rattle.register_core.specs.{KeyName.KeyName, KeyName.is_at, KeyName.names_at, Names.sorted_names}
 use Rattle.register_requests.specs.Name.{IsName}
-use Rattle.register_core.specs.Names.{sorted_names}
-use Rattle.register_store.specs.declared.error.StoreError.{StoreError}
 use Rattle.register_store.specs.declared.error.StoreError.TheVariants.{Database, NoRegister}
-use Rattle.register_store.specs.declared.stored_key.Role.{Role}
-use Rattle.register_store.specs.declared.stored_key.Role.TheVariants as role
-use Rattle.register_store.specs.declared.table.TableName.{TableName}
 use Rattle.register_store.specs.declared.table.TableName.TheVariants.{Custodian, Approval}
-use Rattle.register_store.specs.Within.Roles.{names_of, select_text}
 use Rattle.register_store.specs.TableReads.{HoldsWhereOpen, IsOpenStill, ReadsBy}
 use Rattle.register_store.specs.Within.TableReads.{AreNamesOf, HasNoName}
 use Rattle.register_store.specs.Tables.{Layout, Tables, table_of, IsNamed, ShowsEntries, name_cells}
 use Rattle.register_store.specs.Schema.{schema_with, Holds, table_rows}
-use Rattle.register_store.proofs.Actions.{shows_all}
+use Rattle.register_store.specs.{declared.error.StoreError.StoreError, declared.stored_key.Role.Role}
+use Rattle.register_store.specs.{declared.table.TableName.TableName, Within.Roles.names_of, Within.Roles.select_text}
+use Rattle.register_store.specs.declared.stored_key.Role.TheVariants as role
 use Rattle.register_store.proofs.Meanings.{Asks, asks, classes, placed}
-use Rattle.register_store.proofs.EntryRows.{picks_entries}
-use Rattle.register_store.proofs.NameChecks.{at_key, key_past, key_is}
-use Rattle.register_store.proofs.OpenQueries.{open_still, shown_same}
 use Rattle.register_store.proofs.Readings.{IsSearch, fails_refused, fails_unchanged, reads_by}
+use Rattle.register_store.proofs.NameChanges.{at_key, key_past, key_is}
+use Rattle.register_store.proofs.{Actions.shows_all, EntryRows.picks_entries, RowFound.open_still, RowFound.shown_same}
 
 -- ---- names in cells
 

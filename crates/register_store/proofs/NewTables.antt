@@ -3,34 +3,26 @@ use Rattle.std.proofs.Common.{◌≡◌, ◌⊎◌, ◌<◌, ◌≤◌, ℕ, ◌
 use Rattle.std.proofs.Common.{fold, Ok, Err, refl, sym, ap, subst, ◌∙◌, arith}
 use Rattle.std.proofs.lemmas.Bool.{cases_Bool, cases_lt, eq-eqb, eqb-true}
 use Rattle.sqlite.specs.Change.{created, next_tree, KeepsRows}
-use Rattle.sqlite.specs.Command.TheVariants.{CreateTable as MakeTable}
-use Rattle.sqlite.specs.Does.{lacks_sequence}
-use Rattle.sqlite.specs.Effect.{Database, IsDatabase}
-use Rattle.sqlite.specs.Listing.{understood}
-use Rattle.sqlite.specs.Schema.{Schema}
 use Rattle.sqlite.specs.State.{State, Executes, ExecutesIn}
-use Rattle.sqlite.specs.Table.{Table}
+use Rattle.sqlite.specs.{Command.TheVariants.CreateTable as MakeTable, Does.lacks_sequence, Effect.Database}
+use Rattle.sqlite.specs.{Effect.IsDatabase, Listing.understood, Schema.Schema, Table.Table}
 use Rattle.sqlite.proofs.Callers.{IsPlain, command_of, runs_as, statement_of}
-use Rattle.sqlite_resolve.specs.Compile.{is_attached}
-use Rattle.sqlite_resolve.specs.declared.error.CompileError.{CompileError}
 use Rattle.sqlite_resolve.specs.declared.error.CompileError.TheVariants.{Exists}
+use Rattle.sqlite_resolve.specs.{Compile.is_attached, declared.error.CompileError.CompileError}
 use Rattle.sqlite_rules.proofs.ListLemmas.{all_has}
 use Rattle.sqlite_rules.specs.Lists.{Has}
-use Rattle.sqlite_schema.specs.declared.schema.Index.{Index}
-use Rattle.sqlite_schema.specs.Names.{table_named, index_named, view_named}
+use Rattle.sqlite_schema.specs.{declared.schema.Index.Index, Names.table_named, Names.index_named, Names.view_named}
 use Rattle.sqlite_tied.specs.Compute.{everything}
 use Rattle.sql_steps.specs.Within.CreatedTables.{Created}
 use Rattle.sql_steps.proofs.Creating.{makes}
-use Rattle.register_store.specs.declared.table.TableName.{TableName}
 use Rattle.register_store.specs.declared.table.TableName.TheVariants.{Meta, Keys, Custodian, Approval, Request, Period}
 use Rattle.register_store.specs.declared.table.TableName.TheVariants.{Quorum}
-use Rattle.register_requests.specs.declared.version.Version.TheVariants.{First}
-use Rattle.register_store.specs.Within.Migration.{MakesNext}
 use Rattle.register_store.specs.Schema.{table_rows, schema_below}
 use Rattle.register_store.specs.Tables.{AreApartBelow, Layout, place_of, table_count, create_statement}
-use Rattle.register_store.proofs.EachTable.{unplaced, same_place}
-use Rattle.register_store.proofs.NextTexts.{makes_table, refused}
+use Rattle.register_store.specs.{declared.table.TableName.TableName, Within.Migration.MakesNext}
+use Rattle.register_requests.specs.declared.version.Version.TheVariants.{First}
 use Rattle.register_store.proofs.TableTexts.{def_of, parsed, whole_is}
+use Rattle.register_store.proofs.{EachTable.unplaced, EachTable.same_place, NextTexts.makes_table, NextTexts.refused}
 
 -- one of the two tables
 abbrev IsNew : TableName → Type 0

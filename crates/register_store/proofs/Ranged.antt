@@ -1,31 +1,25 @@
 -- What a database holds, as it is told of histories, and as what reads and writes tables has it: the same, where what
 -- the tables hold is in its ranges.
-use Rattle.std.proofs.Common.{◌≡◌, ◌≢◌, ℕ, zero, suc, ◌<◌, ◌≤◌, List, [], ◌∷◌, ◌++◌, length, map, Ok, refl, sym, ap, ◌∙◌, arith}
-use Rattle.std.proofs.Common.{inl, inr}
+use Rattle.std.proofs.Common.{◌≡◌, ◌≢◌, ℕ, zero, suc, ◌<◌, List, [], ◌∷◌, ◌++◌, length, map, refl, sym, ap}
+use Rattle.std.proofs.Common.{◌∙◌, ◌↔◌, arith, inl, inr}
 use Rattle.std.proofs.lemmas.Bool.{cases_lt}
-use Rattle.std.specs.List.{AllByRecursion, AllPairs, slice_index_or}
-use Rattle.sqlite.specs.Effect.{Database}
-use Rattle.sqlite.specs.Compile.{table_defined_by}
-use Rattle.sqlite.specs.Order.{Row as Cells}
-use Rattle.sqlite.specs.Schema.{Schema}
-use Rattle.sqlite.specs.Table.{Table}
+use Rattle.std.specs.{List.AllByRecursion, List.AllPairs, List.slice_index_or, Result.result_unwrap_or}
+use Rattle.sqlite.specs.{Effect.Database, Order.Row as Cells, Schema.Schema, Table.Table}
 use Rattle.sqlite_catalog.specs.Listing.{automatic}
 use Rattle.sqlite_resolve.specs.Define.{empty}
 use Rattle.sqlite_schema.specs.declared.schema.Index.{Index}
-use Rattle.std.specs.Result.{result_unwrap_or}
 use Rattle.moment_core.specs.Moment.{IsMoment}
 use Rattle.register_requests.specs.declared.version.Version.{Version}
 use Rattle.register_requests.specs.declared.version.Version.TheVariants.{First, Second}
 use Rattle.register_core.specs.KeptReply.{IsKeptReply}
-use Rattle.register_store.specs.declared.table.TableName.{TableName}
 use Rattle.register_store.specs.declared.table.TableName.TheVariants.{Meta, Keys, Custodian, Approval, Request, Period}
 use Rattle.register_store.specs.declared.table.TableName.TheVariants.{Quorum}
-use Rattle.register_store.specs.Held.{HasTables, schema_of, table}
-use Rattle.register_store.specs.Tables.{AreRowsOf, tables_of}
-use Rattle.register_store.proofs.EachTable.{create_is, unplaced}
+use Rattle.register_store.specs.Tables.{AreRowsOf, tables_of, AreApartIn, IsInRange, IsKey, IsNamed, IsSetNeed}
+use Rattle.register_store.specs.Tables.{IsSetPeriod, Layout, ShowsIn, Tables, content, form, place_of, table_count}
+use Rattle.register_store.specs.Tables.{table_of}
 use Rattle.register_store.specs.Schema.{HoldsIn, IsRegisterIn, schema_in}
-use Rattle.register_store.specs.Tables.{AreApartIn, IsInRange, IsKey, IsNamed, IsSetNeed, IsSetPeriod, Layout, ShowsIn}
-use Rattle.register_store.specs.Tables.{Tables, content, form, place_of, table_count, table_of}
+use Rattle.register_store.specs.{declared.table.TableName.TableName, Held.HasTables, Held.schema_of, Held.table}
+use Rattle.register_store.proofs.EachTable.{create_is, unplaced}
 
 -- what the tables hold is in its ranges
 pub record AreInRange (t : Tables) : Type 0 where
@@ -105,25 +99,16 @@ same_schema version l =
 
 -- ---- rows
 
-shows_in : (name : TableName) (v : Version) (t : Tables) (rows : List Cells) → AreRowsOf name v t rows
-    → ShowsIn v name (content name t) rows
-shows_in Meta v t rows are = are
-shows_in Keys v t rows are = are
-shows_in Custodian v t rows are = are
-shows_in Approval v t rows are = are
-shows_in Request v t rows are = are
-shows_in Period v t rows are = are
-shows_in Quorum v t rows are = are
-
-rows_of : (name : TableName) (v : Version) (t : Tables) (rows : List Cells) → ShowsIn v name (content name t) rows
-    → AreRowsOf name v t rows
-rows_of Meta v t rows shows = shows
-rows_of Keys v t rows shows = shows
-rows_of Custodian v t rows shows = shows
-rows_of Approval v t rows shows = shows
-rows_of Request v t rows shows = shows
-rows_of Period v t rows shows = shows
-rows_of Quorum v t rows shows = shows
+-- a form shows the rows of its content
+shows_rows : (name : TableName) (v : Version) (t : Tables) (rows : List Cells)
+    → AreRowsOf name v t rows ↔ ShowsIn v name (content name t) rows
+shows_rows Meta v t rows = (λ are. are, λ shows. shows)
+shows_rows Keys v t rows = (λ are. are, λ shows. shows)
+shows_rows Custodian v t rows = (λ are. are, λ shows. shows)
+shows_rows Approval v t rows = (λ are. are, λ shows. shows)
+shows_rows Request v t rows = (λ are. are, λ shows. shows)
+shows_rows Period v t rows = (λ are. are, λ shows. shows)
+shows_rows Quorum v t rows = (λ are. are, λ shows. shows)
 
 -- ---- trees of their own
 
@@ -208,7 +193,7 @@ holds_of version t db has are = record {
   schema = register_of version t db has;
   sound = has.sound;
   in_range = each t are;
-  shown = λ name. shows_in name version t _ (has.rows name);
+  shown = λ name. (shows_rows name version t _).0 (has.rows name);
 }
 
 pub has_of : (version : Version) (t : Tables) (db : Database) → HoldsIn version t db → HasTables version t db
@@ -217,5 +202,5 @@ has_of version t db holds = record {
   apart = apart_of version holds.schema.layout holds.schema.apart;
   schema = holds.schema.is ∙ sym (same_schema version holds.schema.layout);
   sound = holds.sound;
-  rows = λ name. rows_of name version t _ (holds.shown name);
+  rows = λ name. (shows_rows name version t _).1 (holds.shown name);
 }

@@ -1,26 +1,20 @@
 -- What calls that only read do, one by one and one after the other.
 use Rattle.std.proofs.Common.{◌≡◌, ◌≢◌, ◌≤◌, ◌+◌, ℕ, List, [], Result, Ok, Err, IfOk, IfErr, OnOk, sym, subst, arith}
 use Rattle.std.specs.Prelude.{IsErrAnd}
-use Rattle.sqlite.specs.Command.TheVariants.{Select}
-use Rattle.sqlite.specs.Order.{Row as Cells}
 use Rattle.sqlite.specs.State.{State, HasCleanDisk, IsUnchanged, Survives, CommitsShowing}
-use Rattle.sqlite.specs.Term.{Term}
-use Rattle.sqlite.proofs.Callers.{unchanged_then}
-use Rattle.sqlite.proofs.StateLemmas.{survives_then}
+use Rattle.sqlite.specs.{Command.TheVariants.Select, Order.Row as Cells, Term.Term}
+use Rattle.sqlite.proofs.{Callers.unchanged_then, StateLemmas.survives_then}
 use Rattle.sql_steps.proofs.Statements.{plain_query}
 use Rattle.row_checks.specs.ShownRows.{IsQuery}
-use Rattle.row_checks.proofs.RowByRow.{commits_none}
-use Rattle.row_checks.proofs.Selects.{select_plain}
-use Rattle.register_store.specs.declared.error.StoreError.{StoreError}
+use Rattle.row_checks.proofs.{RowByRow.commits_none, Selects.select_plain}
 use Rattle.register_store.specs.declared.error.StoreError.TheVariants.{Memory, NoRegister}
-use Rattle.sqlite_trees.specs.declared.store.Store.{Ghosts}
-use Rattle.register_store.specs.declared.counted.Counted.{Counted}
-use Rattle.register_store.proofs.Meanings.{Asks, IsPlaced, Meant, asks, classes}
 use Rattle.register_store.specs.TableReads.{seen, CallsOver, HoldsWhereOpen, IsOpenStill, KeepsSight, ReadFails}
 use Rattle.register_store.specs.TableReads.{ReadsBy}
 use Rattle.register_store.specs.Tables.{Layout, Tables, fresh, table_of}
-use Rattle.register_store.specs.declared.table.TableName.{TableName}
-use Rattle.register_store.specs.Schema.{schema_with, Holds}
+use Rattle.register_store.specs.{declared.error.StoreError.StoreError, declared.counted.Counted.Counted}
+use Rattle.register_store.specs.{declared.table.TableName.TableName, Schema.schema_with, Schema.Holds}
+use Rattle.sqlite_trees.specs.declared.store.Store.{Ghosts}
+use Rattle.register_store.proofs.Meanings.{Asks, IsPlaced, Meant, asks, classes}
 
 -- the text asks one table for the rows that pass
 pub record IsSearch (sql : List ℕ) (name : TableName) (passes shown : List Term) (names : List (List ℕ)) : Type 0 where

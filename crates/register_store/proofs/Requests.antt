@@ -3,13 +3,11 @@ use Rattle.std.proofs.Common.{◌≡◌, ℕ, ◌+◌, subst, ◌∙◌}
 use Rattle.std.proofs.lemmas.List.{length-map}
 use Rattle.sqlite.specs.Effect.{Database}
 use Rattle.sql_steps.specs.Within.Steps.{Then}
-use Rattle.register_core.specs.declared.change.Change.{Change}
 use Rattle.register_core.specs.declared.kept_reply.KeptReply.{KeptReply}
-use Rattle.register_core.specs.KeptReply.{IsKeptReply}
-use Rattle.register_store.specs.Change.{made_count, with_change}
-use Rattle.register_store.specs.Schema.{Holds}
+use Rattle.register_core.specs.{declared.change.Change.Change, KeptReply.IsKeptReply}
 use Rattle.register_store.specs.TableChanges.{Makes, AreRightAt, HasKeys, advanced, with_recorded, with_keys_advanced}
 use Rattle.register_store.specs.AcceptedRequest.{CanTake, with_request}
+use Rattle.register_store.specs.{Change.made_count, Change.with_change, Schema.Holds}
 
 pub makes_request : (keys latest count : ℕ) (change : Change) (kept : KeptReply) → count ≡ keys + made_count change
     → (old new : Database)

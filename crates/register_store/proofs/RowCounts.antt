@@ -1,31 +1,22 @@
 -- What a count of a table's rows tells of the table.
 use Rattle.std.proofs.Common.{◌≡◌, ◌<◌, inl, inr, ℕ, List, [], Bool, false, Ok, Err, refl, sym, subst, ◌+◌, get_or}
 use Rattle.std.proofs.Common.{arith}
-use Rattle.sqlite.specs.declared.error.Error.{Error}
-use Rattle.sqlite.specs.declared.error.Error.TheVariants.{SqlInputError}
-use Rattle.sqlite.specs.Effect.{Database, IsDatabase}
-use Rattle.sqlite.specs.Listing.{understood}
-use Rattle.sqlite.specs.Query.{Query}
-use Rattle.sqlite.specs.Schema.{Schema}
 use Rattle.sqlite.specs.State.{State, HasCleanDisk, QueriesRow, QueriesRowInside, FailsToQuery, Survives}
+use Rattle.sqlite.specs.{declared.error.Error.Error, declared.error.Error.TheVariants.SqlInputError, Effect.Database}
+use Rattle.sqlite.specs.{Effect.IsDatabase, Listing.understood, Query.Query, Schema.Schema}
 use Rattle.sqlite.proofs.Callers.{IsPlain}
-use Rattle.sqlite_resolve.specs.Compile.{first}
-use Rattle.sqlite_resolve.specs.declared.error.CompileError.{CompileError}
+use Rattle.sqlite_resolve.specs.{Compile.first, declared.error.CompileError.CompileError}
 use Rattle.sqlite_tied.specs.Compute.{everything}
 use Rattle.sql_steps.specs.Steps.{StepsBy}
-use Rattle.sql_steps.proofs.Asking.{asks_meaningless}
-use Rattle.sql_steps.proofs.Stepping.{steps_as, steps_then}
+use Rattle.sql_steps.proofs.{Asking.asks_meaningless, Stepping.steps_as, Stepping.steps_then}
 use Rattle.row_checks.specs.ShownRows.{IsQuery}
-use Rattle.row_checks.proofs.RowByRow.{no_meaning}
-use Rattle.row_checks.proofs.Selects.{IsSelect, select_plain}
+use Rattle.row_checks.proofs.{RowByRow.no_meaning, Selects.IsSelect, Selects.select_plain}
 use Rattle.register_requests.specs.declared.version.Version.{Version}
 use Rattle.register_requests.specs.declared.version.Version.TheVariants.{First, Second}
-use Rattle.register_store.specs.declared.table.TableName.{TableName}
-use Rattle.register_store.specs.declared.table.TableName.TheVariants.{Meta}
-use Rattle.register_store.specs.Creation.{HasMeaning, HasTable, IsThere}
-use Rattle.register_store.specs.Within.Creation.{Answers, LacksFirst}
-use Rattle.register_store.specs.Schema.{IsRegisterIn, schema_in}
 use Rattle.register_store.specs.Tables.{Layout, all_tables, count_text, place_of, table_count, table_of}
+use Rattle.register_store.specs.{declared.table.TableName.TableName, declared.table.TableName.TheVariants.Meta}
+use Rattle.register_store.specs.{Creation.HasMeaning, Creation.HasTable, Creation.IsThere, Within.Creation.Answers}
+use Rattle.register_store.specs.{Within.Creation.LacksFirst, Schema.IsRegisterIn, Schema.schema_in}
 use Rattle.register_store.proofs.Meanings.{Asks, asks, classes_in, placed_of}
 
 select_of : (name : TableName) → IsSelect (count_text name)

@@ -1,34 +1,23 @@
 -- A table of what is set: its statements, and what it shows.
-use Rattle.std.proofs.Common.{◌≡◌, ◌+◌, ◌==◌, ℕ, pos, List, [], ◌∷◌, ◌++◌, map, length, slice_get, false, Some}
-use Rattle.std.proofs.Common.{codes, refl, sym, subst}
+use Rattle.std.proofs.Common.{◌≡◌, ◌+◌, ◌==◌, ℕ, pos, List, [], ◌∷◌, ◌++◌, map, length, slice_get, false, Some, codes}
+use Rattle.std.proofs.Common.{refl, sym, subst}
 use Rattle.std.proofs.Math.Bool.{and-true}
 use Rattle.std.specs.List.{AllByRecursion}
 use Rattle.sqlite.specs.declared.types.Value.TheVariants.{Null, Int}
-use Rattle.sqlite.specs.Effect.{Database}
-use Rattle.sqlite.specs.Order.{Row as Cells}
-use Rattle.sqlite.specs.State.{State}
-use Rattle.sqlite.specs.Term.{Term, eval_all}
+use Rattle.sqlite.specs.{Effect.Database, Order.Row as Cells, State.State, Term.Term, Term.eval_all}
 use Rattle.sqlite_rules.specs.Action.{works}
 use Rattle.sqlite_schema.specs.declared.schema.Keys.TheVariants.{Enforced}
-use Rattle.sql_steps.proofs.Comparing.{equal_numbers}
-use Rattle.sql_steps.proofs.Deletes.{ids_shown}
-use Rattle.sql_steps.proofs.Inserting.{edit}
 use Rattle.sql_steps.proofs.Statements.{plain_query, is_picked}
-use Rattle.sql_steps.proofs.Written.{Wrote}
+use Rattle.sql_steps.proofs.{Comparing.equal_numbers, Deletes.ids_shown, Inserting.edit, Written.Wrote}
 use Rattle.register_requests.specs.Version.{current}
-use Rattle.register_store.specs.declared.table.TableName.{TableName}
-use Rattle.register_store.specs.declared.table.TableName.TheVariants.{Meta}
-use Rattle.register_store.specs.Columns.{select}
-use Rattle.register_store.specs.TableForms.{Named, name_of}
-use Rattle.register_store.specs.Tables.{Form, Layout, ShowsKeyed, ShowsSinceSecond, Tables, form}
-use Rattle.register_store.specs.Tables.{place_of, table_of, with_content}
+use Rattle.register_store.specs.Tables.{Form, Layout, ShowsKeyed, ShowsSinceSecond, Tables, form, place_of, table_of}
+use Rattle.register_store.specs.Tables.{with_content}
 use Rattle.register_store.specs.Schema.{Holds, table_rows, schema_with}
+use Rattle.register_store.specs.{declared.table.TableName.TableName, declared.table.TableName.TheVariants.Meta}
+use Rattle.register_store.specs.{Columns.select, TableForms.Named, TableForms.name_of}
 use Rattle.register_store.proofs.ColumnTerms.{inserted, inserts, shown_from}
-use Rattle.register_store.proofs.EachTable.{AreApart, content_is, each}
-use Rattle.register_store.proofs.EntryAdded.{IsInsert}
-use Rattle.register_store.proofs.Frame.{holds_with}
-use Rattle.register_store.proofs.Meanings.{Asks, Takes}
-use Rattle.register_store.proofs.Texts.{has_number}
+use Rattle.register_store.proofs.{EachTable.AreApart, EachTable.content_is, EachTable.each, EntryAdded.IsInsert}
+use Rattle.register_store.proofs.{Frame.holds_with, Meanings.Asks, Meanings.Takes, Texts.has_number}
 
 -- each table stands in the schema at its place
 pub there : (l : Layout) (name : TableName)

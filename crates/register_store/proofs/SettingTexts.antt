@@ -1,12 +1,10 @@
 -- The tables of what is set, of periods and of needs: what the statements on them mean, computed.
 use Rattle.std.proofs.Common.{arith, ℕ, pos, [], ◌∷◌, codes, refl}
-use Rattle.sqlite.specs.declared.types.Value.TheVariants.{Int}
-use Rattle.sqlite.specs.Listing.{understood}
+use Rattle.sqlite.specs.{declared.types.Value.TheVariants.Int, Listing.understood}
 use Rattle.sqlite_resolve.specs.Compile.{first}
 use Rattle.sqlite_tied.specs.Compute.{everything}
 use Rattle.sql_steps.proofs.Statements.{cast_int, cast_null}
-use Rattle.period_core.specs.KeyType.{key_type_code}
-use Rattle.period_core.specs.Period.{IsPeriod, Period as UsagePeriod}
+use Rattle.period_core.specs.{KeyType.key_type_code, Period.IsPeriod, Period.Period as UsagePeriod}
 use Rattle.register_requests.specs.Quorum.{IsQuorum}
 use Rattle.register_core.specs.Settings.{KeyNeed, TypePeriod}
 use Rattle.register_store.specs.declared.table.TableName.TheVariants.{Period, Quorum}

@@ -1,23 +1,18 @@
 -- The text of each table: it is a CREATE TABLE of that table, from its first byte to its last, whatever the schema is.
-use Rattle.std.proofs.Common.{◌≡◌, ℕ, Bool, true, false, List, [], length, Option, None, Some, Result, Ok, Err}
-use Rattle.std.proofs.Common.{refl, sym, ap}
+use Rattle.std.proofs.Common.{◌≡◌, ℕ, Bool, true, false, List, [], length, Option, None, Some, Result, Ok, Err, refl}
+use Rattle.std.proofs.Common.{sym, ap}
 use Rattle.std.specs.Prelude.{nat_eq, slice_range}
-use Rattle.sqlite.specs.Compile.{table_defined_by}
-use Rattle.sqlite_ast.specs.declared.CreateTable.{CreateTable}
-use Rattle.sqlite_ast.specs.declared.Statement.{Statement}
+use Rattle.sqlite.specs.{Compile.table_defined_by, Table.Table}
+use Rattle.sqlite_ast.specs.{declared.CreateTable.CreateTable, declared.Statement.Statement}
 use Rattle.sqlite_ast.specs.declared.Statement.TheVariants as written
-use Rattle.sqlite.specs.Table.{Table}
-use Rattle.sqlite_resolve.specs.Compile.{first, is_reserved}
+use Rattle.sqlite_resolve.specs.{Compile.first, Compile.is_reserved, declared.error.CompileError.CompileError}
 use Rattle.sqlite_resolve.specs.Define as define
-use Rattle.sqlite_resolve.specs.declared.error.CompileError.{CompileError}
 use Rattle.sqlite_syntax.specs.declared.statement.Parsed.{Parsed}
 use Rattle.sqlite_tied.specs.Compute.{everything}
-use Rattle.register_store.specs.declared.table.TableName.{TableName}
 use Rattle.register_store.specs.declared.table.TableName.TheVariants.{Meta, Keys, Custodian, Approval, Request, Period}
 use Rattle.register_store.specs.declared.table.TableName.TheVariants.{Quorum}
-use Rattle.register_store.specs.Tables.{create_statement}
-use Rattle.register_store.proofs.EachTable.{unplaced}
-use Rattle.register_store.proofs.NextTexts.{IsText}
+use Rattle.register_store.specs.{declared.table.TableName.TableName, Tables.create_statement}
+use Rattle.register_store.proofs.{EachTable.unplaced, NextTexts.IsText}
 
 -- what stands where a text is none of a statement
 abbrev no_text : Parsed

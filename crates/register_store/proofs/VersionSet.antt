@@ -2,34 +2,25 @@
 use Rattle.std.proofs.Common.{◌≡◌, map, ◌∙◌, ℕ, pos, List, [], ◌∷◌, codes, Ok, refl, sym, ap, subst, arith}
 use Rattle.sqlite.specs.declared.types.Value.TheVariants.{Null, Int}
 use Rattle.sqlite.specs.Collation.TheVariants.{Binary}
-use Rattle.sqlite.specs.Effect.{Database}
-use Rattle.sqlite.specs.Order.{Row as Cells}
-use Rattle.sqlite.specs.State.{State, Executes}
 use Rattle.sqlite.specs.Term.{Term, lit, col, op2}
-use Rattle.sqlite.specs.Tree.{IsTable}
+use Rattle.sqlite.specs.{Effect.Database, Order.Row as Cells, State.State, State.Executes, Tree.IsTable}
 use Rattle.sqlite_resolve.specs.Compile.{first}
-use Rattle.sqlite_sql.specs.declared.ops.BinaryOp.TheVariants.{Compare}
-use Rattle.sqlite_sql.specs.declared.ops.CompareOp.TheVariants.{Eq}
+use Rattle.sqlite_sql.specs.{declared.ops.BinaryOp.TheVariants.Compare, declared.ops.CompareOp.TheVariants.Eq}
 use Rattle.sqlite_tied.specs.Compute.{everything}
 use Rattle.sql_steps.proofs.Changing as changing
-use Rattle.sql_steps.proofs.Queries.{compares}
 use Rattle.sql_steps.proofs.Statements.{plain_query, cast_int, cast_null}
-use Rattle.sql_steps.proofs.Written.{Wrote}
-use Rattle.register_requests.specs.declared.version.Version.{Version}
+use Rattle.sql_steps.proofs.{Queries.compares, Written.Wrote}
 use Rattle.register_requests.specs.declared.version.Version.TheVariants.{First}
-use Rattle.register_requests.specs.Version.{current}
-use Rattle.register_store.specs.declared.table.TableName.{TableName}
+use Rattle.register_requests.specs.{declared.version.Version.Version, Version.current}
 use Rattle.register_store.specs.declared.table.TableName.TheVariants.{Meta, Keys, Custodian, Approval, Request, Period}
 use Rattle.register_store.specs.declared.table.TableName.TheVariants.{Quorum}
 use Rattle.register_store.specs.Within.Migration.{HasTablesBelow, SetsVersion}
 use Rattle.register_store.specs.Schema.{HoldsIn, schema_with, table_rows}
 use Rattle.register_store.specs.Tables.{Counts, Layout, Tables, content, counts_row_in, fresh, place_of, version}
-use Rattle.register_store.specs.Within.Tables.{Shows, meta}
-use Rattle.register_store.proofs.Actions.{idle, shows_all}
+use Rattle.register_store.specs.{declared.table.TableName.TableName, Within.Tables.Shows, Within.Tables.meta}
 use Rattle.register_store.proofs.EachTable.{AreApart, apart_all}
-use Rattle.register_store.proofs.EntryRows.{keyed_none}
-use Rattle.register_store.proofs.Frame.{rows_kept}
 use Rattle.register_store.proofs.Meanings.{Sets, classes, placed_in, sets}
+use Rattle.register_store.proofs.{Actions.idle, Actions.shows_all, EntryRows.keyed_none, Frame.rows_kept}
 
 abbrev pub version_text : List ℕ
 version_text = codes "UPDATE meta SET version = ?1 WHERE id = 1"

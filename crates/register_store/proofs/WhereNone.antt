@@ -1,11 +1,9 @@
 -- What is made where a look for tables found none.
 use Rattle.std.proofs.Common.{◌≡◌, Bool, false, Ok, arith}
-use Rattle.sqlite.specs.Schema.{Schema}
-use Rattle.sqlite.specs.State.{State}
+use Rattle.sqlite.specs.{Schema.Schema, State.State}
 use Rattle.sql_steps.specs.Steps.{DatabaseChange, StepsBy}
 use Rattle.sql_steps.proofs.Stepping.{steps_as, steps_then}
-use Rattle.register_store.specs.Creation.{WhereNone}
-use Rattle.register_store.specs.Within.Creation.{Answers}
+use Rattle.register_store.specs.{Creation.WhereNone, Within.Creation.Answers}
 
 pub made_where_none : {E F G : Type 0} (HasOne : Schema
     → Type 0) (Made : DatabaseChange) (a b d : State) (found : Bool) (x : Unit {0})

@@ -1,18 +1,13 @@
 -- What a call in a transaction does, from its parts.
 use Rattle.std.proofs.Common.{◌≡◌, ℕ, Result, Ok, sym, subst}
-use Rattle.std.specs.Borrow.{MutBor}
-use Rattle.sqlite.specs.declared.error.Error.{Error}
-use Rattle.sqlite.specs.Held.{Held, state}
-use Rattle.sqlite.specs.Order.{Row as Cells}
+use Rattle.std.specs.{Borrow.MutBor, Prelude.IsTrue, Prelude.List}
 use Rattle.sqlite.specs.State.{State, Executes, ExecutesInside, HasCleanDisk, Survives}
-use Rattle.std.specs.Prelude.{IsTrue, List}
+use Rattle.sqlite.specs.{declared.error.Error.Error, Held.Held, Held.state, Order.Row as Cells}
 use Rattle.sql_steps.specs.Steps.{DatabaseChange, StepsBy}
 use Rattle.sql_steps.proofs.Stepping.{runs, writes}
 use Rattle.sqlite_trees.specs.declared.store.Store.{Ghosts}
 use Rattle.register_store.specs.declared.counted.StepCount.{StepCount}
-use Rattle.register_store.specs.StepCount.{TakesInside}
-use Rattle.register_store.specs.Within.Beside.{Alters}
-use Rattle.register_store.specs.Within.StepCount.{WritesInside}
+use Rattle.register_store.specs.{StepCount.TakesInside, Within.Beside.Alters, Within.StepCount.WritesInside}
 
 module _ {A E : Type 0} {sees : A → State} {name : A → ℕ} {most : ℕ} {old new : A} {before after : StepCount} where
   pub wrote : {Made : DatabaseChange} {r : Result (Unit {0}) E} → name new ≡ name old → TakesInside most before after

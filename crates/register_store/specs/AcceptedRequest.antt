@@ -1,11 +1,9 @@
 -- What one accepted request makes of the tables. That this is what the history says is proved of `apply`.
 use Rattle.std.specs.Prelude.{ℕ, ◌+◌}
-use Rattle.register_core.specs.declared.change.Change.{Change}
 use Rattle.register_core.specs.declared.kept_reply.KeptReply.{KeptReply}
-use Rattle.register_core.specs.KeptReply.{IsKeptReply}
-use Rattle.register_store.specs.Change.{made_count, with_change}
-use Rattle.register_store.specs.Tables.{Tables}
+use Rattle.register_core.specs.{declared.change.Change.Change, KeptReply.IsKeptReply}
 use Rattle.register_store.specs.TableChanges.{AreRightAt, HasKeys, with_recorded, with_keys_advanced}
+use Rattle.register_store.specs.{Change.made_count, Change.with_change, Tables.Tables}
 
 -- each key moved on to the moment of the reply, then the change, then what is kept; this many keys were made before
 abbrev pub with_request : ℕ → Change → KeptReply → Tables → Tables

@@ -1,22 +1,16 @@
 -- What the check of each table has taken so far, and what it refuses.
 use Rattle.std.specs.Prelude.{◌≡◌, ◌≤◌, ℕ, zero, suc, List, [], ◌∷◌, ◌++◌, length, slice_get, true, Option, None, Some}
-use Rattle.std.specs.List.{AllByRecursion}
-use Rattle.std.specs.Global.{Vec}
+use Rattle.std.specs.{List.AllByRecursion, Global.Vec}
 use Rattle.sqlite.specs.Order.{Row}
 use Rattle.row_checks.specs.EachRow.{ShowEach}
-use Rattle.register_core.specs.declared.key.Key.{Key}
 use Rattle.register_core.specs.KeyName.{KeyName, names_at}
-use Rattle.register_requests.specs.Name.{is_among}
-use Rattle.register_core.specs.Settings.{TypePeriod}
-use Rattle.register_core.specs.Verdict.{max_keys}
-use Rattle.register_store.specs.declared.found.Found.{Found}
-use Rattle.register_store.specs.declared.meta_check.MetaRow.{MetaRow}
+use Rattle.register_core.specs.{declared.key.Key.Key, Settings.TypePeriod, Verdict.max_keys}
+use Rattle.register_requests.specs.{Name.is_among, declared.version.Version.Version}
 use Rattle.register_store.specs.declared.meta_check.MetaRow.TheVariants.{Newer, Counts as CountsKeys}
-use Rattle.register_requests.specs.declared.version.Version.{Version}
-use Rattle.register_store.specs.Tables.{Counts, numbered}
-use Rattle.register_store.specs.declared.table.TableName.TheVariants.{Meta}
 use Rattle.register_store.specs.CheckedTables.{AreNewer, ShowsCounts, ShowsName, ShowsNewer, ShowsNumbered, mark_of}
 use Rattle.register_store.specs.OpeningChecks.{AreCustodians, IsSoundAt, owners_of}
+use Rattle.register_store.specs.{declared.found.Found.Found, declared.meta_check.MetaRow.MetaRow, Tables.Counts}
+use Rattle.register_store.specs.{Tables.numbered, declared.table.TableName.TheVariants.Meta}
 
 -- ---- meta
 

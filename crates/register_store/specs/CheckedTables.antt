@@ -1,37 +1,27 @@
 -- Putting the tables of a file to the checks of opening, whatever the file's schema is.
 use Rattle.std.specs.Prelude.{◌≡◌, ◌≤◌, ◌⊎◌, ◌<◌, ℕ, pos, List, [], ◌∷◌, ◌++◌, length, codes, Result, IfOk, IfErr}
 use Rattle.sqlite.specs.declared.types.Value.TheVariants.{Int, Text as Words}
-use Rattle.sqlite.specs.Order.{Row, column}
-use Rattle.sqlite.specs.Held.{Held as Connection, state}
 use Rattle.sqlite.specs.State.{State, HasCleanDisk, IsUnchanged, Survives}
+use Rattle.sqlite.specs.{Order.Row, Order.column, Held.Held as Connection, Held.state}
 use Rattle.sqlite_trees.specs.declared.store.Store.{Ghosts}
 use Rattle.moment_core.specs.Moment.{IsMoment}
 use Rattle.period_core.specs.KeyType.{key_type_code}
-use Rattle.row_checks.specs.EachRow.{ShowEach}
 use Rattle.row_checks.specs.ShownRows.{HasNoMeaning, ShowsAll, ShowsFirst}
-use Rattle.row_checks.specs.declared.error.RowsError.{RowsError}
+use Rattle.row_checks.specs.{EachRow.ShowEach, declared.error.RowsError.RowsError}
 use Rattle.row_checks.specs.declared.error.RowsError.TheVariants as rows
-use Rattle.register_core.specs.declared.kept_reply.KeptReply.{KeptReply}
-use Rattle.register_core.specs.declared.key.Key.{Key}
-use Rattle.register_core.specs.KeptReply.{IsKeptReply}
-use Rattle.register_core.specs.KeyName.{KeyName}
-use Rattle.register_requests.specs.Name.{IsName}
-use Rattle.register_core.specs.Settings.{KeyNeed, TypePeriod}
-use Rattle.register_requests.specs.declared.version.Version.{Version}
-use Rattle.register_core.specs.Verdict.{max_keys}
-use Rattle.register_requests.specs.Version.{version_number}
-use Rattle.register_store.specs.declared.found.Found.{Found}
-use Rattle.register_store.specs.declared.error.CheckError.{CheckError}
+use Rattle.register_core.specs.{declared.kept_reply.KeptReply.KeptReply, declared.key.Key.Key, KeptReply.IsKeptReply}
+use Rattle.register_core.specs.{KeyName.KeyName, Settings.KeyNeed, Settings.TypePeriod, Verdict.max_keys}
+use Rattle.register_requests.specs.{Name.IsName, declared.version.Version.Version, Version.version_number}
 use Rattle.register_store.specs.declared.error.CheckError.TheVariants.{NotARegister, NewerVersion, Memory, Database}
-use Rattle.register_store.specs.declared.table.TableName.{TableName}
 use Rattle.register_store.specs.declared.table.TableName.TheVariants.{Meta, Keys, Custodian, Approval, Request, Period}
 use Rattle.register_store.specs.declared.table.TableName.TheVariants.{Quorum}
 use Rattle.register_store.specs.Columns.{meta_columns, key_columns, name_columns, request_columns, period_columns}
 use Rattle.register_store.specs.Columns.{need_columns, listed, select}
-use Rattle.register_store.specs.TableReads.{ShowsKey, ShowsRequest}
 use Rattle.register_store.specs.Stored.{HoldsStored, Part, Stored, mark, part, with_part}
 use Rattle.register_store.specs.Tables.{Counts, IsKey, IsSetNeed, IsSetPeriod, numbered, place_of, table_count, version}
 use Rattle.register_store.specs.OpeningChecks.{MeetsCheck, MeetsChecks, before, checked}
+use Rattle.register_store.specs.{declared.found.Found.Found, declared.error.CheckError.CheckError}
+use Rattle.register_store.specs.{declared.table.TableName.TableName, TableReads.ShowsKey, TableReads.ShowsRequest}
 
 -- ---- what the rows of each query show
 

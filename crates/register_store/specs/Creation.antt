@@ -1,17 +1,13 @@
 -- Making the tables of a register and the indexes of its keys, one after the other.
 use Rattle.std.specs.Prelude.{◌≡◌, ℕ, List, Ok}
-use Rattle.sqlite.specs.Effect.{Database}
-use Rattle.sqlite.specs.Held.{Held as Connection, state}
-use Rattle.sqlite.specs.Listing.{understood}
-use Rattle.sqlite.specs.Schema.{Schema}
 use Rattle.sqlite.specs.State.{State, HasCleanDisk, Survives}
+use Rattle.sqlite.specs.{Effect.Database, Held.Held as Connection, Held.state, Listing.understood, Schema.Schema}
 use Rattle.sqlite_trees.specs.declared.store.Store.{Ghosts}
 use Rattle.sqlite_resolve.specs.declared.compiled.Compiled.{Compiled}
 use Rattle.sql_steps.specs.Steps.{DatabaseChange}
-use Rattle.register_store.specs.declared.table.TableName.{TableName}
-use Rattle.register_store.specs.Beside.{KeepsOthers, LacksMeta}
 use Rattle.register_store.specs.Tables.{fresh, count_text, no_rows}
 use Rattle.register_store.specs.Schema.{no_schema, schema_with, made_indexes, Holds}
+use Rattle.register_store.specs.{declared.table.TableName.TableName, Beside.KeepsOthers, Beside.LacksMeta}
 
 -- ---- whether tables are there
 

@@ -1,11 +1,7 @@
 -- When a database holds the tables of a register: the statements that make them, and which rows show what they hold.
 use Rattle.std.specs.Prelude.{◌≡◌, ◌≢◌, ℕ, [], ◌∷◌, ◌++◌, map}
-use Rattle.std.specs.List.{AllPairs}
-use Rattle.std.specs.Result.{result_unwrap_or}
-use Rattle.sqlite.specs.Compile.{table_defined_by}
-use Rattle.sqlite.specs.Effect.{Database, IsDatabase}
-use Rattle.sqlite.specs.Schema.{Schema}
-use Rattle.sqlite.specs.Table.{Table}
+use Rattle.std.specs.{List.AllPairs, Result.result_unwrap_or}
+use Rattle.sqlite.specs.{Compile.table_defined_by, Effect.Database, Effect.IsDatabase, Schema.Schema, Table.Table}
 use Rattle.sqlite_catalog.specs.Listing.{automatic}
 use Rattle.sqlite_resolve.specs.Define.{empty}
 use Rattle.register_requests.specs.declared.version.Version.{Version}

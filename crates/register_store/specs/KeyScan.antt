@@ -1,13 +1,11 @@
 -- Keys one after the other: those that are due for rotation, by Protect Stop.
 use Rattle.std.specs.Prelude.{◌≡◌, ◌⊎◌, ◌==◌, ◌&&◌, if◌then◌else◌, ◌<◌, ℕ, Bool, true, Option, None, Some, unwrap_or}
 use Rattle.sqlite_rules.specs.Lists.{Has}
-use Rattle.lifecycle_core.specs.declared.state.State.TheVariants.{Active}
-use Rattle.lifecycle_core.specs.State.{is_reached_at, state_code}
+use Rattle.lifecycle_core.specs.{declared.state.State.TheVariants.Active, State.is_reached_at, State.state_code}
 use Rattle.register_core.specs.declared.key.Key.{Key}
 use Rattle.register_store.specs.declared.key_scan.DueCursor.{DueCursor}
-use Rattle.register_store.specs.declared.key_scan.DateRun.{DateRun}
 use Rattle.register_store.specs.declared.key_scan.DateRun.TheVariants.{First, Later}
-use Rattle.register_store.specs.Tables.{Tables, numbered}
+use Rattle.register_store.specs.{declared.key_scan.DateRun.DateRun, Tables.Tables, Tables.numbered}
 
 -- the numbered key is Active, and its Protect Stop Date is reached at this moment
 abbrev pub is_stop_due : ℕ → ℕ × Key → Bool

@@ -1,16 +1,12 @@
 -- Taking a register of the first version to the second.
 use Rattle.std.specs.Prelude.{◌⊎◌}
-use Rattle.sqlite.specs.Effect.{Database}
-use Rattle.sqlite.specs.Held.{Held as Connection}
-use Rattle.sqlite.specs.Schema.{Schema}
+use Rattle.sqlite.specs.{Effect.Database, Held.Held as Connection, Schema.Schema}
 use Rattle.sqlite_trees.specs.declared.store.Store.{Ghosts}
 use Rattle.sql_steps.specs.Steps.{DatabaseChange}
 use Rattle.register_requests.specs.declared.version.Version.TheVariants.{First}
 use Rattle.register_store.specs.declared.table.TableName.TheVariants.{Period, Quorum}
-use Rattle.register_store.specs.Beside.{HasMetaApart, KeepsOthers}
 use Rattle.register_store.specs.Creation.{FindsIn, IsThere, WhereNone}
-use Rattle.register_store.specs.Schema.{Holds, HoldsIn}
-use Rattle.register_store.specs.Tables.{Tables}
+use Rattle.register_store.specs.{Beside.HasMetaApart, Beside.KeepsOthers, Schema.Holds, Schema.HoldsIn, Tables.Tables}
 
 -- ---- the whole
 

@@ -1,25 +1,18 @@
 -- Opening the tables of a file: the checks of their version, and then this program's version.
 use Rattle.std.specs.Prelude.{◌≡◌, ◌⊎◌, Result, IfOk, IfErr, IsTrue}
-use Rattle.sqlite.specs.Effect.{Database}
-use Rattle.sqlite.specs.Held.{Held as Connection, state}
 use Rattle.sqlite.specs.State.{State, HasCleanDisk, IsUnchanged, Survives}
-use Rattle.sqlite.specs.Tree.{Trees}
+use Rattle.sqlite.specs.{Effect.Database, Held.Held as Connection, Held.state, Tree.Trees}
 use Rattle.sqlite_trees.specs.declared.store.Store.{Ghosts}
-use Rattle.register_requests.specs.declared.version.Version.{Version}
 use Rattle.register_requests.specs.declared.version.Version.TheVariants.{First}
-use Rattle.register_requests.specs.Version.{current}
-use Rattle.register_store.specs.declared.error.CheckError.{CheckError}
+use Rattle.register_requests.specs.{declared.version.Version.Version, Version.current}
 use Rattle.register_store.specs.declared.error.CheckError.TheVariants.{NotARegister, NewerVersion, Memory}
 use Rattle.register_store.specs.declared.error.CheckError.TheVariants.{Database as Stopped}
-use Rattle.register_store.specs.declared.error.CreateError.{CreateError}
 use Rattle.register_store.specs.declared.error.CreateError.TheVariants.{HasTables, Database as Refused}
-use Rattle.register_store.specs.declared.found.Found.{Found}
 use Rattle.register_store.specs.CheckedTables.{BlamesNone, FailsOne, HasNewer, Passes, mark_of}
-use Rattle.register_store.specs.Migration.{HasNewTable, Migrates}
-use Rattle.register_store.specs.Schema.{HoldsIn}
 use Rattle.register_store.specs.Stored.{HoldsStored, Stored, mark}
-use Rattle.register_store.specs.Tables.{Counts, Tables}
-use Rattle.register_store.specs.OpeningChecks.{MeetsChecks}
+use Rattle.register_store.specs.{declared.error.CheckError.CheckError, declared.error.CreateError.CreateError}
+use Rattle.register_store.specs.{declared.found.Found.Found, Migration.HasNewTable, Migration.Migrates, Schema.HoldsIn}
+use Rattle.register_store.specs.{Tables.Counts, Tables.Tables, OpeningChecks.MeetsChecks}
 
 -- ---- what a file holds
 

@@ -2,25 +2,18 @@
 use Rattle.std.specs.Prelude.{◌≡◌, ◌≢◌, ◌≤◌, ◌<◌, ℕ, zero, suc, true, List, length, map, reverse, take, slice_get}
 use Rattle.std.specs.Prelude.{Option, None, Some, is_some, IsSome, IsTrue}
 use Rattle.std.specs.List.{AllByRecursion}
-use Rattle.lifecycle_core.specs.declared.dates.Dates.{Dates}
-use Rattle.lifecycle_core.specs.Row.{IsRightAt}
-use Rattle.period_core.specs.declared.key_type.KeyType.{KeyType}
+use Rattle.lifecycle_core.specs.{declared.dates.Dates.Dates, Row.IsRightAt}
 use Rattle.period_core.specs.Fitting.{Fits, are_dates_in_order, is_not_after}
-use Rattle.period_core.specs.Period.{periods}
-use Rattle.register_core.specs.declared.kept_reply.KeptReply.{KeptReply}
-use Rattle.register_core.specs.declared.key.Key.{Key}
-use Rattle.register_requests.specs.declared.version.Version.{Version}
+use Rattle.period_core.specs.{declared.key_type.KeyType.KeyType, Period.periods}
+use Rattle.register_core.specs.{declared.kept_reply.KeptReply.KeptReply, declared.key.Key.Key, KeyName.KeyName}
+use Rattle.register_core.specs.{KeyName.names_at, Settings.KeyNeed, Verdict.max_keys}
 use Rattle.register_requests.specs.declared.version.Version.TheVariants.{First, Second}
 use Rattle.register_requests.specs.Version.{custodians_of, knows}
-use Rattle.register_core.specs.KeyName.{KeyName, names_at}
-use Rattle.register_requests.specs.Name.{is_among}
-use Rattle.register_core.specs.Settings.{KeyNeed}
-use Rattle.register_core.specs.Verdict.{max_keys}
-use Rattle.register_store.specs.declared.table.TableName.{TableName}
+use Rattle.register_requests.specs.{declared.version.Version.Version, Name.is_among}
 use Rattle.register_store.specs.declared.table.TableName.TheVariants.{Meta, Keys, Custodian, Approval, Request, Period}
 use Rattle.register_store.specs.declared.table.TableName.TheVariants.{Quorum}
-use Rattle.register_store.specs.Stored.{Stored, mark}
 use Rattle.register_store.specs.Tables.{Counts, all_tables, place_of, table_count}
+use Rattle.register_store.specs.{declared.table.TableName.TableName, Stored.Stored, Stored.mark}
 
 -- The dates of a key: in the first version they fit the period of its type; from the second on, where the office may
 -- set another, they are in order.

@@ -1,18 +1,14 @@
 -- The schema of a register, and when a database holds its tables.
 use Rattle.std.specs.Prelude.{◌≡◌, ℕ, ◌+◌, false, List, [], ◌∷◌, ◌++◌, map, take, codes}
-use Rattle.sqlite.specs.Order.{Row as Cells}
-use Rattle.sqlite.specs.Schema.{Schema}
-use Rattle.sqlite.specs.Effect.{Database, IsDatabase}
+use Rattle.sqlite.specs.{Order.Row as Cells, Schema.Schema, Effect.Database, Effect.IsDatabase}
 use Rattle.sqlite_schema.specs.declared.schema.Index.{Index}
 use Rattle.sqlite_value.specs.Keys.{plain}
-use Rattle.register_store.specs.declared.key_index.KeyIndex.{KeyIndex}
 use Rattle.register_store.specs.declared.key_index.KeyIndex.TheVariants.{Activation, Deactivation, ProtectStop}
-use Rattle.register_store.specs.declared.table.TableName.{TableName}
 use Rattle.register_store.specs.declared.table.TableName.TheVariants.{Keys}
-use Rattle.register_requests.specs.declared.version.Version.{Version}
-use Rattle.register_requests.specs.Version.{current}
 use Rattle.register_store.specs.Tables.{Layout, AreApartIn, fresh, Tables, content, IsInRange, ShowsIn, all_tables}
 use Rattle.register_store.specs.Tables.{table_of, table_count, key_indexes, trees_of}
+use Rattle.register_store.specs.{declared.key_index.KeyIndex.KeyIndex, declared.table.TableName.TableName}
+use Rattle.register_requests.specs.{declared.version.Version.Version, Version.current}
 
 -- ---- schemas
 

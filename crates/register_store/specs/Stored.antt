@@ -1,10 +1,9 @@
 -- Tables with the version in which they are stored.
 use Rattle.sqlite.specs.Effect.{Database}
 use Rattle.register_requests.specs.declared.version.Version.{Version}
-use Rattle.register_store.specs.declared.table.TableName.{TableName}
 use Rattle.register_store.specs.declared.table.TableName.TheVariants.{Meta}
-use Rattle.register_store.specs.Schema.{HoldsIn}
 use Rattle.register_store.specs.Tables.{Content, Counts, Tables, content, with_content}
+use Rattle.register_store.specs.{declared.table.TableName.TableName, Schema.HoldsIn}
 
 -- Tables with the version in which a database has them.
 pub record Stored : Type 0 where

@@ -3,31 +3,20 @@ use Rattle.std.specs.Prelude.{◌≡◌, ◌≢◌, ◌+◌, ℕ, pos, true, Lis
 use Rattle.std.specs.Prelude.{OnOk, IsTrue}
 use Rattle.std.specs.Option.{option_map}
 use Rattle.sqlite.specs.declared.types.Value.TheVariants.{Int, Text as Words}
-use Rattle.sqlite.specs.Order.{Row, column}
-use Rattle.sqlite.specs.Held.{state}
 use Rattle.sqlite.specs.State.{State, HasCleanDisk, IsUnchanged, Survives}
+use Rattle.sqlite.specs.{Order.Row, Order.column, Held.state}
 use Rattle.sqlite_rules.specs.Lists.{Has}
 use Rattle.sqlite_trees.specs.declared.store.Store.{Ghosts}
-use Rattle.lifecycle_core.specs.declared.dates.Dates.{Dates}
-use Rattle.lifecycle_core.specs.State.{state_code}
-use Rattle.period_core.specs.declared.key_type.KeyType.{KeyType}
-use Rattle.period_core.specs.KeyType.{key_type_code}
-use Rattle.period_core.specs.Period.{Period}
-use Rattle.register_core.specs.declared.kept_reply.KeptReply.{KeptReply}
-use Rattle.register_core.specs.declared.key.Key.{Key}
-use Rattle.register_core.specs.declared.view.Held.{Held}
+use Rattle.lifecycle_core.specs.{declared.dates.Dates.Dates, State.state_code}
+use Rattle.period_core.specs.{declared.key_type.KeyType.KeyType, KeyType.key_type_code, Period.Period}
 use Rattle.register_core.specs.KeptReply.{fits_its_command, kept_under}
-use Rattle.register_core.specs.KeyName.{names_at}
-use Rattle.register_core.specs.Names.{sorted_names}
-use Rattle.register_core.specs.Settings.{need_at, period_at}
+use Rattle.register_core.specs.{declared.kept_reply.KeptReply.KeptReply, declared.key.Key.Key, declared.view.Held.Held}
+use Rattle.register_core.specs.{KeyName.names_at, Names.sorted_names, Settings.need_at, Settings.period_at}
 use Rattle.register_requests.specs.Request.{IsCommand, IsDate, command_text}
-use Rattle.register_store.specs.declared.counted.Counted.{Counted}
-use Rattle.register_store.specs.declared.error.StoreError.{StoreError}
 use Rattle.register_store.specs.declared.error.StoreError.TheVariants.{Memory, NoRegister}
 use Rattle.register_store.specs.Tables.{Tables, date_cell, state_cell}
-use Rattle.register_store.specs.Schema.{Holds}
-use Rattle.register_store.specs.StepCount.{Rises, counted}
-use Rattle.register_store.specs.TableChanges.{key_at}
+use Rattle.register_store.specs.{declared.counted.Counted.Counted, declared.error.StoreError.StoreError, Schema.Holds}
+use Rattle.register_store.specs.{StepCount.Rises, StepCount.counted, TableChanges.key_at}
 
 -- ---- what is found in tables
 

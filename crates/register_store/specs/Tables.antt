@@ -2,39 +2,25 @@
 use Rattle.std.specs.Prelude.{◌≡◌, ◌<◌, ℕ, ◌+◌, pos, Bool, cond, not, List, [], ◌∷◌, ◌++◌, length, map, drop, filter}
 use Rattle.std.specs.Prelude.{take, Option, None, Some, is_some, IsTrue, IsPermutation, codes}
 use Rattle.std.specs.List.{AllByRecursion, enumerate_from}
-use Rattle.sqlite.specs.declared.types.Value.{Value}
 use Rattle.sqlite.specs.declared.types.Value.TheVariants.{Null, Int, Text as Words}
-use Rattle.sqlite.specs.Order.{Row as Cells}
-use Rattle.sqlite.specs.Table.{Table}
-use Rattle.sqlite.specs.Tree.{IsTable, rowid}
+use Rattle.sqlite.specs.{declared.types.Value.Value, Order.Row as Cells, Table.Table, Tree.IsTable, Tree.rowid}
 use Rattle.sqlite_catalog.specs.Listing.{automatic}
 use Rattle.sqlite_schema.specs.declared.schema.Action.TheVariants.{NoAction, Cascade}
-use Rattle.sqlite_schema.specs.declared.schema.Index.{Index}
-use Rattle.sqlite_schema.specs.declared.schema.Reference.{Reference}
+use Rattle.sqlite_schema.specs.{declared.schema.Index.Index, declared.schema.Reference.Reference}
 use Rattle.sqlite_trees.specs.View.{is_int}
 use Rattle.moment_core.specs.Moment.{IsMoment, last_second}
-use Rattle.lifecycle_core.specs.declared.state.State.{State}
-use Rattle.lifecycle_core.specs.State.{state_code}
-use Rattle.period_core.specs.KeyType.{key_type_code}
-use Rattle.period_core.specs.Period.{IsPeriod}
-use Rattle.register_core.specs.declared.kept_reply.KeptReply.{KeptReply}
-use Rattle.register_core.specs.declared.key.Key.{Key}
-use Rattle.register_core.specs.Dates.{AreDates}
-use Rattle.register_core.specs.KeptReply.{IsKeptReply}
-use Rattle.register_core.specs.KeyName.{KeyName}
-use Rattle.register_requests.specs.Name.{IsName}
-use Rattle.register_requests.specs.Purpose.{IsPurpose}
-use Rattle.register_requests.specs.Request.{command_text}
-use Rattle.register_requests.specs.Quorum.{IsQuorum}
-use Rattle.register_core.specs.Settings.{KeyNeed, TypePeriod}
-use Rattle.register_requests.specs.declared.version.Version.{Version}
+use Rattle.lifecycle_core.specs.{declared.state.State.State, State.state_code}
+use Rattle.period_core.specs.{KeyType.key_type_code, Period.IsPeriod}
+use Rattle.register_core.specs.{declared.kept_reply.KeptReply.KeptReply, declared.key.Key.Key, Dates.AreDates}
+use Rattle.register_core.specs.{KeptReply.IsKeptReply, KeyName.KeyName, Settings.KeyNeed, Settings.TypePeriod}
 use Rattle.register_requests.specs.declared.version.Version.TheVariants.{First, Second}
-use Rattle.register_requests.specs.Version.{current, version_number}
+use Rattle.register_requests.specs.{Name.IsName, Purpose.IsPurpose, Request.command_text, Quorum.IsQuorum}
+use Rattle.register_requests.specs.{declared.version.Version.Version, Version.current, Version.version_number}
 use Rattle.register_store.specs.declared.table.TableName.{TableName}
 use Rattle.register_store.specs.declared.table.TableName.TheVariants.{Meta, Keys, Custodian, Approval, Request, Period}
 use Rattle.register_store.specs.declared.table.TableName.TheVariants.{Quorum}
-use Rattle.register_store.specs.Columns.{meta_columns, key_columns, request_columns, period_columns}
-use Rattle.register_store.specs.Columns.{need_columns, paired}
+use Rattle.register_store.specs.Columns.{meta_columns, key_columns, request_columns, period_columns, need_columns}
+use Rattle.register_store.specs.Columns.{paired}
 use Rattle.register_store.specs.TableForms.{Numbers, Texts, keyed, indexed, reference}
 
 -- ---- what they hold

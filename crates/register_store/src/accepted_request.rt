@@ -1,28 +1,23 @@
 //! What an accepted request writes, as one transaction; its own row, and finding it again.
 ghost use Rattle.std.specs.Prelude.{◌≡◌, ◌≢◌, ℕ, pos, Option, MatchOption, ◌≤◌, ◌+◌, IfOk};
-ghost use Rattle.sqlite.specs.Held.{state};
-ghost use Rattle.sqlite.specs.Order.{column};
 ghost use Rattle.sqlite.specs.declared.types.Value.TheVariants.{Int, Text as Words};
+ghost use Rattle.sqlite.specs.{Held.state, Order.column};
 ghost use Rattle.sqlite_value.specs.Value.{owned};
 ghost use Rattle.lifecycle_core.specs.declared.state.State.{State};
 ghost use Rattle.register_core.specs.declared.kept_reply.KeptReply.{KeptReply};
-ghost use Rattle.register_core.specs.KeptReply.{IsKeptReply};
-ghost use Rattle.register_requests.specs.Number.{IsNumber};
+ghost use Rattle.register_core.specs.{KeptReply.IsKeptReply, Verdict.max_keys};
 ghost use Rattle.register_requests.specs.Request.{IsCommand, command_text};
-ghost use Rattle.register_requests.specs.declared.request.Command.{Command};
-ghost use Rattle.register_store.specs.Within.StepCount.{WritesInside};
-ghost use Rattle.register_store.specs.Tables.{state_cell};
-ghost use Rattle.register_store.specs.TableChanges.{Makes};
-ghost use Rattle.register_store.specs.Within.TableChanges.{Always, with_counts, with_kept};
-ghost use Rattle.register_store.specs.TableChanges.{with_recorded, AreRightAt, HasKeys};
+ghost use Rattle.register_requests.specs.{Number.IsNumber, declared.request.Command.Command};
+ghost use Rattle.register_store.specs.TableChanges.{Makes, with_recorded, AreRightAt, HasKeys};
 ghost use Rattle.register_store.specs.TableChanges.{with_keys_advanced};
+ghost use Rattle.register_store.specs.Within.TableChanges.{Always, with_counts, with_kept};
 ghost use Rattle.register_store.specs.TableReads.{Calls, HasRequest, Reads, ShowsRequest, seen};
 ghost use Rattle.register_store.specs.Within.TableReads.{GivesCell, GivesCellIn};
-ghost use Rattle.register_core.specs.Verdict.{max_keys};
-ghost use Rattle.sql_steps.specs.Steps.{TransactsBy};
 ghost use Rattle.register_store.specs.AcceptedRequest.{CanTake, with_request};
 ghost use Rattle.register_store.specs.Change.{made_count, with_change, with_custody};
 ghost use Rattle.register_store.specs.Within.Due.{moved_on, update_text, with_each};
+ghost use Rattle.register_store.specs.{Within.StepCount.WritesInside, Tables.state_cell};
+ghost use Rattle.sql_steps.specs.Steps.{TransactsBy};
 
 use crate::cells::{
     MomentCell, key_number_or_zero_in, moment_in, state_in, text_in, unsigned_integer_in,

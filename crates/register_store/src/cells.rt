@@ -5,12 +5,9 @@ ghost use Rattle.sqlite.specs.declared.types.Value.TheVariants.{Int, Text as Wor
 ghost use Rattle.sqlite_value.specs.Value.{owned};
 ghost use Rattle.moment_core.specs.Moment.{IsMoment};
 ghost use Rattle.lifecycle_core.specs.State.{state_code};
-ghost use Rattle.period_core.specs.KeyType.{key_type_code};
-ghost use Rattle.period_core.specs.Period.{max_months};
-ghost use Rattle.register_requests.specs.Name.{IsName};
-ghost use Rattle.register_requests.specs.Purpose.{IsPurpose};
-ghost use Rattle.register_requests.specs.Quorum.{IsQuorum};
+ghost use Rattle.period_core.specs.{KeyType.key_type_code, Period.max_months};
 ghost use Rattle.register_requests.specs.Request.{max_key_number, IsDate};
+ghost use Rattle.register_requests.specs.{Name.IsName, Purpose.IsPurpose, Quorum.IsQuorum};
 ghost use Rattle.register_store.specs.Tables.{date_cell};
 ghost use Rattle.register_store.specs.Within.TableReads.{GivesCell, GivesCellIn};
 

@@ -1,16 +1,13 @@
 //! The checks of the tables of custodians and of approvals.
 ghost use Rattle.std.specs.Prelude.{◌≡◌, ◌≢◌, ◌<◌, ◌∷◌, ◌++◌, ℕ, suc, [], false, length, slice_get};
 ghost use Rattle.std.specs.Prelude.{Some, IsTrue, OnOk, IfOk, IfErr, MatchOption};
-ghost use Rattle.sqlite.specs.Held.{state};
-ghost use Rattle.sqlite.specs.State.{HasCleanDisk, Survives};
+ghost use Rattle.sqlite.specs.{Held.state, State.HasCleanDisk, State.Survives};
 ghost use Rattle.register_core.specs.KeyName.{key_name};
-ghost use Rattle.register_store.specs.CheckedTables.{ShowsName};
 ghost use Rattle.register_store.specs.Within.CheckedTables.{ChecksTable};
-ghost use Rattle.register_store.specs.Stored.{Stored};
-ghost use Rattle.register_store.specs.Within.TableReads.{GivesRow};
 ghost use Rattle.register_store.specs.Within.CheckedRows.{AreEmpty, IsAnything, KnowsCustodians};
-ghost use Rattle.register_store.specs.OpeningChecks.{owners_of};
 ghost use Rattle.register_store.specs.declared.table.TableName.TheVariants.{Approval, Custodian};
+ghost use Rattle.register_store.specs.{CheckedTables.ShowsName, Stored.Stored};
+ghost use Rattle.register_store.specs.{Within.TableReads.GivesRow, OpeningChecks.owners_of};
 
 use crate::cells::{name_in, unsigned_integer_in};
 use crate::columns::{NameCell, columns};

@@ -1,14 +1,12 @@
 //! The check of the table of keys.
 ghost use Rattle.std.specs.Prelude.{◌≡◌, ◌↔◌, false, MatchOption, IsTrue};
 ghost use Rattle.register_core.specs.declared.key.Key.{Key};
-ghost use Rattle.sqlite.specs.Held.{state};
-ghost use Rattle.sqlite.specs.State.{Survives};
+ghost use Rattle.sqlite.specs.{Held.state, State.Survives};
 ghost use Rattle.register_store.specs.declared.table.TableName.TheVariants.{Keys};
-ghost use Rattle.register_store.specs.Stored.{Stored, mark};
 ghost use Rattle.register_store.specs.OpeningChecks.{ArePast, DatesFit, IsSoundAt};
 ghost use Rattle.register_store.specs.CheckedTables.{ShowsNumbered, mark_of};
 ghost use Rattle.register_store.specs.Within.CheckedTables.{ChecksTable};
-ghost use Rattle.register_store.specs.Within.CheckedRows.{AreOwners};
+ghost use Rattle.register_store.specs.{Stored.Stored, Stored.mark, Within.CheckedRows.AreOwners};
 
 use crate::cells::unsigned_integer_in;
 use crate::columns::{KeyCell, columns};

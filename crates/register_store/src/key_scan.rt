@@ -1,8 +1,7 @@
 //! Keys one after the other: all by number, and those that are due for rotation by Protect Stop.
 ghost use Rattle.std.specs.Prelude.{◌≡◌, ◌+◌, ◌≤◌, ℕ, MatchOption};
 ghost use Rattle.moment_core.specs.Moment.{IsMoment};
-ghost use Rattle.register_core.specs.declared.key.Key.{Key};
-ghost use Rattle.register_core.specs.Verdict.{max_keys};
+ghost use Rattle.register_core.specs.{declared.key.Key.Key, Verdict.max_keys};
 ghost use Rattle.register_store.specs.KeyScan.{HasNextDue, date_run_of_next_key};
 ghost use Rattle.register_store.specs.TableReads.{seen, Calls, HasRow, KeepsSight, Reads};
 ghost use Rattle.register_store.specs.Within.TableReads.{ShowsAt};

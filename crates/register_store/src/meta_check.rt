@@ -1,12 +1,9 @@
 //! The check of the table meta.
 ghost use Rattle.std.specs.Prelude.{◌≡◌, [], ◌∷◌, false, MatchOption};
-ghost use Rattle.sqlite.specs.Held.{state};
-ghost use Rattle.sqlite.specs.State.{Survives};
-ghost use Rattle.register_store.specs.declared.table.TableName.TheVariants.{Meta};
-ghost use Rattle.register_store.specs.Stored.{Stored};
-ghost use Rattle.register_store.specs.Within.CheckedTables.{ChecksTable};
-ghost use Rattle.register_store.specs.CheckedRows.{RefusesMeta, TellsMeta};
-ghost use Rattle.register_store.specs.Within.CheckedRows.{IsCounts};
+ghost use Rattle.sqlite.specs.{Held.state, State.Survives};
+ghost use Rattle.register_store.specs.{declared.table.TableName.TheVariants.Meta, Stored.Stored};
+ghost use Rattle.register_store.specs.{Within.CheckedTables.ChecksTable, CheckedRows.RefusesMeta};
+ghost use Rattle.register_store.specs.{CheckedRows.TellsMeta, Within.CheckedRows.IsCounts};
 
 use crate::cells::{key_number_or_zero_in, moment_in, unsigned_integer_in};
 use crate::columns::{MetaCell, columns};

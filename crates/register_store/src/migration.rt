@@ -2,8 +2,7 @@
 ghost use Rattle.std.specs.Prelude.{◌≡◌, false, Err};
 ghost use Rattle.sql_steps.specs.Steps.{Transacts};
 ghost use Rattle.register_store.specs.Within.Beside.{Alters, UpdatesMeta};
-ghost use Rattle.register_store.specs.Migration.{FindsNewTable};
-ghost use Rattle.register_store.specs.Migration.{Migrates};
+ghost use Rattle.register_store.specs.Migration.{FindsNewTable, Migrates};
 ghost use Rattle.register_store.specs.Within.Migration.{SetsVersion};
 
 use crate::error::CreateError;

@@ -1,14 +1,11 @@
 //! The check of the table of requests.
 ghost use Rattle.std.specs.Prelude.{◌≡◌, ◌↔◌, false, IsTrue};
-ghost use Rattle.sqlite.specs.Held.{state};
-ghost use Rattle.sqlite.specs.State.{Survives};
+ghost use Rattle.sqlite.specs.{Held.state, State.Survives};
 ghost use Rattle.register_store.specs.declared.table.TableName.TheVariants.{Request};
-ghost use Rattle.register_store.specs.Stored.{Stored, mark};
-ghost use Rattle.register_store.specs.Within.TableReads.{GivesRow};
-ghost use Rattle.register_store.specs.OpeningChecks.{IsReplyOf};
 ghost use Rattle.register_store.specs.CheckedTables.{ShowsKept, mark_of};
 ghost use Rattle.register_store.specs.Within.CheckedTables.{ChecksTable};
-ghost use Rattle.register_store.specs.Within.CheckedRows.{IsAnything};
+ghost use Rattle.register_store.specs.{Stored.Stored, Stored.mark, Within.TableReads.GivesRow};
+ghost use Rattle.register_store.specs.{OpeningChecks.IsReplyOf, Within.CheckedRows.IsAnything};
 
 use crate::accepted_request::{kept_reply_in, request_number_in};
 use crate::cells::name_in;

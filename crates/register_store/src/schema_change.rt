@@ -2,14 +2,11 @@
 //! single tables.
 ghost use Rattle.std.specs.Prelude.{◌≡◌, ◌≤◌, false, Err};
 ghost use Rattle.sqlite.specs.Held.{state};
-ghost use Rattle.sql_steps.specs.Steps.{Transacts};
-ghost use Rattle.sql_steps.specs.Within.Steps.{Steps};
+ghost use Rattle.sql_steps.specs.{Steps.Transacts, Within.Steps.Steps};
 ghost use Rattle.register_requests.specs.declared.version.Version.TheVariants.{First};
 ghost use Rattle.register_store.specs.Within.Beside.{Adds, IsMadeAs};
-ghost use Rattle.register_store.specs.Creation.{FindsIn, IsThere};
-ghost use Rattle.register_store.specs.Within.Creation.{Answers, FindsInside};
-ghost use Rattle.register_store.specs.Creation.{WhereNone};
-ghost use Rattle.register_store.specs.Within.Creation.{MakesTable};
+ghost use Rattle.register_store.specs.Creation.{FindsIn, IsThere, WhereNone};
+ghost use Rattle.register_store.specs.Within.Creation.{Answers, FindsInside, MakesTable};
 ghost use Rattle.register_store.specs.Within.Migration.{MakesNext};
 ghost use Rattle.register_store.specs.Tables.{place_of, table_count};
 
@@ -22,8 +19,7 @@ use sqlite::{Alter, Connection, Error, Transaction};
 pub(crate) trait SchemaChange {
     ghost use Rattle.std.specs.Prelude.{◌≡◌};
     ghost use Rattle.sqlite.specs.Schema.{Schema};
-    ghost use Rattle.sql_steps.specs.Steps.{DatabaseChange};
-    ghost use Rattle.sql_steps.specs.Within.Steps.{Steps};
+    ghost use Rattle.sql_steps.specs.{Steps.DatabaseChange, Within.Steps.Steps};
     ghost use Rattle.register_store.specs.Within.Creation.{Answers};
 
     /// That one of the tables that it makes is there.

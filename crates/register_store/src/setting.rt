@@ -1,12 +1,11 @@
 //! What is set beside the keys themselves: the usage periods of types, and how many approvals the
 //! destruction of a key needs.
-ghost use Rattle.register_store.specs.Within.StepCount.{WritesInside};
-ghost use Rattle.register_store.specs.TableChanges.{Makes};
-ghost use Rattle.register_store.specs.Within.TableChanges.{Always, HasNoneSet};
-ghost use Rattle.register_store.specs.Within.TableChanges.{more_set, with_setting, without_set};
+ghost use Rattle.register_store.specs.Within.TableChanges.{Always, HasNoneSet, more_set};
+ghost use Rattle.register_store.specs.Within.TableChanges.{with_setting, without_set};
 ghost use Rattle.register_store.specs.TableReads.{Calls, HasNeed, HasPeriod, KeepsSight, Reads};
 ghost use Rattle.register_store.specs.TableReads.{seen};
 ghost use Rattle.register_store.specs.Within.TableReads.{GivesRow, ShowsPeriod};
+ghost use Rattle.register_store.specs.{Within.StepCount.WritesInside, TableChanges.Makes};
 
 use crate::cells::{months_in, quorum_in};
 use crate::columns::columns;

@@ -1,15 +1,13 @@
 //! The checks of the tables of what is set: periods and needs.
 ghost use Rattle.std.specs.Prelude.{◌≡◌, ◌↔◌, false, IsTrue};
-ghost use Rattle.sqlite.specs.Held.{state};
-ghost use Rattle.sqlite.specs.State.{Survives};
+ghost use Rattle.sqlite.specs.{Held.state, State.Survives};
 ghost use Rattle.register_requests.specs.declared.version.Version.TheVariants.{Second};
-ghost use Rattle.register_store.specs.CheckedTables.{ShowsKeyNeed, ShowsTypePeriod};
+ghost use Rattle.register_store.specs.CheckedTables.{ShowsKeyNeed, ShowsTypePeriod, counts_of};
+ghost use Rattle.register_store.specs.CheckedTables.{mark_of};
 ghost use Rattle.register_store.specs.Within.CheckedTables.{ChecksTable};
-ghost use Rattle.register_store.specs.CheckedTables.{counts_of, mark_of};
-ghost use Rattle.register_store.specs.Stored.{Stored, mark};
 ghost use Rattle.register_store.specs.Within.TableReads.{GivesRow};
 ghost use Rattle.register_store.specs.Within.CheckedRows.{IsAnything, key_need, type_period};
-ghost use Rattle.register_store.specs.OpeningChecks.{IsNeedOf};
+ghost use Rattle.register_store.specs.{Stored.Stored, Stored.mark, OpeningChecks.IsNeedOf};
 ghost use Rattle.register_store.specs.declared.table.TableName.TheVariants as table;
 
 use crate::cells::{key_type_in, months_in, quorum_in, unsigned_integer_in};

@@ -1,24 +1,18 @@
 //! A key in its tables: its row, which is found, added and changed in what can change of it, and its
 //! custody.
-ghost use Rattle.std.specs.Prelude.{◌≡◌, ◌≢◌, ◌≤◌, MatchOption, ◌+◌, Option, length};
-ghost use Rattle.std.specs.Prelude.{IfOk, IfErr};
+ghost use Rattle.std.specs.Prelude.{◌≡◌, ◌≢◌, ◌≤◌, MatchOption, ◌+◌, Option, length, IfOk, IfErr};
 ghost use Rattle.sqlite.specs.Held.{state};
 ghost use Rattle.lifecycle_core.specs.declared.dates.Dates.{Dates};
-ghost use Rattle.register_core.specs.declared.key.Key.{Key};
-ghost use Rattle.register_store.specs.Within.StepCount.{WritesInside};
-ghost use Rattle.register_core.specs.Dates.{AreDates};
-ghost use Rattle.register_store.specs.Tables.{IsKey};
+ghost use Rattle.register_core.specs.{declared.key.Key.Key, Dates.AreDates};
 ghost use Rattle.register_store.specs.TableChanges.{Makes, with_key, with_key_at};
 ghost use Rattle.register_store.specs.TableChanges.{with_owner_and_row};
-ghost use Rattle.register_store.specs.Within.TableChanges.{Always};
-ghost use Rattle.register_store.specs.Within.TableChanges.{without_approvals};
+ghost use Rattle.register_store.specs.Within.TableChanges.{Always, without_approvals};
 ghost use Rattle.register_store.specs.TableReads.{seen, Calls, HasRow, KeepsSight, Reads};
-ghost use Rattle.register_store.specs.TableReads.{ShowsDates, ShowsKey, CallsOver};
-ghost use Rattle.register_store.specs.Within.TableReads.{AreNamesOf};
-ghost use Rattle.register_store.specs.TableReads.{HasHeldKey};
-ghost use Rattle.register_store.specs.Within.TableReads.{count_at, HasNames, HasNoName};
+ghost use Rattle.register_store.specs.TableReads.{ShowsDates, ShowsKey, CallsOver, HasHeldKey};
 ghost use Rattle.register_store.specs.TableReads.{load_steps};
+ghost use Rattle.register_store.specs.Within.TableReads.{AreNamesOf, count_at, HasNames, HasNoName};
 ghost use Rattle.register_store.specs.Within.Roles.{change_text, select_text, with_role_changed};
+ghost use Rattle.register_store.specs.{Within.StepCount.WritesInside, Tables.IsKey};
 
 use crate::cells::{
     DateCell, MomentCell, date_in, key_type_in, moment_in, name_in, purpose_in, state_in,

@@ -1,7 +1,7 @@
 -- The number that a text writes is the only one.
 use Rattle.std.proofs.Common.{◌≡◌, ◌↔◌, ◌<◌, ◌^◌, ℕ, List, Option, None, Some, refl, sym, ap, subst, ◌∙◌}
-use Rattle.std.specs.Prelude.{decimal, IsSome, IfSome}
 use Rattle.std.proofs.lemmas.Fmt.{decimal_injective}
+use Rattle.std.specs.Prelude.{decimal, IsSome, IfSome}
 use Rattle.register_words.specs.Values.{ReadsValue}
 
 -- so what is made of it, where it is in range, is the value that was given

@@ -2,12 +2,9 @@
 -- exchanges are this register's own.
 use Rattle.std.specs.Prelude.{◌≡◌, ◌≤◌, ℕ, List, decimal, Option, None, Some}
 use Rattle.moment_core.specs.Moment.{last_second}
-use Rattle.register_requests.specs.Name.{IsName}
-use Rattle.register_requests.specs.Number.{IsNumber}
-use Rattle.register_words.specs.declared.values.Bounds.{Bounds}
-use Rattle.register_words.specs.declared.values.GivenBounds.{GivenBounds}
-use Rattle.register_words.specs.declared.values.GivenTerms.{GivenTerms}
-use Rattle.register_words.specs.declared.values.Terms.{Terms}
+use Rattle.register_requests.specs.{Name.IsName, Number.IsNumber}
+use Rattle.register_words.specs.{declared.values.Bounds.Bounds, declared.values.GivenBounds.GivenBounds}
+use Rattle.register_words.specs.{declared.values.GivenTerms.GivenTerms, declared.values.Terms.Terms}
 
 -- for how many days a report looks ahead at most
 abbrev pub max_days : ℕ

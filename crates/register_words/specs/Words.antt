@@ -1,16 +1,13 @@
 -- What a command of the words asks for.
 use Rattle.std.specs.Prelude.{◌≡◌, ℕ}
-use Rattle.register_words.specs.declared.values.Bounds.{Bounds}
-use Rattle.register_words.specs.declared.values.Terms.{Terms}
-use Rattle.register_words.specs.declared.words.GivenJob.{GivenJob}
-use Rattle.register_words.specs.declared.words.GivenJob.TheVariants as given
 use Rattle.register_words.specs.declared.words.GivenTask.{GivenTask}
-use Rattle.register_words.specs.declared.words.GivenTask.TheVariants as task
-use Rattle.register_words.specs.declared.words.Job.{Job}
-use Rattle.register_words.specs.declared.words.Job.TheVariants as job
-use Rattle.register_words.specs.declared.words.Task.{Task}
 use Rattle.register_words.specs.declared.words.Task.TheVariants.{InFile, RunInMemory}
 use Rattle.register_words.specs.Values.{AreBounds, AreTerms, IsDays}
+use Rattle.register_words.specs.{declared.values.Bounds.Bounds, declared.values.Terms.Terms}
+use Rattle.register_words.specs.{declared.words.GivenJob.GivenJob, declared.words.Job.Job, declared.words.Task.Task}
+use Rattle.register_words.specs.declared.words.GivenJob.TheVariants as given
+use Rattle.register_words.specs.declared.words.GivenTask.TheVariants as task
+use Rattle.register_words.specs.declared.words.Job.TheVariants as job
 
 -- it is this job, of the values that were given
 abbrev pub IsJob : GivenJob → Job → Type 0

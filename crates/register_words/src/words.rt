@@ -1,7 +1,6 @@
 //! What the program's words ask for.
 ghost use Rattle.std.specs.Prelude.{◌≡◌, ◌≤◌, length, Ok};
-ghost use Rattle.register_words.specs.Values.{ReadsValue};
-ghost use Rattle.register_words.specs.Words.{IsJob, IsTask};
+ghost use Rattle.register_words.specs.{Values.ReadsValue, Words.IsJob, Words.IsTask};
 
 use crate::values::{Bounds, GivenBounds, GivenTerms, Terms, read_days};
 use clap::error::ErrorKind;

@@ -5,8 +5,7 @@ use Rattle.std.proofs.lemmas.List.{length-map, map-set, get_or-map}
 use Rattle.std.proofs.lemmas.List.Edits.{swap_is}
 use Rattle.std.proofs.lemmas.List.Sorted.{IsPermutation-keeps, IsPermutation-refl, IsPermutation-swap}
 use Rattle.std.proofs.lemmas.List.Sorted.{IsPermutation-trans}
-use Rattle.std.specs.List.{AllByRecursion, swap}
-use Rattle.std.specs.List.Sorted.{IsPermutation}
+use Rattle.std.specs.{List.AllByRecursion, List.swap, List.Sorted.IsPermutation}
 use Rattle.sqlite.specs.Order.{Row}
 use Rattle.row_checks.specs.EachRow.{ShowEach}
 

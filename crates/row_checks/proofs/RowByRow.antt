@@ -2,14 +2,11 @@
 use Rattle.std.proofs.Common.{◌≡◌, ℕ, List, [], OnOk, Result, sym, subst, arith}
 use Rattle.sqlite_trees.specs.declared.store.Store as store
 use Rattle.sqlite.specs.declared.error.Error.TheVariants.{SqlInputError}
-use Rattle.sqlite_resolve.specs.declared.error.CompileError.{CompileError}
-use Rattle.sqlite.specs.Order.{Row}
-use Rattle.sqlite.specs.Given.{HasGiven, HasBegun}
-use Rattle.sqlite.specs.Held.{Held, state}
 use Rattle.sqlite.specs.State.{State, HasCleanDisk, IsUnchanged, IsNotRun, FailsToQuery, Shown, Survives}
 use Rattle.sqlite.specs.State.{CommitsShowing}
-use Rattle.sqlite.proofs.Callers.{never_commits, unchanged_then}
-use Rattle.sqlite.proofs.StateLemmas.{survives_weaker}
+use Rattle.sqlite.specs.{Order.Row, Given.HasGiven, Given.HasBegun, Held.Held, Held.state}
+use Rattle.sqlite_resolve.specs.declared.error.CompileError.{CompileError}
+use Rattle.sqlite.proofs.{Callers.never_commits, Callers.unchanged_then, StateLemmas.survives_weaker}
 use Rattle.sql_steps.proofs.Asking.{never_input}
 use Rattle.row_checks.specs.ShownRows.{IsQuery, HasNoMeaning, ShowsAll, ShowsFirst}
 

@@ -4,12 +4,10 @@ use Rattle.std.proofs.Common.{◌≡◌, ℕ, List, [], None, Option, Ok, subst�
 use Rattle.sqlite_ast.specs.declared.Statement.TheVariants as written
 use Rattle.sqlite_ast.specs.declared.Select.{Select}
 use Rattle.sqlite_syntax.specs.declared.statement.Parsed.{Parsed}
-use Rattle.sqlite_schema.specs.declared.schema.Schema.{Schema}
-use Rattle.sqlite_schema.specs.declared.command.Command.{Command}
 use Rattle.sqlite_schema.specs.declared.command.Returning.{Returning}
-use Rattle.sqlite_resolve.specs.declared.compiled.Compiled.{Compiled}
+use Rattle.sqlite_schema.specs.{declared.schema.Schema.Schema, declared.command.Command.Command}
 use Rattle.sqlite_resolve.specs.Compile.{compiled, first, planned, meaning, returning, timed, command}
-use Rattle.sqlite_resolve.specs.Lowering.{Checked}
+use Rattle.sqlite_resolve.specs.{declared.compiled.Compiled.Compiled, Lowering.Checked}
 use Rattle.sqlite.specs.Listing.{understood, if_select}
 use Rattle.row_checks.specs.ShownRows.{IsQuery}
 

@@ -1,11 +1,8 @@
 -- What a query shows, row by row, whatever the schema is.
 use Rattle.std.specs.Prelude.{◌≡◌, ℕ, List, [], None, Err, Ok}
-use Rattle.sqlite.specs.Order.{Row}
-use Rattle.sqlite.specs.Schema.{Schema}
-use Rattle.sqlite.specs.Listing.{understood}
 use Rattle.sqlite.specs.State.{State, IsUnchanged, Begins, Shown}
-use Rattle.sqlite_resolve.specs.declared.compiled.Compiled.{Compiled}
-use Rattle.sqlite_resolve.specs.declared.error.CompileError.{CompileError}
+use Rattle.sqlite.specs.{Order.Row, Schema.Schema, Listing.understood}
+use Rattle.sqlite_resolve.specs.{declared.compiled.Compiled.Compiled, declared.error.CompileError.CompileError}
 
 -- under any schema the text is a query that reads no time, or has no meaning
 abbrev pub IsQuery : List ℕ → Type 0

@@ -1,8 +1,7 @@
 //! The rows of a query, each put to a check.
 ghost use Rattle.std.specs.Prelude.{◌≡◌, false, [], Err, OnOk};
 ghost use Rattle.sqlite.specs.State.{HasCleanDisk, IsUnchanged, Survives};
-ghost use Rattle.sqlite.specs.Held.{state};
-ghost use Rattle.sqlite.specs.Given.{HasGiven};
+ghost use Rattle.sqlite.specs.{Held.state, Given.HasGiven};
 ghost use Rattle.row_checks.specs.ShownRows.{IsQuery, HasNoMeaning, ShowsAll, ShowsFirst};
 
 use crate::error::RowsError;

@@ -2,16 +2,11 @@
 use Rattle.std.proofs.Common.{◌≡◌, ℤ, pos, ◌+ℤ◌, List, [], ◌∷◌, ◌++◌, map, drop, IsTrue, refl, sym, ap, subst, ◌∙◌}
 use Rattle.std.proofs.Common.{arith}
 use Rattle.std.proofs.lemmas.List.{map-append}
-use Rattle.std.specs.List.{AllByRecursion}
-use Rattle.std.specs.declared.cmp.Ordering.TheVariants.{Less}
-use Rattle.sqlite.specs.declared.types.Value.TheVariants.{Int}
-use Rattle.sqlite.specs.Edit.{id_in, next_rowid}
-use Rattle.sqlite.specs.Order.{Row, value_cmp}
+use Rattle.std.specs.{List.AllByRecursion, declared.cmp.Ordering.TheVariants.Less}
 use Rattle.sqlite.specs.Tree.{IsTable, rowid, put_row}
-use Rattle.sqlite_rules.proofs.ListLemmas.{all_has, all_from}
-use Rattle.sqlite_rules.proofs.TableLemmas.{int_is, put_has}
-use Rattle.sqlite_trees.proofs.ListLemmas.{all_weaker}
-use Rattle.sqlite_trees.proofs.TreeLemmas.{IsTable-put_row}
+use Rattle.sqlite.specs.{declared.types.Value.TheVariants.Int, Edit.id_in, Edit.next_rowid, Order.Row, Order.value_cmp}
+use Rattle.sqlite_rules.proofs.{ListLemmas.all_has, ListLemmas.all_from, TableLemmas.int_is, TableLemmas.put_has}
+use Rattle.sqlite_trees.proofs.{ListLemmas.all_weaker, TreeLemmas.IsTable-put_row}
 use Rattle.sqlite_trees.specs.View.{is_int}
 use Rattle.sqlite_value.proofs.OrderLemmas.{value_cmp_total, value_cmp-Int}
 

@@ -3,17 +3,12 @@ use Rattle.std.proofs.Common.{◌≡◌, inl, inr, ◌≢◌, ℕ, zero, suc, �
 use Rattle.std.proofs.Common.{Ok, refl, sym, ap, subst, arith, length-append}
 use Rattle.std.specs.List.{AllByRecursion, list_any}
 use Rattle.sqlite.specs.Edit.{edit_of, taken_by, without_all, Applies}
-use Rattle.sqlite.specs.Order.{Row}
-use Rattle.sqlite.specs.Rowids.TheVariants.{Given}
-use Rattle.sqlite.specs.Schema.{Schema}
-use Rattle.sqlite.specs.Table.{Table}
-use Rattle.sqlite.specs.Tree.{Trees}
+use Rattle.sqlite.specs.{Order.Row, Rowids.TheVariants.Given, Schema.Schema, Table.Table, Tree.Trees}
 use Rattle.sqlite_rules.proofs.ListLemmas.{all_from, some_from, some_has}
 use Rattle.sqlite_rules.specs.Action.{Work, works, pairs, loses, is_child_of, Writes, Leads, Acts, ActsOn, AreChildren}
 use Rattle.sqlite_rules.specs.Action.{action_edit}
 use Rattle.sqlite_rules.specs.declared.action.Deed.TheVariants.{Delete}
-use Rattle.sqlite_schema.specs.declared.schema.Keys.TheVariants.{Enforced}
-use Rattle.sqlite_schema.specs.declared.schema.Reference.{Reference}
+use Rattle.sqlite_schema.specs.{declared.schema.Keys.TheVariants.Enforced, declared.schema.Reference.Reference}
 use Rattle.sqlite_value.specs.declared.keys.Order.{Order}
 
 single : {A : Type 0} (below : List A) (w x : A) → below ++ w ∷ [] ≡ x ∷ [] → (below ≡ []) × (w ≡ x)

@@ -1,23 +1,15 @@
 -- What an UPDATE does that sets off no action, where the rows of its table stand for values of a type.
 use Rattle.std.proofs.Common.{◌≡◌, ℕ, ℤ, List, [], ◌∷◌, map, slice_get, false, Some, Ok, subst, arith}
 use Rattle.std.specs.List.Sorted.{IsPermutation}
-use Rattle.sqlite.specs.declared.types.Value.TheVariants.{Int}
-use Rattle.sqlite.specs.Command.TheVariants.{Update}
-use Rattle.sqlite.specs.Edit.{taken_by}
-use Rattle.sqlite.specs.Listing.{understood}
-use Rattle.sqlite.specs.Order.{Row}
-use Rattle.sqlite.specs.Program.{overlay}
-use Rattle.sqlite.specs.Schema.{Schema}
-use Rattle.sqlite.specs.State.{State, mode_of, Executes}
-use Rattle.sqlite.specs.Table.{Table}
-use Rattle.sqlite.specs.Term.{Term, col}
-use Rattle.sqlite.specs.Tree.{Trees, IsTable, rowid}
+use Rattle.sqlite.specs.{declared.types.Value.TheVariants.Int, Command.TheVariants.Update, Edit.taken_by}
+use Rattle.sqlite.specs.{Listing.understood, Order.Row, Program.overlay, Schema.Schema, State.State, State.mode_of}
+use Rattle.sqlite.specs.{State.Executes, Table.Table, Term.Term, Term.col, Tree.Trees, Tree.IsTable, Tree.rowid}
 use Rattle.sqlite.proofs.Callers.{IsPlain, command_of, statement_of, runs_as, one_step}
 use Rattle.sqlite_rules.specs.Action.{works}
 use Rattle.sqlite_schema.specs.declared.schema.Keys.TheVariants.{Enforced}
 use Rattle.sql_steps.proofs.Statements.{plain_query, picked, answers, updates, updated}
-use Rattle.sql_steps.proofs.Updates as typed
 use Rattle.sql_steps.proofs.Written.{Wrote}
+use Rattle.sql_steps.proofs.Updates as typed
 
 module _ {A : Type 0} (enc : A → Row) (number : A → ℤ) (rowid_is : (a : A)
     → rowid (enc a) ≡ Int (number a)) (base : Table) (params : Row) (passes more : List Term) (f : A → A) where

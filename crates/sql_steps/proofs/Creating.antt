@@ -1,17 +1,13 @@
 -- What a CREATE TABLE and a CREATE INDEX make, whatever the table and the index are.
 use Rattle.std.proofs.Common.{◌≡◌, ℕ, List, [], slice_get, None, Some, Ok, false, sym, ap, subst, ◌∙◌, arith}
-use Rattle.sqlite.specs.Change.{created, indexed}
 use Rattle.sqlite.specs.Command.TheVariants.{CreateTable, CreateIndex}
-use Rattle.sqlite.specs.Compile.{table_defined_by, index_defined_by}
 use Rattle.sqlite.specs.Does.{Tally, AtPlace, Defines, MakesIndex, lacks_sequence}
-use Rattle.sqlite.specs.Effect.{Database}
-use Rattle.sqlite.specs.Listing.{understood}
-use Rattle.sqlite.specs.Schema.{Schema}
 use Rattle.sqlite.specs.State.{State, mode_of, Writes, Executes}
-use Rattle.sqlite.specs.Table.{Table}
+use Rattle.sqlite.specs.{Change.created, Change.indexed, Compile.table_defined_by, Compile.index_defined_by}
+use Rattle.sqlite.specs.{Effect.Database, Listing.understood, Schema.Schema, Table.Table}
 use Rattle.sqlite.proofs.Callers.{IsPlain, command_of, statement_of, runs_as}
 use Rattle.sqlite_schema.specs.declared.schema.Index.{Index}
-use Rattle.sql_steps.specs.Within.CreatedTables.{Creates, Indexes}
+use Rattle.sql_steps.specs.Within.CreatedTables.{AddsTable, Indexes}
 use Rattle.sql_steps.proofs.Statements.{went, same_value}
 
 -- a CREATE that is understood makes its table; the tree that its text leaves open is the next one
@@ -20,7 +16,7 @@ module _ (before : Schema) (table : Table) (sql : List ℕ) (is : command_of (un
     (written : Table) (defined : table_defined_by sql ≡ Ok written)
     (same : created before written ≡ created before table)
     (uncounted : lacks_sequence (created before table) ≡ false) where
-  pub makes : (old new : State) (count : ℕ) → Executes sql [] old new (Ok count) → Creates before table old.now new.now
+  pub makes : (old new : State) (count : ℕ) → Executes sql [] old new (Ok count) → AddsTable before table old.now new.now
   makes old new count h has =
       let w = subst (λ t. Writes old new None CreateTable t [] count) whole
       (runs_as sql [] old new before has CreateTable is plain count h) in

@@ -1,27 +1,18 @@
 -- What a DELETE of some rows takes out and leaves.
 use Rattle.std.proofs.Common.{◌≡◌, ℕ, ℤ, List, [], ◌∷◌, map, filter, not, Bool, true, IsTrue, sym, ap, subst, ◌∙◌}
 use Rattle.std.proofs.Common.{arith}
-use Rattle.std.specs.Ordering.{is_eq}
-use Rattle.std.specs.List.Sorted.{IsPermutation}
 use Rattle.std.proofs.lemmas.Cmp.{tied_itself}
 use Rattle.std.proofs.lemmas.List.Sorted.{IsPermutation-sym}
-use Rattle.sqlite.specs.declared.types.Value.TheVariants.{Int}
-use Rattle.sqlite.specs.Edit.{id_in, row_at, without_all}
-use Rattle.sqlite.specs.Order.{Row, value_cmp}
-use Rattle.sqlite.specs.Term.{Term, col, eval_all}
-use Rattle.sqlite.specs.Tree.{IsTable, rowid, has_rowid}
+use Rattle.std.specs.{Ordering.is_eq, List.Sorted.IsPermutation}
+use Rattle.sqlite.specs.{declared.types.Value.TheVariants.Int, Edit.id_in, Edit.row_at, Edit.without_all, Order.Row}
+use Rattle.sqlite.specs.{Order.value_cmp, Term.Term, Term.col, Term.eval_all, Tree.IsTable, Tree.rowid, Tree.has_rowid}
 use Rattle.sqlite_trees.specs.View.{is_int}
-use Rattle.sqlite_rules.proofs.ListLemmas.{all_has}
-use Rattle.sqlite_rules.proofs.PlaceLemmas.{row_at_is}
-use Rattle.sqlite_rules.proofs.TableLemmas.{int_is}
-use Rattle.sqlite_rules.specs.Calls.{ids_of}
-use Rattle.sqlite_rules.specs.Lists.{Has}
+use Rattle.sqlite_rules.proofs.{ListLemmas.all_has, PlaceLemmas.row_at_is, TableLemmas.int_is}
+use Rattle.sqlite_rules.specs.{Calls.ids_of, Lists.Has}
 use Rattle.sqlite_value.proofs.OrderLemmas.{value_cmp_total}
-use Rattle.sql_steps.proofs.Appending.{AreCounted}
-use Rattle.sql_steps.proofs.Members.{from_picked, to_picked}
 use Rattle.sql_steps.proofs.SameRows.{deletes_each, has_map, map_has}
 use Rattle.sql_steps.proofs.Statements.{env_of, picked, is_picked}
-use Rattle.sql_steps.proofs.Updates.{has_permutation}
+use Rattle.sql_steps.proofs.{Appending.AreCounted, Members.from_picked, Members.to_picked, Updates.has_permutation}
 
 -- a DELETE asks for the rowids of the rows that pass
 abbrev pub ids_shown : List Term

@@ -4,29 +4,20 @@ use Rattle.std.proofs.Common.{arith}
 use Rattle.std.proofs.lemmas.List.MinMax.{ranks_by}
 use Rattle.std.proofs.lemmas.List.Sorted.{IsPermutation-sym, length_permutation, sorted_far}
 use Rattle.std.proofs.lemmas.List.{nil_from_length, length-map}
-use Rattle.std.specs.List.Sorted.{IsPermutation, IsSorted}
-use Rattle.std.specs.Ordering.{is_lt}
-use Rattle.sqlite.specs.declared.types.Value.TheVariants.{Null}
+use Rattle.std.specs.{List.Sorted.IsPermutation, List.Sorted.IsSorted, Ordering.is_lt}
 use Rattle.sqlite.specs.declared.error.Error.TheVariants.{QueryReturnedNoRows}
-use Rattle.sqlite_value.specs.declared.keys.Key.{Key}
-use Rattle.sqlite.specs.Command.TheVariants.{Select}
 use Rattle.sqlite.specs.Listing.{understood, reads_listing}
-use Rattle.sqlite.specs.Order.{Row}
-use Rattle.sqlite.specs.Program.{overlay}
 use Rattle.sqlite.specs.Query.{Query, Output, IsAnswer, output, output_cmp}
-use Rattle.sqlite.specs.Schema.{Schema}
-use Rattle.sqlite.specs.State.{State, QueriesRow}
-use Rattle.sqlite.specs.Term.{Term, eval_all}
-use Rattle.sqlite.specs.Tree.{Trees}
+use Rattle.sqlite.specs.{declared.types.Value.TheVariants.Null, Command.TheVariants.Select, Order.Row, Program.overlay}
+use Rattle.sqlite.specs.{Schema.Schema, State.State, State.QueriesRow, Term.Term, Term.eval_all, Tree.Trees}
+use Rattle.sqlite_value.specs.declared.keys.Key.{Key}
 use Rattle.sqlite.proofs.Callers.{IsPlain, command_of, first_as, reads_as}
 use Rattle.sqlite_rules.specs.Lists.{Has}
 use Rattle.sqlite_sql.proofs.QueryLemmas.{output_cmp_total}
 use Rattle.sqlite_trees.proofs.ListLemmas.{map-map}
-use Rattle.sql_steps.proofs.Members.{has_contains}
-use Rattle.sql_steps.proofs.Queries.{never_fails}
 use Rattle.sql_steps.proofs.SameRows.{has_map, map_has}
 use Rattle.sql_steps.proofs.Statements.{plain_query, env_of, is_picked, matched}
-use Rattle.sql_steps.proofs.Updates.{has_permutation}
+use Rattle.sql_steps.proofs.{Members.has_contains, Queries.never_fails, Updates.has_permutation}
 
 module _ (t : ℕ) (passes shown : List Term) (order : List (Term × Key)) where
   abbrev pub ordered_by : Query

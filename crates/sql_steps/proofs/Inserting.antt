@@ -1,19 +1,12 @@
 -- What an INSERT of VALUES does that sets off no action.
 use Rattle.std.proofs.Common.{◌≡◌, ℕ, List, [], slice_get, false, Some, Ok}
-use Rattle.sqlite.specs.Command.TheVariants.{Insert}
-use Rattle.sqlite.specs.Edit.{Edit, edited}
-use Rattle.sqlite.specs.Listing.{understood}
-use Rattle.sqlite.specs.Order.{Row}
-use Rattle.sqlite.specs.Schema.{Schema}
-use Rattle.sqlite.specs.Source.TheVariants.{Values}
 use Rattle.sqlite.specs.State.{State, mode_of, Executes}
-use Rattle.sqlite.specs.Table.{Table}
-use Rattle.sqlite.specs.Term.{Term}
+use Rattle.sqlite.specs.{Command.TheVariants.Insert, Edit.Edit, Edit.edited, Listing.understood, Order.Row}
+use Rattle.sqlite.specs.{Schema.Schema, Source.TheVariants.Values, Table.Table, Term.Term}
 use Rattle.sqlite.proofs.Callers.{IsPlain, command_of, statement_of, runs_as}
 use Rattle.sqlite_rules.specs.Action.{works}
 use Rattle.sqlite_schema.specs.declared.schema.Keys.TheVariants.{Enforced}
-use Rattle.sql_steps.proofs.Statements.{inserts, inserted}
-use Rattle.sql_steps.proofs.Written.{Wrote}
+use Rattle.sql_steps.proofs.{Statements.inserts, Statements.inserted, Written.Wrote}
 
 module _ (base : Table) (params : Row) (terms : List Term) (width : ℕ) where
   -- a table with no AUTOINCREMENT

@@ -1,8 +1,7 @@
 -- Membership in lists.
 use Rattle.std.proofs.Common.{◌≡◌, inl, inr, zero, suc, List, [], ◌∷◌, map, filter, Bool, true, cond, refl, sym, subst}
 use Rattle.std.proofs.Common.{arith}
-use Rattle.std.specs.List.{Contains, flat_map}
-use Rattle.std.specs.List.Sorted.{IsPermutation}
+use Rattle.std.specs.{List.Contains, List.flat_map, List.Sorted.IsPermutation}
 use Rattle.sqlite_trees.proofs.ListLemmas.{filter_as_flat_map, IsPermutation-flat_map}
 use Rattle.sqlite_rules.specs.Lists.{Has}
 

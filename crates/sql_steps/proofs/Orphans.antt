@@ -2,33 +2,21 @@
 use Rattle.std.proofs.Common.{◌≡◌, ◌≢◌, ◌⊎◌, inl, inr, ℕ, ℤ, List, [], ◌∷◌, filter, not, slice_get, Bool, cond, false}
 use Rattle.std.proofs.Common.{true, Some, Ok, sym, ap, subst, ◌∙◌, arith}
 use Rattle.std.specs.List.Sorted.{IsPermutation}
-use Rattle.sqlite.specs.Command.TheVariants.{Delete}
-use Rattle.sqlite.specs.Edit.{taken_by, without_all}
-use Rattle.sqlite.specs.Effect.{Database}
-use Rattle.sqlite.specs.Listing.{understood}
-use Rattle.sqlite.specs.Order.{Row}
-use Rattle.sqlite.specs.Program.{overlay}
-use Rattle.sqlite.specs.Schema.{Schema}
-use Rattle.sqlite.specs.State.{State, mode_of, Executes}
-use Rattle.sqlite.specs.Table.{Table}
-use Rattle.sqlite.specs.Term.{Term}
-use Rattle.sqlite.specs.Tree.{Trees, IsTable}
+use Rattle.sqlite.specs.{Command.TheVariants.Delete, Edit.taken_by, Edit.without_all, Effect.Database}
+use Rattle.sqlite.specs.{Listing.understood, Order.Row, Program.overlay, Schema.Schema, State.State, State.mode_of}
+use Rattle.sqlite.specs.{State.Executes, Table.Table, Term.Term, Tree.Trees, Tree.IsTable}
 use Rattle.sqlite.proofs.Callers.{IsPlain, command_of, statement_of, runs_as}
 use Rattle.sqlite_rules.proofs.ListLemmas.{all_from, all_has, some_from, some_has}
 use Rattle.sqlite_rules.proofs.TableLemmas.{int_is}
 use Rattle.sqlite_rules.specs.Action.{works, pairs, loses, AreChildren}
-use Rattle.sqlite_rules.specs.Calls.{ids_of}
-use Rattle.sqlite_rules.specs.Lists.{Has}
-use Rattle.sqlite_schema.specs.Rules.{agree}
+use Rattle.sqlite_rules.specs.{Calls.ids_of, Lists.Has}
 use Rattle.sqlite_schema.specs.declared.schema.Keys.TheVariants.{Enforced}
-use Rattle.sqlite_schema.specs.declared.schema.Reference.{Reference}
+use Rattle.sqlite_schema.specs.{Rules.agree, declared.schema.Reference.Reference}
 use Rattle.sqlite_value.specs.declared.keys.Order.{Order}
-use Rattle.sql_steps.proofs.Appending.{AreCounted}
 use Rattle.sql_steps.proofs.Cascading.{orphans, some_lose, is_orphan, drops_after}
 use Rattle.sql_steps.proofs.Deletes.{ids_shown, left, taken_all, taken_from}
-use Rattle.sql_steps.proofs.SameRows.{deletes_each}
 use Rattle.sql_steps.proofs.Statements.{plain_query, picked, is_picked, answers, deletes, deleted}
-use Rattle.sql_steps.proofs.Written.{Kept}
+use Rattle.sql_steps.proofs.{Appending.AreCounted, SameRows.deletes_each, Written.Kept}
 
 pairs_from : (olds : List Row) (move : Row × Row) → Has (pairs olds []) move → Has olds move.0
 pairs_from [] move h = absurd h

@@ -2,21 +2,13 @@
 use Rattle.std.proofs.Common.{◌≡◌, ℕ, ℤ, List, [], ◌∷◌, false, Ok, Err, subst, arith}
 use Rattle.std.proofs.lemmas.List.Sorted.{length_permutation}
 use Rattle.std.proofs.lemmas.List.{nil_from_length}
-use Rattle.std.specs.List.Sorted.{IsPermutation}
-use Rattle.std.specs.Ordering.{int_cmp}
-use Rattle.sqlite.specs.declared.types.Value.TheVariants.{Int}
+use Rattle.std.specs.{List.Sorted.IsPermutation, Ordering.int_cmp}
 use Rattle.sqlite.specs.declared.error.Error.TheVariants.{QueryReturnedNoRows}
-use Rattle.sqlite.specs.Collation.TheVariants.{Binary}
-use Rattle.sqlite_sql.specs.declared.ops.BinaryOp.TheVariants.{Compare}
-use Rattle.sqlite_sql.specs.declared.ops.CompareOp.{CompareOp}
-use Rattle.sqlite.specs.Order.{Row}
-use Rattle.sqlite.specs.Ops.{binary, test, is_true}
-use Rattle.sqlite.specs.Term.{Term}
-use Rattle.sqlite.specs.Schema.{Schema}
-use Rattle.sqlite.specs.Program.{overlay}
-use Rattle.sqlite.specs.Command.TheVariants.{Select}
 use Rattle.sqlite.specs.Listing.{understood, reads_listing}
 use Rattle.sqlite.specs.State.{State, QueriesRow, Shown, FailsToQuery, IsNotRun, IsUnchanged}
+use Rattle.sqlite.specs.{declared.types.Value.TheVariants.Int, Collation.TheVariants.Binary, Order.Row, Ops.binary}
+use Rattle.sqlite.specs.{Ops.test, Ops.is_true, Term.Term, Schema.Schema, Program.overlay, Command.TheVariants.Select}
+use Rattle.sqlite_sql.specs.{declared.ops.BinaryOp.TheVariants.Compare, declared.ops.CompareOp.CompareOp}
 use Rattle.sqlite.proofs.Callers.{IsPlain, command_of, first_as, reads_as}
 use Rattle.sqlite_value.proofs.OrderLemmas.{value_cmp-Int}
 use Rattle.sql_steps.proofs.Statements.{plain_query, picked, answers}

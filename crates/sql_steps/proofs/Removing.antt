@@ -1,23 +1,14 @@
 -- What a DELETE does that sets off no action.
 use Rattle.std.proofs.Common.{◌≡◌, ℕ, List, [], filter, not, slice_get, false, Some, Ok, subst, arith}
 use Rattle.std.specs.List.Sorted.{IsPermutation}
-use Rattle.sqlite.specs.Command.TheVariants.{Delete}
-use Rattle.sqlite.specs.Edit.{taken_by}
-use Rattle.sqlite.specs.Listing.{understood}
-use Rattle.sqlite.specs.Order.{Row}
-use Rattle.sqlite.specs.Program.{overlay}
-use Rattle.sqlite.specs.Schema.{Schema}
 use Rattle.sqlite.specs.State.{State, mode_of, Executes}
-use Rattle.sqlite.specs.Table.{Table}
-use Rattle.sqlite.specs.Term.{Term}
-use Rattle.sqlite.specs.Tree.{Trees, IsTable}
+use Rattle.sqlite.specs.{Command.TheVariants.Delete, Edit.taken_by, Listing.understood, Order.Row, Program.overlay}
+use Rattle.sqlite.specs.{Schema.Schema, Table.Table, Term.Term, Tree.Trees, Tree.IsTable}
 use Rattle.sqlite.proofs.Callers.{IsPlain, command_of, statement_of, runs_as, one_step}
 use Rattle.sqlite_rules.specs.Action.{works}
 use Rattle.sqlite_schema.specs.declared.schema.Keys.TheVariants.{Enforced}
-use Rattle.sql_steps.proofs.Appending.{AreCounted}
-use Rattle.sql_steps.proofs.Deletes.{ids_shown, left}
 use Rattle.sql_steps.proofs.Statements.{plain_query, picked, is_picked, answers, deletes, deleted}
-use Rattle.sql_steps.proofs.Written.{Wrote}
+use Rattle.sql_steps.proofs.{Appending.AreCounted, Deletes.ids_shown, Deletes.left, Written.Wrote}
 
 module _ (base : Table) (params : Row) (passes : List Term) where
   -- a table with no AUTOINCREMENT

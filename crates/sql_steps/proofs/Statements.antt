@@ -1,35 +1,21 @@
 -- What INSERT, UPDATE, DELETE and SELECT of the plain forms make, whatever the schema and the table are.
 use Rattle.std.proofs.Common.{◌≡◌, ◌⊎◌, ℕ, ℤ, pos, negsuc, ◌/◌, List, [], ◌∷◌, length, map, filter, slice_get, Bool}
 use Rattle.std.proofs.Common.{false, cond, Some, None, Option, Ok, Err, Result, sym, ap, subst, ◌∙◌, arith}
-use Rattle.std.specs.List.{list_all}
-use Rattle.std.specs.List.Sorted.{IsPermutation}
-use Rattle.sqlite.specs.declared.types.Value.{Value}
+use Rattle.std.proofs.lemmas.List.Sorted.{IsPermutation-map}
+use Rattle.std.specs.{List.list_all, List.Sorted.IsPermutation}
 use Rattle.sqlite.specs.declared.types.Value.TheVariants.{Null, Int}
-use Rattle.sqlite.specs.Order.{Row}
-use Rattle.sqlite.specs.Ops.{unary}
 use Rattle.sqlite.specs.Term.{Term, Env, lit, eval_all, holds}
 use Rattle.sqlite.specs.Query.{Query, Output, inner, end, IsAnswer, IsSureAnswer, matches_as, output}
-use Rattle.sqlite.specs.Program.{overlay}
-use Rattle.sqlite.specs.Kind.TheVariants.{Integer}
-use Rattle.sqlite.specs.Schema.{Schema}
-use Rattle.sqlite.specs.Table.{Table}
-use Rattle.sqlite.specs.Source.{Source}
-use Rattle.sqlite.specs.Source.TheVariants.{Values}
-use Rattle.sqlite.specs.Command.{Command}
 use Rattle.sqlite.specs.Command.TheVariants.{Insert, Update, Delete}
-use Rattle.sqlite.specs.Edit.{Edit, edit_of, Applies}
-use Rattle.sqlite_rules.specs.Action.{works, Writes}
-use Rattle.sqlite_rules.specs.Calls.{ids_of}
-use Rattle.sqlite.specs.Cast.{cast}
-use Rattle.sqlite.specs.Rowids.TheVariants.{Chosen, Given}
-use Rattle.sqlite.specs.declared.run.Mode.{Mode}
 use Rattle.sqlite.specs.Does.{Tally, Does, AtPlace, OnRows}
 use Rattle.sqlite.specs.Effect.{Database, IsSource, value_rows}
-use Rattle.sqlite.specs.Rows.{Part, Then, Gives, Queried, Edited, Task, Written, stamped}
-use Rattle.sqlite.specs.Tree.{Trees}
-use Rattle.sqlite.specs.declared.error.Error.{Error}
+use Rattle.sqlite.specs.Rows.{Task, stamped}
+use Rattle.sqlite.specs.{declared.types.Value.Value, Order.Row, Ops.unary, Program.overlay, Kind.TheVariants.Integer}
+use Rattle.sqlite.specs.{Schema.Schema, Table.Table, Source.Source, Source.TheVariants.Values, Command.Command}
+use Rattle.sqlite.specs.{Edit.Edit, Edit.edit_of, Edit.Applies, Cast.cast, Rowids.TheVariants.Chosen}
+use Rattle.sqlite.specs.{Rowids.TheVariants.Given, declared.run.Mode.Mode, Tree.Trees, declared.error.Error.Error}
+use Rattle.sqlite_rules.specs.{Action.works, Action.Writes, Calls.ids_of}
 use Rattle.sqlite_trees.proofs.ListLemmas.{map-map, filter_as_flat_map, map-flat_map, flat_map_same_on}
-use Rattle.std.proofs.lemmas.List.Sorted.{IsPermutation-map}
 use Rattle.sqlite.proofs.Callers.{one_step}
 
 either : (b : Bool) (x : Value) → cond b x x ≡ x
@@ -102,14 +88,6 @@ module _ (limit : Option ℕ) (mode : Mode) (params : Row) (db : Database) (sche
       let wrote =
       subst (λ rows. Writes schema mode.keys db.trees (put rows) (Ok after.trees)) left.2.1 left.3 in
       (left.0, one_step schema mode.keys db.trees after.trees (inserted terms width) none wrote)
-
-  -- what an UPDATE and a DELETE do: their query finds rows, and the edit of these is written
-  abbrev Rewrites : Query → (List Row → Edit) → (List Row → List Row) → Part Written
-  Rewrites q edit wrote =
-      Then (Queried limit (record { schema = schema; trees = db.trees }) (record { lets = []; body = q }) params)
-      (λ rows.
-      Then (Edited schema mode.keys db.trees (edit rows))
-      (λ next. Gives (record { trees = next; rows = wrote rows; last = None })))
 
   abbrev pub Leaves : Query → (List Row → Edit) → Database → Type 0
   Leaves q edit after =

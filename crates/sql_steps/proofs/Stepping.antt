@@ -1,18 +1,13 @@
 -- From a statement inside a transaction to the words for a step, and from the steps to the whole.
 use Rattle.std.proofs.Common.{◌≡◌, ℕ, List, [], Ok, Err, Result, IsErr, IsTrue, IfErr, OnOk, false, true, refl, arith}
 use Rattle.sqlite.specs.declared.error.Error.{Error}
-use Rattle.sqlite.specs.Order.{Row}
-use Rattle.sqlite.specs.Tree.{Trees}
-use Rattle.sqlite.specs.Effect.{Database}
-use Rattle.sqlite.specs.Steps.{FailsToCommit}
 use Rattle.sqlite.specs.State.{State, HasCleanDisk, Executes, ExecutesInside, Shows, KeepsCounts, IsRolledBack}
 use Rattle.sqlite.specs.State.{Survives}
+use Rattle.sqlite.specs.{Order.Row, Tree.Trees, Effect.Database, Steps.FailsToCommit, Held.Held, Held.state}
 use Rattle.sqlite.proofs.InsideLemmas.{inside_keeps, keeps_then}
 use Rattle.sqlite.proofs.StateLemmas.{survives_then, survives_weaker}
 use Rattle.sqlite_trees.specs.declared.store.Store as store
-use Rattle.sqlite.specs.Held.{Held, state}
-use Rattle.sql_steps.specs.Steps.{DatabaseChange, StepsBy, TransactsBy}
-use Rattle.sql_steps.specs.Within.Steps.{Then}
+use Rattle.sql_steps.specs.{Steps.DatabaseChange, Steps.StepsBy, Steps.TransactsBy, Within.Steps.Then}
 
 -- ---- one statement
 

@@ -1,17 +1,11 @@
 -- What an UPDATE of some rows leaves, where the rows stand for values of a type.
 use Rattle.std.proofs.Common.{◌≡◌, ℤ, List, [], ◌∷◌, map, drop, Bool, true, cond, refl, ap, subst, arith}
-use Rattle.std.specs.List.Sorted.{IsPermutation}
 use Rattle.std.proofs.lemmas.List.Sorted.{Contains-permutation, IsPermutation-sym}
-use Rattle.sqlite.specs.declared.types.Value.TheVariants.{Int}
-use Rattle.sqlite.specs.Order.{Row}
-use Rattle.sqlite.specs.Term.{Term, col, eval_all}
-use Rattle.sqlite.specs.Table.{Table}
-use Rattle.sqlite.specs.Tree.{Trees, IsTable, rowid}
-use Rattle.sqlite.specs.Cast.{cast_row}
-use Rattle.sqlite.specs.Rowids.TheVariants.{Given}
+use Rattle.std.specs.List.Sorted.{IsPermutation}
 use Rattle.sqlite.specs.Edit.{edit_of, edited, left_by, numbered, are_fresh, id_in}
-use Rattle.sqlite_rules.specs.Calls.{ids_of}
-use Rattle.sqlite_rules.specs.Lists.{Has}
+use Rattle.sqlite.specs.{declared.types.Value.TheVariants.Int, Order.Row, Term.Term, Term.col, Term.eval_all}
+use Rattle.sqlite.specs.{Table.Table, Tree.Trees, Tree.IsTable, Tree.rowid, Cast.cast_row, Rowids.TheVariants.Given}
+use Rattle.sqlite_rules.specs.{Calls.ids_of, Lists.Has}
 use Rattle.sql_steps.proofs.Statements.{picked, is_picked, env_of}
 use Rattle.sql_steps.proofs.Members.{contains_has, has_contains, from_picked, to_picked}
 use Rattle.sql_steps.proofs.SameRows.{updates_each, changed_by, has_map, map_has}

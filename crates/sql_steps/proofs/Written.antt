@@ -1,10 +1,7 @@
 -- What a statement leaves that wrote some tables: these have new rows, and every other is as it was.
 use Rattle.std.proofs.Common.{◌≡◌, ℕ, List}
 use Rattle.std.specs.List.{AllByRecursion}
-use Rattle.sqlite.specs.Effect.{Database, IsDatabase}
-use Rattle.sqlite.specs.Order.{Row}
-use Rattle.sqlite.specs.Schema.{Schema}
-use Rattle.sqlite.specs.Table.{Table}
+use Rattle.sqlite.specs.{Effect.Database, Effect.IsDatabase, Order.Row, Schema.Schema, Table.Table}
 
 -- the schema is this one still, each tree of a table but the written ones is as it was, and the database is sound
 pub record Kept (schema : Schema) (written : ℕ → Type 0) (old new : Database) : Type 0 where

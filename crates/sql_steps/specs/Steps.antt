@@ -1,8 +1,7 @@
 -- What a call makes of a database, at its end and over a stop.
 use Rattle.std.specs.Prelude.{◌≡◌, true, IsTrue, IfOk, OnOk, OnErr, Result}
-use Rattle.sqlite.specs.Effect.{Database}
 use Rattle.sqlite.specs.State.{State, HasCleanDisk, KeepsCommit, Survives}
-use Rattle.sqlite.specs.Held.{Held, state}
+use Rattle.sqlite.specs.{Effect.Database, Held.Held, Held.state}
 use Rattle.sqlite_trees.specs.declared.store.Store.{Ghosts}
 
 -- what a change makes of a database

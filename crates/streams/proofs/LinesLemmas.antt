@@ -2,22 +2,20 @@
 use Rattle.std.proofs.Common.{◌≡◌, ℕ, suc, ◌+◌, ◌-◌, ◌<◌, ◌≤◌, min, List, [], ◌∷◌, ◌++◌, Bool, length, take, drop}
 use Rattle.std.proofs.Common.{get_or, slice_range, None, Some, refl, sym, ap, subst, ◌∙◌, arith, append_assoc}
 use Rattle.std.proofs.Common.{take-append-drop, take-take, length-take, length-take-le, length-append, take_all}
-use Rattle.std.proofs.Common.{eqb-true, inl, inr, add-zero}
-use Rattle.std.specs.Prelude.{◌==◌, position, Option}
-use Rattle.std.specs.List.{position_or_len}
+use Rattle.std.proofs.Common.{eqb-true, inl, inr}
 use Rattle.std.proofs.lemmas.Bool.{cases_lt, cond_below, cond_above}
 use Rattle.std.proofs.lemmas.Bool.Decides.{eqb_tells}
 use Rattle.std.proofs.lemmas.List.{drop-drop, drop_all, drop_more, nil_from_length, take_min, take-append-le}
 use Rattle.std.proofs.lemmas.List.Quantifiers.{position-Some}
 use Rattle.std.proofs.lemmas.Slice.{between_is, take-put_mid}
 use Rattle.std.proofs.Math.Seq.{take-append-add}
-use Rattle.std.proofs.KnownBytes.{Consumes-nil, Consumes-trans}
+use Rattle.std.proofs.KnownBytes.{Consumes-trans}
 use Rattle.std.specs.Io.KnownBytes.{Consumes, prepend_known}
+use Rattle.std.specs.{Prelude.◌==◌, Prelude.position, Prelude.Option, List.position_or_len}
 use borrow.Rule.Slice.PartMut.{put_mid}
 use Rattle.streams.specs.Lines.{line_feed, Cut, CutsLine, CutsRest, HasNoLineFeed, Takes, work_left}
-use Rattle.streams.specs.Within.Lines.{Extends}
 use Rattle.streams.specs.declared.lines.TheConstants.{MAX_PIECE_LENGTH}
-use Rattle.streams.specs.declared.watched.TheConstants.{MAX_READS}
+use Rattle.streams.specs.{Within.Lines.Extends, declared.watched.TheConstants.MAX_READS}
 
 -- ---- line feeds
 
@@ -266,17 +264,6 @@ Takes-more a b c old now mid new bytes more before same after = record {
       let second = after.counted in
       omega arith;
 }
-
--- nothing was taken
-pub Takes-none : (a : Option (List ℕ)) (old new : Cut) → new.taken ≡ old.taken → Takes a a old new []
-Takes-none a old new same = record { consumed = Consumes-nil a; counted = same ∙ sym (add-zero old.taken) }
-
--- a line less is to come
-pub work_left-after_line : (turns : ℕ) (old new part : List ℕ) → old ≡ part ++ line_feed ∷ new
-    → work_left turns new < work_left turns old
-work_left-after_line turns old new part split =
-    let long : length old ≡ length part + suc (length new) = ap length split ∙ length-append part (line_feed ∷ new) in
-    omega arith
 
 -- a turn more was taken
 pub work_left-after_turn : (turns later : ℕ) (old new : List ℕ) → turns < later → later ≤ MAX_READS

@@ -1,9 +1,7 @@
 -- What a cutter of lines holds, and what it makes of the bytes that are to come.
 use Rattle.std.specs.Prelude.{◌≡◌, ◌≢◌, ℕ, ◌+◌, ◌-◌, ◌*◌, ◌≤◌, List, [], ◌∷◌, ◌++◌, length, Option}
-use Rattle.std.specs.List.{AllByRecursion}
-use Rattle.std.specs.Io.KnownBytes.{Consumes}
-use Rattle.streams.specs.declared.lines.TheConstants.{MAX_PIECE_LENGTH}
-use Rattle.streams.specs.declared.watched.TheConstants.{MAX_READS}
+use Rattle.std.specs.{List.AllByRecursion, Io.KnownBytes.Consumes}
+use Rattle.streams.specs.{declared.lines.TheConstants.MAX_PIECE_LENGTH, declared.watched.TheConstants.MAX_READS}
 
 -- the bytes that were taken from the reader and not looked at, the first bytes of the line so far,
 -- how many bytes the line has so far, and how many were taken from the reader

@@ -6,10 +6,9 @@ ghost use Rattle.std.specs.Bool.{OnFalse, OnTrue};
 ghost use Rattle.std.specs.Io.KnownBytes.{IsAtEnd, prepend_known};
 ghost use Rattle.streams.specs.declared.lines.TheConstants.{MAX_PIECE_LENGTH};
 ghost use Rattle.streams.specs.declared.watched.TheConstants.{MAX_READS};
-ghost use Rattle.streams.specs.Lines.{Cut, CutsLine, CutsRest, HasNoLineFeed, Takes};
-ghost use Rattle.streams.specs.Within.Lines.{Extends};
-ghost use Rattle.streams.specs.Lines.{line_feed, work_left};
-ghost use Rattle.streams.specs.Watched.{IsFaulted};
+ghost use Rattle.streams.specs.Lines.{Cut, CutsLine, CutsRest, HasNoLineFeed, Takes, line_feed};
+ghost use Rattle.streams.specs.Lines.{work_left};
+ghost use Rattle.streams.specs.{Within.Lines.Extends, Watched.IsFaulted};
 
 use crate::watched::{MAX_READS, ReadFault, Watched};
 use std::io::Read;

@@ -1,10 +1,9 @@
 //! Readers and writers whose turns are counted and whose failure is kept.
-ghost use Rattle.std.specs.Prelude.{◌≡◌, ◌<◌, ◌≤◌, length, take, true, false, IfOk, OnOk};
-ghost use Rattle.std.specs.Prelude.{IfErr, OnErr};
+ghost use Rattle.std.specs.Prelude.{◌≡◌, ◌<◌, ◌≤◌, length, take, true, false, IfOk, OnOk, IfErr};
+ghost use Rattle.std.specs.Prelude.{OnErr};
 ghost use Rattle.std.specs.Bool.{OnFalse, OnTrue};
 ghost use Rattle.std.specs.Io.KnownBytes.{Appends, Consumes, IsAtEnd, Keeps};
-ghost use Rattle.streams.specs.Watched.{one_more, IsFaulted};
-ghost use Rattle.streams.specs.Within.Watched.{StopsWithin};
+ghost use Rattle.streams.specs.{Watched.one_more, Watched.IsFaulted, Within.Watched.StopsWithin};
 
 mod turns;
 

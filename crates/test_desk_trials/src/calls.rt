@@ -95,46 +95,15 @@ fn not_made() -> Outcome {
     Outcome::ended_without_bytes(Finish::Ended(End::Memory))
 }
 
-fn import_at<R: Read + Drop, W: Write, S: Alter>(
-    alloc: Global,
-    desk: &mut Desk<S>,
-    seconds: u64,
-    first: u64,
-    reader: &mut Watched<R>,
-    writer: &mut Watched<W>,
-) -> Outcome
-    requires reader { reader.old.failed ≡ false }
-    requires writer { writer.old.failed ≡ false }
-{
-    let (Some(moment), Some(caller)) = (Moment::new(seconds), Name::new(b"ann")) else {
-        return not_made();
-    };
-    if first == 0 || first > LAST_NUMBER {
-        return not_made();
-    }
-    import(alloc, desk, moment, &caller, first, reader, writer)
-}
-
-fn exchange_at<R: Read, W: Write, S: Alter>(
-    alloc: Global,
-    desk: &mut Desk<S>,
-    seconds: u64,
-    reader: &mut Watched<R>,
-    writer: &mut Watched<W>,
-) -> Outcome
-    requires reader { reader.old.failed ≡ false }
-    requires writer { writer.old.failed ≡ false }
-{
-    match Moment::new(seconds) {
-        Some(moment) => exchange(alloc, &mut Routes::new(), desk, moment, reader, writer),
-        None => not_made(),
-    }
+/// The moment, and the caller of an import.
+fn moment_and_caller(seconds: u64) -> Option<(Moment, Name)> {
+    Some((Moment::new(seconds)?, Name::new(b"ann")?))
 }
 
 fn outcome_of<R: Read + Drop, W: Write, S: Alter>(
     alloc: Global,
-    desk: &mut Desk<S>,
     call: Call,
+    desk: &mut Desk<S>,
     reader: &mut Watched<R>,
     writer: &mut Watched<W>,
 ) -> Outcome
@@ -143,10 +112,22 @@ fn outcome_of<R: Read + Drop, W: Write, S: Alter>(
 {
     match call {
         Call::Run => run(reader, writer, desk),
-        Call::Import { seconds, first } => import_at(alloc, desk, seconds, first, reader, writer),
+        Call::Import { seconds, first } => match moment_and_caller(seconds) {
+            Some((moment, caller)) => {
+                if 1 <= first && first <= LAST_NUMBER {
+                    import(alloc, desk, moment, &caller, first, reader, writer)
+                } else {
+                    not_made()
+                }
+            }
+            None => not_made(),
+        },
         Call::Export => export(alloc, desk, writer),
         Call::Rotation { days } => rotation(alloc, desk, days, writer),
-        Call::Exchange { seconds } => exchange_at(alloc, desk, seconds, reader, writer),
+        Call::Exchange { seconds } => match Moment::new(seconds) {
+            Some(moment) => exchange(alloc, &mut Routes::new(), desk, moment, reader, writer),
+            None => not_made(),
+        },
     }
 }
 
@@ -203,7 +184,7 @@ impl<S: Alter> TriedDesk for Desk<S> {
     ) -> Ended<R, W> {
         let mut reader = Watched::new(reader);
         let mut writer = Watched::new(writer);
-        let outcome = outcome_of(alloc, self, call, &mut reader, &mut writer);
+        let outcome = outcome_of(alloc, call, self, &mut reader, &mut writer);
         Ended {
             outcome,
             read_failed: reader.has_failed(),

@@ -1,7 +1,6 @@
 //! A disk that fails a call of a plan.
 ghost use Rattle.std.specs.Prelude.{◌≡◌, ◌+◌, ◌&&◌, not, false};
-ghost use Rattle.sqlite_disk.specs.Disk.{CountsFault};
-ghost use Rattle.sqlite_disk.specs.Refusal.{finds_no_room, is_no_room};
+ghost use Rattle.sqlite_disk.specs.{Disk.CountsFault, Refusal.finds_no_room, Refusal.is_no_room};
 
 use sqlite_disk::{Disk, Tally};
 use std::alloc::{AllocError, Global};

@@ -1,18 +1,13 @@
 //! The custody of a key: its custodians, those whose approval of its destruction stands, and how
 //! many approvals that needs.
-ghost use Rattle.std.specs.Prelude.{◌≡◌, ◌+◌, ◌<◌, ◌≤◌, ◌^◌, length, take, drop, slice_index_or};
-ghost use Rattle.std.specs.Prelude.{ℕ, IfOk, if◌then◌else◌};
+ghost use Rattle.std.specs.Prelude.{◌≡◌, ◌+◌, ◌<◌, ◌≤◌, ◌^◌, length, take, drop, slice_index_or, ℕ};
+ghost use Rattle.std.specs.Prelude.{IfOk, if◌then◌else◌};
 ghost use Rattle.register_requests.specs.declared.request.Request.{Request};
-ghost use Rattle.register_core.specs.KeyName.{key_name, names_at};
-ghost use Rattle.register_core.specs.Custody.{is_about, stays_custodian, custodians};
-ghost use Rattle.register_core.specs.Within.Custody.{custodian_of};
-ghost use Rattle.register_core.specs.Custody.{ends_by, is_ended, approvals};
-ghost use Rattle.register_core.specs.Within.Custody.{approval_of};
-ghost use Rattle.register_core.specs.Within.Custody.{name_list};
-ghost use Rattle.register_core.specs.Custody.{need};
-ghost use Rattle.register_core.specs.Effect.{need_after};
-ghost use Rattle.register_requests.specs.Subject.{is_key};
-ghost use Rattle.register_requests.specs.Within.Subject.{key_concerned};
+ghost use Rattle.register_requests.specs.{Subject.is_key, Within.Subject.key_concerned};
+ghost use Rattle.register_core.specs.Custody.{is_about, stays_custodian, custodians, ends_by};
+ghost use Rattle.register_core.specs.Custody.{is_ended, approvals, need};
+ghost use Rattle.register_core.specs.Within.Custody.{custodian_of, approval_of, name_list};
+ghost use Rattle.register_core.specs.{KeyName.key_name, KeyName.names_at, Effect.need_after};
 
 use crate::history::dates;
 use register_core::{Command, Name, Names, Quorum, Request};

@@ -1,8 +1,7 @@
 //! What a command makes of a key's dates.
 ghost use Rattle.std.specs.Prelude.{◌≡◌};
 ghost use Rattle.register_core.specs.Effect.{date_after_edit, dates_after};
-ghost use Rattle.register_core.specs.Within.Effect.{deactivated};
-ghost use Rattle.register_core.specs.Within.Effect.{compromised};
+ghost use Rattle.register_core.specs.Within.Effect.{deactivated, compromised};
 
 use lifecycle_core::Dates;
 use moment_core::Moment;

@@ -1,21 +1,19 @@
 //! What a history makes of its latest moment, its keys, the periods of the types, and the type, the
 //! owner and the dates of each key.
-ghost use Rattle.std.specs.Prelude.{◌≡◌, ◌+◌, ◌^◌, ◌<◌, ◌≤◌, [], length};
-ghost use Rattle.std.specs.Prelude.{unwrap_or, IsSome, if◌then◌else◌};
+ghost use Rattle.std.specs.Prelude.{◌≡◌, ◌+◌, ◌^◌, ◌<◌, ◌≤◌, [], length, unwrap_or, IsSome};
+ghost use Rattle.std.specs.Prelude.{if◌then◌else◌};
 ghost use Rattle.register_core.specs.History.{latest, count, period, set_period, type, owner};
 ghost use Rattle.register_core.specs.History.{dates};
-ghost use Rattle.register_requests.specs.Subject.{is_key};
-ghost use Rattle.register_requests.specs.Within.Subject.{key_concerned};
-ghost use Rattle.register_requests.specs.Within.Subject.{made_by};
 ghost use Rattle.register_core.specs.Effect.{owner_after, dates_after, period_after};
 ghost use Rattle.register_core.specs.Within.Effect.{kind_after};
-ghost use Rattle.register_core.specs.Effect.{unset_dates};
+ghost use Rattle.register_requests.specs.Subject.{is_key};
+ghost use Rattle.register_requests.specs.Within.Subject.{key_concerned, made_by};
 
 use crate::effect::dates_after;
 use lifecycle_core::Dates;
 use moment_core::Moment;
 use period_core::{KeyType, Period, period_or_default};
-use register_core::{Command, Name, Registration, Request};
+use register_core::{Command, Name, Registration, Request, unset_dates};
 
 /// The latest moment of a history.
 pub fn latest(history: &[Request]) -> Moment
@@ -127,21 +125,6 @@ pub fn owner(history: &[Request], key: u32) -> Option<Name>
         made += made_by(&request.command);
     }
     owner
-}
-
-/// The dates of a key before it is registered: none is set.
-fn unset_dates() -> Dates
-    ensures { result ≡ unset_dates }
-{
-    Dates {
-        initial: Moment::new(0).unwrap(),
-        activation: None,
-        protect_stop: None,
-        deactivation: None,
-        destroy: None,
-        compromise: None,
-        compromise_occurrence: None,
-    }
 }
 
 /// The period of the type after the command, if the office set one.

@@ -2,9 +2,8 @@
 ghost use Rattle.std.specs.Prelude.{◌≡◌, ◌+◌, ◌^◌, ◌<◌, List, [], ◌∷◌, ◌++◌, length, take};
 ghost use Rattle.std.specs.Prelude.{slice_index_or, slice_get};
 ghost use Rattle.register_requests.specs.declared.request.Request.{Request};
-ghost use Rattle.register_core.specs.History.{count};
 ghost use Rattle.register_core.specs.KeptReply.{is_under, kept, kept_under, reply};
-ghost use Rattle.register_core.specs.Within.KeptReply.{kept_of};
+ghost use Rattle.register_core.specs.{History.count, Within.KeptReply.kept_of};
 
 use crate::history::{count, dates, key_of};
 use lifecycle_core::state_of;

@@ -1,8 +1,6 @@
 //! The keys of a history as they stand, and the first refusal that holds after it.
 ghost use Rattle.std.specs.Prelude.{◌≡◌, ◌+◌, ◌^◌, ◌<◌, length, IfOk};
-ghost use Rattle.register_core.specs.Custody.{held};
-ghost use Rattle.register_core.specs.Verdict.{judgement};
-ghost use Rattle.register_core.specs.Decision.{IsViewOf};
+ghost use Rattle.register_core.specs.{Custody.held, Verdict.judgement, Decision.IsViewOf};
 
 use crate::custody::{approvals, custodians, need};
 use crate::history::{count, dates, kind_of_key, latest, owner, set_period};

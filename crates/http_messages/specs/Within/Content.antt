@@ -1,15 +1,11 @@
 -- What functions within the crate say of one another, beside `specs/Content.antt`.
-use Rattle.std.specs.Prelude.{◌≡◌, ℕ, ◌<◌, ◌≤◌, ◌^◌, List, ◌++◌, length, take, Option, Some, None}
-use Rattle.std.specs.Prelude.{Vec, IfOk, IfErr, IfSome}
-use Rattle.std.specs.Io.KnownBytes.{Consumes, IsAtEnd}
-use Rattle.std.specs.declared.alloc.Global.{Global}
-use Rattle.streams.specs.declared.watched.Watched.{Watched}
-use Rattle.streams.specs.Watched.{IsFaulted}
-use Rattle.http_messages.specs.declared.asked.AskFault.TheVariants.{ReadFault}
-use Rattle.http_messages.specs.declared.asking.Asking.{Asking}
+use Rattle.std.specs.Prelude.{◌≡◌, ℕ, ◌<◌, ◌≤◌, ◌^◌, List, ◌++◌, length, take, Option, Some, None, Vec, IfOk, IfErr}
+use Rattle.std.specs.Prelude.{IfSome}
+use Rattle.std.specs.{Io.KnownBytes.Consumes, Io.KnownBytes.IsAtEnd, declared.alloc.Global.Global}
+use Rattle.streams.specs.{declared.watched.Watched.Watched, Watched.IsFaulted}
 use Rattle.http_messages.specs.declared.head.TheConstants.{MAX_EXCHANGE_READS}
-use Rattle.http_messages.specs.CommandBody.{IsAskedInRange}
-use Rattle.http_messages.specs.Content.{HasRead, TellsFault}
+use Rattle.http_messages.specs.{declared.asked.AskFault.TheVariants.ReadFault, declared.asking.Asking.Asking}
+use Rattle.http_messages.specs.{CommandBody.IsAskedInRange, Content.HasRead, Content.TellsFault}
 
 -- What reading an input gives and leaves: so many bytes were read, of which the asking counts few; what is asked for is
 -- in range; a fault is the reader's own or the bound on reads, and that is never passed.

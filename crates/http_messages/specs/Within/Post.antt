@@ -1,11 +1,9 @@
 -- What a whole head says of the request before its body is read.
 use Rattle.std.specs.Prelude.{◌≡◌, ◌≤◌, Some}
 use Rattle.httparse.specs.Grammar.{RequestHead}
-use Rattle.http_messages.specs.HeaderFields.{HeaderLines}
 use Rattle.http_messages.specs.Route.{IsRouteOf, method_of}
 use Rattle.http_messages.specs.Asked.{lines_of, HasHost, IsPlain, Announces, IsFrom, max_body_length}
-use Rattle.http_messages.specs.declared.route.Route.{Route}
-use Rattle.http_messages.specs.declared.asking.Post.{Post}
+use Rattle.http_messages.specs.{HeaderFields.HeaderLines, declared.route.Route.Route, declared.asking.Post.Post}
 
 -- the head has the Host that it must have, and the target and the method of this route
 pub record IsFor (h : RequestHead) (r : Route) : Type 0 where

@@ -2,9 +2,8 @@
 use Rattle.std.specs.Prelude.{ℕ, List, decimal}
 use Rattle.period_core.specs.KeyType.{key_type_text}
 use Rattle.lifecycle_core.specs.State.{state_text}
-use Rattle.key_rows.specs.declared.cell.Cell.{Cell}
 use Rattle.key_rows.specs.declared.cell.Cell.TheVariants.{Number, Kind, State, Date, Name, Purpose}
-use Rattle.key_rows.specs.Export.{date_cell_text}
+use Rattle.key_rows.specs.{declared.cell.Cell.Cell, Export.date_cell_text}
 
 -- the text of a cell, by what stands in it
 abbrev pub cell_text : Cell → List ℕ

@@ -1,7 +1,6 @@
 -- What a writer of one row has written.
 use Rattle.std.specs.Prelude.{◌≡◌, ℕ, List, length, Option, Some, Vec}
-use Rattle.std.specs.List.{AllByRecursion}
-use Rattle.std.specs.declared.alloc.Global.{Global}
+use Rattle.std.specs.{List.AllByRecursion, declared.alloc.Global.Global}
 use Rattle.csv.specs.Writing.{default_writer, writer_setup, fields_written, text_written, row_body}
 use Rattle.csv.specs.declared.writer.Writer.{Writer}
 use Rattle.key_rows.specs.Within.Export.{IsPrintable}

@@ -1,10 +1,8 @@
 -- What functions within the crate say of one another, beside `specs/Custody.antt`.
 use Rattle.std.specs.Prelude.{ℕ, List, [], ◌∷◌, ◌++◌, Option, None, Some, filter, fold, not}
 use Rattle.register_requests.specs.declared.request.Request.{Request}
-use Rattle.register_core.specs.KeyName.{KeyName}
 use Rattle.register_core.specs.Custody.{added_by, approved_by, is_ended, stays_custodian}
-use Rattle.register_core.specs.Effect.{need_after}
-use Rattle.register_core.specs.History.{own}
+use Rattle.register_core.specs.{KeyName.KeyName, Effect.need_after, History.own}
 
 -- ---- a key as it stands
 

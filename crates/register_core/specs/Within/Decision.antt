@@ -2,10 +2,8 @@
 use Rattle.std.specs.Prelude.{◌≡◌, ℕ, Option, IfSome}
 use Rattle.lifecycle_core.specs.declared.dates.Dates.{Dates}
 use Rattle.period_core.specs.Period.{Period, period_or_default}
-use Rattle.register_requests.specs.declared.request.Command.{Command}
-use Rattle.register_requests.specs.Subject.{subject}
-use Rattle.register_core.specs.declared.view.Held.{Held}
-use Rattle.register_core.specs.Effect.{dates_after, dates_before, type_of}
+use Rattle.register_requests.specs.{declared.request.Command.Command, Subject.subject}
+use Rattle.register_core.specs.{declared.view.Held.Held, Effect.dates_after, Effect.dates_before, Effect.type_of}
 
 -- The dates are those after the command at t of the key that it makes, or that it names and that stands so, by the
 -- period that is set for the key's type, if one is.

@@ -2,14 +2,11 @@
 use Rattle.std.specs.Prelude.{ℕ, Option, None, Result}
 use Rattle.lifecycle_core.specs.declared.dates.Dates.{Dates}
 use Rattle.lifecycle_core.specs.declared.reason.Reason.TheVariants.{KeyCompromise, Unspecified}
-use Rattle.period_core.specs.declared.key_type.KeyType.{KeyType}
-use Rattle.period_core.specs.Period.{Period}
 use Rattle.period_core.specs.declared.date_fitting.DateRefusal.{DateRefusal}
 use Rattle.period_core.specs.Fitting.{first_that_holds, unless_refused}
-use Rattle.register_requests.specs.declared.request.Command.{Command}
+use Rattle.period_core.specs.{declared.key_type.KeyType.KeyType, Period.Period}
 use Rattle.register_requests.specs.declared.request.Command.TheVariants.{SetDates, Revoke}
-use Rattle.register_requests.specs.declared.request.Edit.{Edit}
-use Rattle.register_requests.specs.Subject.{subject}
+use Rattle.register_requests.specs.{declared.request.Command.Command, declared.request.Edit.Edit, Subject.subject}
 use Rattle.register_core.specs.declared.fitting.Fitting.{Fitting}
 use Rattle.register_core.specs.Effect.{asked_dates, fitted, fitting_refusals, kind_by}
 

@@ -1,7 +1,6 @@
 -- What functions within the crate say of one another, beside `specs/Desk.antt`.
 use Rattle.std.specs.Prelude.{◌≡◌, ℕ, Some}
-use Rattle.register_requests.specs.declared.request.Command.{Command}
-use Rattle.register_requests.specs.Subject.{named}
+use Rattle.register_requests.specs.{declared.request.Command.Command, Subject.named}
 use Rattle.register_desk.specs.Desk.{IsNoKey}
 
 -- ---- ends

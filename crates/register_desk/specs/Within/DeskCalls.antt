@@ -1,19 +1,15 @@
 -- What the private calls of a desk say of one another.
 use Rattle.std.specs.Prelude.{◌≡◌, ℕ, true, Ok, Err, IfErr, OnOk, Result}
 use Rattle.sqlite_trees.specs.declared.store.Store.{Ghosts}
-use Rattle.register_desk.specs.declared.desk.Desk.{Desk}
-use Rattle.register_desk.specs.declared.end.End.{End}
-use Rattle.register_desk.specs.declared.end.End.TheVariants.{Memory, Store, Broken, ReadFault, WriteFault, BadHeader}
+use Rattle.register_desk.specs.declared.end.End.TheVariants.{Memory, Store}
 use Rattle.register_desk.specs.Desk.{ChangesNothing, IsOpen, KeepsToSteps}
+use Rattle.register_desk.specs.{declared.desk.Desk.Desk, declared.end.End.End}
 
 -- an end that comes of a call of the store
 abbrev pub IsOfStore : End → Type 0
 IsOfStore Memory = Unit {0}
 IsOfStore Store = Unit {0}
-IsOfStore Broken = ⊥
-IsOfStore ReadFault = ⊥
-IsOfStore WriteFault = ⊥
-IsOfStore BadHeader = ⊥
+IsOfStore end = ⊥
 
 module _ {S : Type 0} {g : Ghosts S} where
   -- the desk that this end leaves: 31 breaks it

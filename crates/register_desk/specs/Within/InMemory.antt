@@ -1,11 +1,9 @@
 -- What functions within the crate say of one another, beside `specs/InMemory.antt`.
 use Rattle.std.specs.Prelude.{ℕ, List, Option}
-use Rattle.sqlite_trees.specs.declared.store.Store.{Ghosts}
-use Rattle.sqlite_trees.specs.View.{IsClean as IsCleanStore}
+use Rattle.sqlite_trees.specs.{declared.store.Store.Ghosts, View.IsClean as IsCleanStore}
 use Rattle.sqlite.specs.State.{State}
-use Rattle.register_desk.specs.declared.runs.Outcome.{Outcome}
 use Rattle.register_desk.specs.Within.DatabaseFiles.{ShowsNothing}
-use Rattle.register_desk.specs.InMemory.{RunsOverInput}
+use Rattle.register_desk.specs.{declared.runs.Outcome.Outcome, InMemory.RunsOverInput}
 
 -- over an input whose bytes are known, in an empty database of a store that nothing makes doubtful, it is a run over
 -- the items of these

@@ -1,15 +1,11 @@
 -- What functions within the crate say of one another, beside `specs/KeyRows.antt`.
 use Rattle.std.specs.Option.{option_map}
 use Rattle.std.specs.Prelude.{◌≡◌, ℕ, ◌+◌, ◌≤◌, Option, None, Some}
-use Rattle.key_rows.specs.declared.key_row.KeyRow.{KeyRow}
-use Rattle.key_rows.specs.DueRows.{stop_of}
+use Rattle.key_rows.specs.{declared.key_row.KeyRow.KeyRow, DueRows.stop_of}
 use Rattle.register_core.specs.declared.key.Key.{Key}
-use Rattle.register_store.specs.KeyScan.{HasNextDue, date_run_of_next_key}
-use Rattle.register_store.specs.TableChanges.{key_at}
-use Rattle.register_store.specs.Tables.{Tables}
-use Rattle.register_desk.specs.declared.rows.Scan.{Scan}
+use Rattle.register_store.specs.{KeyScan.HasNextDue, KeyScan.date_run_of_next_key, TableChanges.key_at, Tables.Tables}
 use Rattle.register_desk.specs.declared.rows.Scan.TheVariants.{ByNumber, ByStop}
-use Rattle.register_desk.specs.KeyRows.{cursor_of_row, row_of}
+use Rattle.register_desk.specs.{declared.rows.Scan.Scan, KeyRows.cursor_of_row, KeyRows.row_of}
 
 -- ---- how far they are
 

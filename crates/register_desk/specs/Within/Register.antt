@@ -1,8 +1,7 @@
 -- What functions within the crate say of one another, beside `specs/Register.antt`.
 use Rattle.std.specs.Prelude.{List}
 use Rattle.sqlite.specs.State.{State}
-use Rattle.register_requests.specs.declared.request.Request.{Request}
-use Rattle.register_requests.specs.declared.version.Version.{Version}
+use Rattle.register_requests.specs.{declared.request.Request.Request, declared.version.Version.Version}
 use Rattle.register_store.specs.OpenedTables.{HasCommittedIn}
 use Rattle.register_desk.specs.Register.{tables}
 

@@ -1,11 +1,9 @@
 -- What functions within the crate say of one another, beside `specs/TablesView.antt`.
 use Rattle.std.specs.Prelude.{◌≡◌, length, IfSome}
 use Rattle.register_requests.specs.declared.request.Request.{Request}
-use Rattle.register_core.specs.declared.view.View.{View}
-use Rattle.register_core.specs.Effect.{needed_period_type}
+use Rattle.register_core.specs.{declared.view.View.View, Effect.needed_period_type, Settings.period_at}
 use Rattle.register_store.specs.Tables.{Tables}
 use Rattle.register_desk.specs.TablesView.{key_needed}
-use Rattle.register_core.specs.Settings.{period_at}
 
 -- the view has what a decision on the request sees over these tables
 pub record IsViewOver (t : Tables) (q : Request) (view : View) : Type 0 where

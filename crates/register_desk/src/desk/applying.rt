@@ -10,10 +10,10 @@ impl<S: Alter> Desk<S> {
     ghost use Rattle.std.specs.Prelude.{false, ◌≡◌, ◌≢◌, List, Ok, IfOk, IfErr, true, ◌≤◌, ◌+◌};
     ghost use Rattle.std.specs.Prelude.{Err, OnOk, OnErr, IfSome};
     ghost use Rattle.register_requests.specs.declared.request.Request.{Request};
-    ghost use Rattle.register_store.specs.TableChanges.{Makes};
+    ghost use Rattle.register_requests.specs.{CommandRule.looks_at_custody, Request.is_in_range};
     ghost use Rattle.register_store.specs.TableReads.{HasRequest, seen};
-    ghost use Rattle.register_store.specs.Tables.{Tables};
-    ghost use Rattle.register_requests.specs.CommandRule.{looks_at_custody};
+    ghost use Rattle.register_store.specs.AcceptedRequest.{CanTake, with_request};
+    ghost use Rattle.register_store.specs.{TableChanges.Makes, Tables.Tables, Change.made_count};
     ghost use Rattle.register_desk.specs.Desk.{AppliesOver, AppliesTo, ChangesNothing, Ends};
     ghost use Rattle.register_desk.specs.Desk.{IsClean, IsNew, IsOpen, IsWhole, KeepsCounts};
     ghost use Rattle.register_desk.specs.Desk.{KeepsToSteps, RepeatsWithin, TakesSteps};
@@ -21,12 +21,8 @@ impl<S: Alter> Desk<S> {
     ghost use Rattle.register_desk.specs.Within.DeskCalls.{IsOfStore, LooksUp, left_by};
     ghost use Rattle.register_desk.specs.Register.{Sees};
     ghost use Rattle.sql_steps.specs.Steps.{TransactsBy};
-    ghost use Rattle.register_core.specs.KeptReply.{kept_with};
-    ghost use Rattle.register_requests.specs.Request.{is_in_range};
-    ghost use Rattle.register_core.specs.Verdict.{max_keys};
     ghost use Rattle.register_core.specs.declared.reply.Reply.{Reply};
-    ghost use Rattle.register_store.specs.Change.{made_count};
-    ghost use Rattle.register_store.specs.AcceptedRequest.{CanTake, with_request};
+    ghost use Rattle.register_core.specs.{KeptReply.kept_with, Verdict.max_keys};
 
     /// Applies a request: it is accepted, and then acts and is kept, or refused, and then changes
     /// nothing. A request that comes again, whatever its moment, repeats its first reply and

@@ -10,16 +10,15 @@ use sqlite::Alter;
 
 impl<S: Alter> Desk<S> {
     ghost use Rattle.std.specs.Prelude.{◌≡◌, List, [], IfOk, IfErr, Some, None};
+    ghost use Rattle.std.specs.Borrow.{sem};
     ghost use Rattle.register_requests.specs.declared.request.Request.{Request};
     ghost use Rattle.register_desk.specs.Desk.{ChangesNothing, IsBroken, IsClean, IsWhole};
     ghost use Rattle.register_desk.specs.Desk.{TakesSteps};
-    ghost use Rattle.register_desk.specs.Register.{StandsFor, tables};
-    ghost use Rattle.std.specs.Borrow.{sem};
-    ghost use Rattle.key_rows.specs.declared.key_row.KeyRow.{KeyRow};
-    ghost use Rattle.register_desk.specs.LentDesk.{LendsRows};
     ghost use Rattle.register_desk.specs.KeyRows.{GoOn, HaveGiven, due_until, last_of, row_steps};
-    ghost use Rattle.register_desk.specs.Within.KeyRows.{CountsOn, HasNextRow};
     ghost use Rattle.register_desk.specs.KeyRows.{until_of};
+    ghost use Rattle.register_desk.specs.Within.KeyRows.{CountsOn, HasNextRow};
+    ghost use Rattle.register_desk.specs.{Register.StandsFor, Register.tables, LentDesk.LendsRows};
+    ghost use Rattle.key_rows.specs.declared.key_row.KeyRow.{KeyRow};
 
     /// The keys as of the latest accepted moment, by number, one row at a time.
     ///

@@ -15,20 +15,16 @@ use std::alloc::Global;
 impl<S: Alter> Desk<S> {
     ghost use Rattle.std.specs.Prelude.{◌≡◌, ◌≢◌, ◌⊎◌, ◌<◌, Err, IfErr, IfOk, IfSome, None, false};
     ghost use Rattle.std.specs.Prelude.{length, true};
-    ghost use Rattle.register_store.specs.TableReads.{HasHeldKey, HasRow};
-    ghost use Rattle.register_store.specs.Tables.{Tables};
+    ghost use Rattle.register_store.specs.{TableReads.HasHeldKey, TableReads.HasRow, Tables.Tables};
     ghost use Rattle.register_requests.specs.CommandRule.{looks_at_custody};
     ghost use Rattle.register_desk.specs.Desk.{ChangesNothing, IsClean, IsNoKey, IsOpen, IsWhole};
     ghost use Rattle.register_desk.specs.Desk.{TakesSteps};
-    ghost use Rattle.register_desk.specs.Within.Desk.{NamesNoKey};
-    ghost use Rattle.register_desk.specs.Within.DeskCalls.{LooksUp};
-    ghost use Rattle.register_desk.specs.Register.{Sees};
-    ghost use Rattle.register_core.specs.Decision.{IsRightKey};
-    ghost use Rattle.register_core.specs.Effect.{needed_period_type};
     ghost use Rattle.register_desk.specs.TablesView.{key_for, key_needed, need_over};
-    ghost use Rattle.register_desk.specs.Within.TablesView.{IsViewOver};
     ghost use Rattle.register_desk.specs.TablesView.{key_with_custody, key_without_custody};
-    ghost use Rattle.register_core.specs.Settings.{period_at};
+    ghost use Rattle.register_desk.specs.{Within.Desk.NamesNoKey, Within.DeskCalls.LooksUp};
+    ghost use Rattle.register_desk.specs.{Register.Sees, Within.TablesView.IsViewOver};
+    ghost use Rattle.register_core.specs.Effect.{needed_period_type};
+    ghost use Rattle.register_core.specs.{Decision.IsRightKey, Settings.period_at};
 
     /// What the decision on the request rests on.
     pub(super) fn look_up_needed_view(&mut self, request: &Request) -> Result<View, End>

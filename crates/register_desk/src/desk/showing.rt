@@ -11,13 +11,11 @@ impl<S: Alter> Desk<S> {
     ghost use Rattle.std.specs.Prelude.{◌≡◌, ◌≢◌, List, Err, IfOk, IfErr, None};
     ghost use Rattle.register_core.specs.History.{period, set_period};
     ghost use Rattle.register_requests.specs.declared.request.Request.{Request};
-    ghost use Rattle.register_desk.specs.Desk.{IsBroken, IsClean, IsWhole, ChangesNothing, Ends};
-    ghost use Rattle.register_desk.specs.Desk.{IsNoKey, KeepsToSteps, TakesSteps, keys_of};
-    ghost use Rattle.register_desk.specs.Within.DeskCalls.{LooksUp};
-    ghost use Rattle.register_desk.specs.Register.{StandsFor};
-    ghost use Rattle.period_core.specs.declared.key_type.KeyType.{KeyType};
+    ghost use Rattle.register_desk.specs.Desk.{Asks, ChangesNothing, IsBroken, IsClean, IsNoKey};
+    ghost use Rattle.register_desk.specs.Desk.{IsWhole, TakesSteps, keys_of};
     ghost use Rattle.register_desk.specs.Shown.{usage, shown};
-    ghost use Rattle.period_core.specs.Office.{set_in};
+    ghost use Rattle.register_desk.specs.{Within.DeskCalls.LooksUp, Register.StandsFor};
+    ghost use Rattle.period_core.specs.{declared.key_type.KeyType.KeyType, Office.set_in};
 
     /// The key with this number as of the latest accepted moment, or `None` where there is none. It
     /// changes nothing.
@@ -27,11 +25,9 @@ impl<S: Alter> Desk<S> {
     /// breaks the desk; [`End::Memory`] where memory gave out, and the desk goes on;
     /// [`End::Broken`] on a broken desk.
     pub fn show(&mut self, number: u32) -> Result<Option<Record>, End>
-        ensures ends { Ends self.old self.new result }
-        ensures reads { ChangesNothing S.Store self.old self.new }
+        ensures asks { Asks S.Store 38 self.old self.new result }
         ensures shown { (h : List Request) → StandsFor S.Store self.old h → IsClean S.Store self.new
             → IfOk result (λ found. found ≡ shown h number) }
-        ensures steps { KeepsToSteps S.Store 38 self.old self.new }
         // None only of a key that is not counted, whatever the tables hold.
         ensures there { IfOk result (λ found. found ≡ None → IsNoKey (keys_of self.old) number) }
     {
@@ -64,12 +60,10 @@ impl<S: Alter> Desk<S> {
     /// # Errors
     /// As [`show`](Desk::show), but never [`End::Memory`].
     pub fn period(&mut self, kind: KeyType) -> Result<Period, End>
-        ensures ends { Ends self.old self.new result }
+        ensures asks { Asks S.Store 2 self.old self.new result }
         ensures no_memory { result ≢ Err End.Memory }
-        ensures reads { ChangesNothing S.Store self.old self.new }
         ensures found { (h : List Request) → StandsFor S.Store self.old h → IsClean S.Store self.new
             → IfOk result (λ found. found ≡ period h kind) }
-        ensures steps { KeepsToSteps S.Store 2 self.old self.new }
     {
         if self.is_broken {
             return Err(End::Broken);
@@ -121,13 +115,11 @@ impl<S: Alter> Desk<S> {
     /// # Errors
     /// As [`show`](Desk::show), but never [`End::Memory`].
     pub fn usage(&mut self, number: u32) -> Result<Option<Usage>, End>
-        ensures ends { Ends self.old self.new result }
-        ensures reads { ChangesNothing S.Store self.old self.new }
-        ensures no_memory { result ≢ Err End.Memory }
+        ensures asks { Asks S.Store 2 self.old self.new result }
         ensures used { (h : List Request) → StandsFor S.Store self.old h → IsClean S.Store self.new
             → IfOk result (λ found. found ≡ usage h number) }
-        ensures steps { KeepsToSteps S.Store 2 self.old self.new }
         ensures there { IfOk result (λ found. found ≡ None → IsNoKey (keys_of self.old) number) }
+        ensures no_memory { result ≢ Err End.Memory }
     {
         if self.is_broken {
             return Err(End::Broken);

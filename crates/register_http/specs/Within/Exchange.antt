@@ -1,7 +1,6 @@
 -- What functions within the crate say of one another, beside `specs/Exchange.antt`.
 use Rattle.std.specs.Prelude.{◌≡◌, ℕ, ◌≤◌, false}
-use Rattle.streams.specs.declared.watched.Watched.{Watched}
-use Rattle.streams.specs.Watched.{IsFaulted}
+use Rattle.streams.specs.{declared.watched.Watched.Watched, Watched.IsFaulted}
 use Rattle.register_desk.specs.Run.{max_idle_turns}
 
 -- What it leaves of its writer: a reply that is counted was flushed; where none is, though one was begun, the fault is

@@ -3,13 +3,10 @@ use Rattle.std.specs.Prelude.{ℕ, ◌≤◌, Bool, true, false, List, length, O
 use Rattle.sqlite_trees.specs.declared.store.Store.{Ghosts}
 use Rattle.register_requests.specs.declared.request.Request.{Request}
 use Rattle.register_core.specs.Fold.{history}
-use Rattle.register_desk.specs.declared.desk.Desk.{Desk}
 use Rattle.register_desk.specs.declared.end.End.TheVariants.{Memory, Store, Broken, ReadFault, WriteFault, BadHeader}
 use Rattle.register_desk.specs.declared.runs.Finish.{Finish}
 use Rattle.register_desk.specs.declared.runs.Finish.TheVariants.{AtEnd, Ended}
-use Rattle.register_desk.specs.Desk.{IsWhole}
-use Rattle.register_desk.specs.Lives.{AreInRange}
-use Rattle.register_desk.specs.Register.{StandsFor}
+use Rattle.register_desk.specs.{declared.desk.Desk.Desk, Desk.IsWhole, Lives.AreInRange, Register.StandsFor}
 
 -- a next exchange may follow one that ended so: the register may be asked again
 abbrev pub may_serve_on : Finish → Bool

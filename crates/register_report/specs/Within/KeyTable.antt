@@ -2,10 +2,8 @@
 -- report on those that are due for rotation, or are long.
 use Rattle.std.specs.Prelude.{ℕ, Bool, true, List, [], ◌++◌, length, filter, flat_map, if◌then◌else◌}
 use Rattle.period_core.specs.Office.{period_in}
-use Rattle.key_rows.specs.declared.key_row.KeyRow.{KeyRow}
-use Rattle.key_rows.specs.DueRows.{is_listed}
-use Rattle.key_rows.specs.Export.{export_header, export_row}
 use Rattle.key_rows.specs.Report.{report_head, report_line, report_total}
+use Rattle.key_rows.specs.{declared.key_row.KeyRow.KeyRow, DueRows.is_listed, Export.export_header, Export.export_row}
 use Rattle.register_report.specs.declared.key_table.KeyTable.{KeyTable}
 use Rattle.register_report.specs.declared.key_table.KeyTable.TheVariants.{Export, Report}
 

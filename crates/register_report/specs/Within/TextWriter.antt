@@ -1,29 +1,21 @@
 -- What functions within the crate say of one another, beside `specs/TextWriter.antt`.
-use Rattle.std.specs.Prelude.{◌≡◌, ◌≢◌, ℕ, ◌+◌, ◌≤◌, Bool, true, false, List, [], ◌++◌, length}
-use Rattle.std.specs.Prelude.{Option, Result, Ok, Err, IfOk, IfErr, OnOk, is_ok}
+use Rattle.std.specs.Prelude.{◌≡◌, ◌≢◌, ℕ, ◌+◌, ◌≤◌, Bool, true, false, List, [], ◌++◌, length, Option, Result, Ok, Err}
+use Rattle.std.specs.Prelude.{IfOk, IfErr, OnOk, is_ok}
 use Rattle.std.specs.Io.KnownBytes.{Appends}
 use Rattle.sqlite_trees.specs.declared.store.Store.{Ghosts}
-use Rattle.streams.specs.declared.watched.Watched.{Watched}
-use Rattle.streams.specs.Watched.{IsFaulted}
-use Rattle.key_rows.specs.declared.key_row.KeyRow.{KeyRow}
-use Rattle.key_rows.specs.DueRows.{AreListed}
-use Rattle.key_rows.specs.Export.{export_text}
+use Rattle.streams.specs.{declared.watched.Watched.Watched, Watched.IsFaulted}
 use Rattle.key_rows.specs.Report.{horizon, report_text}
+use Rattle.key_rows.specs.{declared.key_row.KeyRow.KeyRow, DueRows.AreListed, Export.export_text}
 use Rattle.register_requests.specs.declared.request.Request.{Request}
 use Rattle.register_core.specs.History.{latest, period}
-use Rattle.register_desk.specs.declared.desk.Desk.{Desk}
-use Rattle.register_desk.specs.declared.end.End.{End}
 use Rattle.register_desk.specs.declared.end.End.TheVariants.{Broken, WriteFault}
-use Rattle.register_desk.specs.declared.runs.Finish.{Finish}
 use Rattle.register_desk.specs.declared.runs.Finish.TheVariants.{AtEnd, Ended}
-use Rattle.register_desk.specs.declared.rows.KeyRows.{KeyRows}
-use Rattle.register_desk.specs.Desk.{ChangesNothing, IsClean, IsWhole}
-use Rattle.register_desk.specs.Register.{StandsFor}
 use Rattle.register_desk.specs.KeyRows.{AreAll, AreSoFar, GoOn, HaveGiven, all_rows, until_of}
-use Rattle.register_desk.specs.Run.{AreFlushed, IsPrefixOf, max_idle_turns}
-use Rattle.register_report.specs.declared.key_table.KeyTable.{KeyTable}
+use Rattle.register_desk.specs.{declared.desk.Desk.Desk, declared.end.End.End, declared.runs.Finish.Finish}
+use Rattle.register_desk.specs.{declared.rows.KeyRows.KeyRows, Desk.ChangesNothing, Desk.IsClean, Desk.IsWhole}
+use Rattle.register_desk.specs.{Register.StandsFor, Run.AreFlushed, Run.IsPrefixOf, Run.max_idle_turns}
 use Rattle.register_report.specs.Within.KeyTable.{count_in, head_text, lines_text, table_text}
-use Rattle.register_report.specs.TextWriter.{IsEndOfWriting}
+use Rattle.register_report.specs.{declared.key_table.KeyTable.KeyTable, TextWriter.IsEndOfWriting}
 
 -- ---- a writer
 

@@ -1,15 +1,12 @@
 -- What functions within the crate say of the fields that they read.
-use Rattle.std.specs.Prelude.{◌≡◌, ℕ, ◌<◌, ◌^◌, ◌==◌, Bool, true, not, List, [], ◌∷◌, ◌++◌, codes, decimal}
-use Rattle.std.specs.Prelude.{Option, None, Some}
+use Rattle.std.specs.Prelude.{◌≡◌, ℕ, ◌<◌, ◌^◌, ◌==◌, Bool, true, not, List, [], ◌∷◌, ◌++◌, codes, decimal, Option}
+use Rattle.std.specs.Prelude.{None, Some}
 use Rattle.std.specs.List.{list_all}
-use Rattle.lifecycle_core.specs.declared.reason.Reason.{Reason}
-use Rattle.lifecycle_core.specs.Reason.{reason_code}
+use Rattle.lifecycle_core.specs.{declared.reason.Reason.Reason, Reason.reason_code}
 use Rattle.period_core.specs.Period.{Period}
 use Rattle.register_requests.specs.declared.command_fields.Fields.{Fields}
-use Rattle.register_requests.specs.declared.command_fields.Shape.{Shape}
-use Rattle.register_requests.specs.Fields.{shape_of}
 use Rattle.register_requests.specs.Within.Fields.{AreFieldsInRange, command_of}
-use Rattle.register_requests.specs.Request.{arguments_text}
+use Rattle.register_requests.specs.{declared.command_fields.Shape.Shape, Fields.shape_of, Request.arguments_text}
 
 -- ---- the text of one field
 

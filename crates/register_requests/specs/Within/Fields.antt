@@ -1,12 +1,11 @@
 -- What functions within the crate, and readers of fields above it, say of one another.
-use Rattle.register_requests.specs.declared.request.Command.{Command}
 use Rattle.register_requests.specs.declared.request.Command.TheVariants.{Register, Activate, SetDates, Revoke, Assign}
 use Rattle.register_requests.specs.declared.request.Command.TheVariants.{AddCustodian, Advance, SetQuorum, SetPeriod}
 use Rattle.register_requests.specs.declared.command_fields.Fields.{Fields}
 use Rattle.register_requests.specs.declared.command_fields.Fields.TheVariants.{Nothing, Key, KeyAndName, KeyAndOwner}
-use Rattle.register_requests.specs.declared.command_fields.Fields.TheVariants.{KeyAndNeed, TypeAndPeriod}
-use Rattle.register_requests.specs.declared.command_fields.Fields.TheVariants.{Registration, DateEdits, Revocation}
-use Rattle.register_requests.specs.Request.{IsCommand}
+use Rattle.register_requests.specs.declared.command_fields.Fields.TheVariants.{KeyAndNeed, TypeAndPeriod, Registration}
+use Rattle.register_requests.specs.declared.command_fields.Fields.TheVariants.{DateEdits, Revocation}
+use Rattle.register_requests.specs.{declared.request.Command.Command, Request.IsCommand}
 
 -- a command with these fields: what is said of their text and their ranges is said of it
 abbrev pub command_of : Fields → Command

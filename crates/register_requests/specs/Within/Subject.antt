@@ -1,8 +1,7 @@
 -- What functions within the crate say of one another, beside `specs/Subject.antt`.
 use Rattle.std.specs.Prelude.{ℕ, Option}
-use Rattle.register_requests.specs.declared.request.Command.{Command}
-use Rattle.register_requests.specs.declared.request.Registration.{Registration}
 use Rattle.register_requests.specs.Subject.{Makes, Names, NoKey, Subject, key_by, registration_by, subject}
+use Rattle.register_requests.specs.{declared.request.Command.Command, declared.request.Registration.Registration}
 
 abbrev pub count_by : Subject → ℕ
 count_by (Makes registration) = 1

@@ -1,20 +1,14 @@
 -- What functions within the crate say of one another, beside `specs/Beside.antt`.
 use Rattle.std.specs.Prelude.{◌≡◌, ◌≢◌, ◌⊎◌, ◌≤◌, ℕ, true, false, Result}
 use Rattle.std.specs.Borrow.{MutBor}
-use Rattle.sqlite.specs.Change.{next_tree}
-use Rattle.sqlite.specs.Effect.{Database}
-use Rattle.sqlite.specs.Held.{Held}
-use Rattle.sqlite.specs.Table.{Table}
+use Rattle.sqlite.specs.{Change.next_tree, Effect.Database, Held.Held, Table.Table}
 use Rattle.sqlite_rules.specs.Lists.{Has}
-use Rattle.sqlite_schema.specs.declared.schema.Index.{Index}
 use Rattle.sqlite_schema.specs.declared.schema.Reference.{Reference}
-use Rattle.sqlite_schema.specs.declared.schema.View.{View}
+use Rattle.sqlite_schema.specs.{declared.schema.Index.Index, declared.schema.View.View}
 use Rattle.sqlite_trees.specs.declared.store.Store.{Ghosts}
-use Rattle.sql_steps.specs.Steps.{DatabaseChange}
-use Rattle.sql_steps.specs.Within.Steps.{Steps}
-use Rattle.register_store.specs.declared.table.TableName.{TableName}
+use Rattle.sql_steps.specs.{Steps.DatabaseChange, Within.Steps.Steps}
 use Rattle.register_store.specs.declared.table.TableName.TheVariants.{Meta}
-use Rattle.register_store.specs.Beside.{HasMetaApart, is_meta}
+use Rattle.register_store.specs.{declared.table.TableName.TableName, Beside.HasMetaApart, Beside.is_meta}
 
 -- ---- the steps
 

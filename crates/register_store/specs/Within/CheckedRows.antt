@@ -2,23 +2,16 @@
 use Rattle.std.specs.Prelude.{◌≡◌, ◌↔◌, ℕ, List, [], slice_get, Bool, true, false, Some, Result, Ok, Err}
 use Rattle.std.specs.Global.{Vec}
 use Rattle.sqlite.specs.State.{State, HasCleanDisk, IsUnchanged, Survives}
-use Rattle.period_core.specs.declared.key_type.KeyType.{KeyType}
-use Rattle.period_core.specs.Period.{Period}
-use Rattle.register_core.specs.declared.key.Key.{Key}
-use Rattle.register_core.specs.KeyName.{KeyName}
-use Rattle.register_core.specs.Settings.{KeyNeed, TypePeriod}
-use Rattle.register_store.specs.declared.error.CheckError.{CheckError}
+use Rattle.period_core.specs.{declared.key_type.KeyType.KeyType, Period.Period}
+use Rattle.register_core.specs.{declared.key.Key.Key, KeyName.KeyName, Settings.KeyNeed, Settings.TypePeriod}
 use Rattle.register_store.specs.declared.error.CheckError.TheVariants.{NewerVersion, NotARegister}
-use Rattle.register_store.specs.declared.found.Found.{Found}
-use Rattle.register_store.specs.declared.meta_check.MetaRow.{MetaRow}
 use Rattle.register_store.specs.declared.meta_check.MetaRow.TheVariants.{Newer, Counts as CountsKeys}
-use Rattle.register_requests.specs.declared.version.Version.{Version}
-use Rattle.register_store.specs.Tables.{Counts}
-use Rattle.register_store.specs.Stored.{HoldsStored, Stored, mark}
-use Rattle.register_store.specs.declared.table.TableName.{TableName}
 use Rattle.register_store.specs.CheckedTables.{ArePassed, ChecksBy, mark_of}
 use Rattle.register_store.specs.OpeningChecks.{IsCustodian, MeetsChecks, owners_of}
-use Rattle.register_store.specs.CheckedRows.{IsListed}
+use Rattle.register_store.specs.{declared.error.CheckError.CheckError, declared.found.Found.Found}
+use Rattle.register_store.specs.{declared.meta_check.MetaRow.MetaRow, Tables.Counts, Stored.HoldsStored, Stored.Stored}
+use Rattle.register_store.specs.{Stored.mark, declared.table.TableName.TableName, CheckedRows.IsListed}
+use Rattle.register_requests.specs.declared.version.Version.{Version}
 
 -- ---- meta
 

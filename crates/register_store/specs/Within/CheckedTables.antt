@@ -2,11 +2,10 @@
 use Rattle.std.specs.Prelude.{Result, IfOk, IfErr}
 use Rattle.sqlite.specs.State.{State, HasCleanDisk, Survives}
 use Rattle.row_checks.specs.ShownRows.{ShowsAll}
-use Rattle.register_store.specs.declared.error.CheckError.{CheckError}
-use Rattle.register_store.specs.declared.table.TableName.{TableName}
 use Rattle.register_store.specs.Stored.{HoldsStored, Part, Stored, part, with_part}
 use Rattle.register_store.specs.OpeningChecks.{MeetsCheck, MeetsChecks}
 use Rattle.register_store.specs.CheckedTables.{BlamesNone, IsReasonAt, ShowsRows, check_text}
+use Rattle.register_store.specs.{declared.error.CheckError.CheckError, declared.table.TableName.TableName}
 
 -- ---- the check of one table
 

@@ -1,7 +1,6 @@
 -- What functions within the crate say of one another, beside `specs/Columns.antt`.
-use Rattle.std.specs.Prelude.{ℕ, List, ◌++◌, map, codes}
-use Rattle.register_store.specs.TableForms.{Named, name_of}
-use Rattle.register_store.specs.Columns.{after_each}
+use Rattle.std.specs.Prelude.{ℕ, List, map, codes}
+use Rattle.register_store.specs.{TableForms.Named, TableForms.name_of, Columns.after_each}
 
 -- ---- what texts say of them
 

@@ -1,23 +1,18 @@
 -- What functions within the crate say of one another, beside `specs/Creation.antt`.
 use Rattle.std.specs.Prelude.{◌≡◌, ◌<◌, ℕ, Bool, true, false, [], length, take, IsTrue}
-use Rattle.sqlite.specs.Effect.{Database}
-use Rattle.sqlite.specs.Schema.{Schema}
-use Rattle.sqlite.specs.State.{State, HasCleanDisk}
-use Rattle.sql_steps.specs.Within.CreatedTables.{Creates, Indexes}
-use Rattle.sql_steps.specs.Steps.{DatabaseChange}
-use Rattle.register_store.specs.declared.key_index.KeyIndex.{KeyIndex}
-use Rattle.register_store.specs.declared.table.TableName.{TableName}
+use Rattle.sqlite.specs.{Effect.Database, Schema.Schema, State.State, State.HasCleanDisk}
+use Rattle.sql_steps.specs.{Within.CreatedTables.AddsTable, Within.CreatedTables.Indexes, Steps.DatabaseChange}
 use Rattle.register_store.specs.Tables.{fresh, all_tables, table_of, place_of}
-use Rattle.register_store.specs.Within.Tables.{keys}
 use Rattle.register_store.specs.Schema.{no_schema, schema_with, made_indexes, index_of, table_rows}
 use Rattle.register_store.specs.Within.Schema.{schema_after, index_place}
-use Rattle.register_store.specs.Creation.{IsNewRegister, IsThere}
+use Rattle.register_store.specs.{declared.key_index.KeyIndex.KeyIndex, declared.table.TableName.TableName}
+use Rattle.register_store.specs.{Within.Tables.keys, Creation.IsNewRegister, Creation.IsThere}
 
 -- ---- the steps
 
 -- the table is made where those before it are
 abbrev pub MakesTable : TableName → Database → Database → Type 0
-MakesTable name = Creates (schema_after (place_of name)) (table_of (fresh []) name)
+MakesTable name = AddsTable (schema_after (place_of name)) (table_of (fresh []) name)
 
 -- in an empty database the first n tables are made, each empty
 pub record HasFirstTables (n : ℕ) (db : Database) : Type 0 where

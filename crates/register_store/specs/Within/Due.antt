@@ -1,14 +1,11 @@
 -- Moving the keys on whose dates are reached: the Pre-Active ones to Active, and then the Active ones to Deactivated.
 use Rattle.std.specs.Prelude.{◌==◌, ◌&&◌, if◌then◌else◌, ℕ, List, codes, Bool, Option, map}
-use Rattle.lifecycle_core.specs.declared.dates.Dates.{Dates}
-use Rattle.lifecycle_core.specs.declared.state.State.{State}
 use Rattle.lifecycle_core.specs.declared.state.State.TheVariants.{PreActive, Active, Deactivated}
 use Rattle.lifecycle_core.specs.State.{is_reached_at, state_code}
+use Rattle.lifecycle_core.specs.{declared.dates.Dates.Dates, declared.state.State.State}
 use Rattle.register_core.specs.declared.key.Key.{Key}
-use Rattle.register_store.specs.declared.accepted_request.DueDate.{DueDate}
 use Rattle.register_store.specs.declared.accepted_request.DueDate.TheVariants.{Activation, Deactivation}
-use Rattle.register_store.specs.Tables.{Tables}
-use Rattle.register_store.specs.Within.TableChanges.{in_state}
+use Rattle.register_store.specs.{declared.accepted_request.DueDate.DueDate, Tables.Tables, Within.TableChanges.in_state}
 
 -- the state that a key leaves as the date is reached, and the one that it comes to
 abbrev pub state_before : DueDate → State

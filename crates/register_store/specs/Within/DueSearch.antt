@@ -1,16 +1,13 @@
 -- The searches for the next key that is due, each for the first of the keys that pass its check.
-use Rattle.std.specs.Prelude.{◌≡◌, ◌⊎◌, ◌==◌, ◌&&◌, ◌||◌, ℕ, nat_le, not, Bool, true, List, ◌++◌, codes}
-use Rattle.std.specs.Prelude.{Option, None, Some}
+use Rattle.std.specs.Prelude.{◌≡◌, ◌⊎◌, ◌==◌, ◌&&◌, ◌||◌, ℕ, nat_le, not, Bool, true, List, ◌++◌, codes, Option, None}
+use Rattle.std.specs.Prelude.{Some}
 use Rattle.sqlite_rules.specs.Lists.{Has}
-use Rattle.lifecycle_core.specs.declared.state.State.TheVariants.{Active}
-use Rattle.lifecycle_core.specs.State.{state_code}
+use Rattle.lifecycle_core.specs.{declared.state.State.TheVariants.Active, State.state_code}
 use Rattle.register_core.specs.declared.key.Key.{Key}
-use Rattle.register_store.specs.declared.key_scan.DueCursor.{DueCursor}
-use Rattle.register_store.specs.declared.key_scan.DueSearch.{DueSearch}
 use Rattle.register_store.specs.declared.key_scan.DueSearch.TheVariants.{LaterStop, Past, SameStop}
-use Rattle.register_store.specs.Columns.{key_columns, select}
-use Rattle.register_store.specs.KeyScan.{IsAfterKey}
 use Rattle.register_store.specs.Tables.{IsKey, Tables, date_cell, numbered}
+use Rattle.register_store.specs.{declared.key_scan.DueCursor.DueCursor, declared.key_scan.DueSearch.DueSearch}
+use Rattle.register_store.specs.{Columns.key_columns, Columns.select, KeyScan.IsAfterKey}
 
 -- a numbered key that a register may hold
 abbrev pub IsNumbered : ℕ × Key → Type 0

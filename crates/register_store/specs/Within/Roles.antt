@@ -1,12 +1,11 @@
 -- What a name may be at a key, and the texts that speak of each.
 use Rattle.std.specs.Prelude.{ℕ, List, codes}
 use Rattle.register_core.specs.KeyName.{KeyName, key_name}
-use Rattle.register_store.specs.declared.stored_key.Role.{Role}
 use Rattle.register_store.specs.declared.stored_key.Role.TheVariants.{Custodian, Approver}
 use Rattle.register_store.specs.declared.stored_key.RoleChange.{RoleChange}
 use Rattle.register_store.specs.declared.stored_key.RoleChange.TheVariants.{Given, Taken}
-use Rattle.register_store.specs.Tables.{Tables}
 use Rattle.register_store.specs.Within.TableChanges.{with_custodian, with_approval, without_custodian, without_approval}
+use Rattle.register_store.specs.{declared.stored_key.Role.Role, Tables.Tables}
 
 abbrev pub names_of : Role → Tables → List KeyName
 names_of Custodian t = t.custodians

@@ -1,11 +1,9 @@
 -- What functions within the crate say of one another, beside `specs/Schema.antt`.
 use Rattle.std.specs.Prelude.{ℕ, List, [], take, fold, codes}
-use Rattle.sqlite.specs.Schema.{Schema}
-use Rattle.sqlite.specs.Change.{created}
-use Rattle.register_store.specs.declared.key_index.KeyIndex.{KeyIndex}
+use Rattle.sqlite.specs.{Schema.Schema, Change.created}
 use Rattle.register_store.specs.declared.key_index.KeyIndex.TheVariants.{Activation, Deactivation, ProtectStop}
 use Rattle.register_store.specs.Tables.{fresh, all_tables, table_of}
-use Rattle.register_store.specs.Schema.{no_schema}
+use Rattle.register_store.specs.{declared.key_index.KeyIndex.KeyIndex, Schema.no_schema}
 
 -- ---- schemas
 

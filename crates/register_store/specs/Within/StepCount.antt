@@ -3,8 +3,7 @@ use Rattle.std.specs.Prelude.{◌≡◌, ℕ, ◌+◌, length, Result, Ok, Err}
 use Rattle.std.specs.Global.{Vec}
 use Rattle.sqlite.specs.State.{State}
 use Rattle.sql_steps.specs.Steps.{DatabaseChange, StepsBy}
-use Rattle.register_store.specs.declared.counted.StepCount.{StepCount}
-use Rattle.register_store.specs.StepCount.{TakesInside}
+use Rattle.register_store.specs.{declared.counted.StepCount.StepCount, StepCount.TakesInside}
 
 -- what a call takes that gives one row, or all rows
 abbrev pub taken_row_steps : {T E : Type 0} → Result T E → ℕ

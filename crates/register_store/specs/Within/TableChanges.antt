@@ -2,15 +2,12 @@
 use Rattle.std.specs.Prelude.{◌≢◌, ◌==◌, ℕ, not, List, [], ◌∷◌, ◌++◌, filter}
 use Rattle.sqlite_rules.specs.Lists.{Has}
 use Rattle.lifecycle_core.specs.declared.state.State.{State}
-use Rattle.register_core.specs.declared.kept_reply.KeptReply.{KeptReply}
-use Rattle.register_core.specs.declared.key.Key.{Key}
 use Rattle.register_core.specs.KeyName.{KeyName, is_key_name, is_at}
 use Rattle.register_core.specs.Settings.{KeyNeed, TypePeriod, with_need}
+use Rattle.register_core.specs.{declared.kept_reply.KeptReply.KeptReply, declared.key.Key.Key}
 use Rattle.period_core.specs.KeyType.{key_type_code}
-use Rattle.register_store.specs.declared.setting.Setting.{Setting}
 use Rattle.register_store.specs.declared.setting.Setting.TheVariants.{Need, Period}
-use Rattle.register_store.specs.TableChanges.{with_period_set}
-use Rattle.register_store.specs.Tables.{Tables}
+use Rattle.register_store.specs.{declared.setting.Setting.Setting, TableChanges.with_period_set, Tables.Tables}
 
 -- whatever the tables hold
 abbrev pub Always : Tables → Type 0

@@ -1,30 +1,20 @@
 -- What functions within the crate say of one another, beside `specs/TableReads.antt`.
 use Rattle.std.specs.Prelude.{◌≡◌, ◌≢◌, ℕ, pos, List, length, map, Option, None, Some, Result, Ok, Err, IsPermutation}
 use Rattle.std.specs.Prelude.{MatchOption}
-use Rattle.sqlite.specs.declared.types.Value.{Value}
 use Rattle.sqlite.specs.declared.types.Value.TheVariants.{Int, Text as Words}
-use Rattle.sqlite.specs.Order.{Row, column}
-use Rattle.sqlite.specs.declared.error.Error.{Error}
 use Rattle.sqlite.specs.declared.error.Error.TheVariants.{QueryReturnedNoRows}
 use Rattle.sqlite.specs.State.{HasCleanDisk, Survives, CommitsShowing, QueriesRow}
+use Rattle.sqlite.specs.{declared.types.Value.Value, Order.Row, Order.column, declared.error.Error.Error}
 use Rattle.sqlite_rules.specs.Lists.{Has}
 use Rattle.sqlite_trees.specs.declared.store.Store.{Ghosts}
 use Rattle.period_core.specs.Period.{IsPeriod, Period}
-use Rattle.register_core.specs.declared.key.Key.{Key}
-use Rattle.register_core.specs.KeyName.{names_at}
-use Rattle.register_requests.specs.Name.{IsName}
-use Rattle.register_core.specs.Names.{sorted_names}
-use Rattle.register_requests.specs.Quorum.{IsQuorum}
-use Rattle.register_store.specs.declared.counted.Counted.{Counted}
-use Rattle.register_store.specs.declared.stored_key.Role.{Role}
-use Rattle.register_store.specs.declared.error.StoreError.{StoreError}
+use Rattle.register_core.specs.{declared.key.Key.Key, KeyName.names_at, Names.sorted_names}
+use Rattle.register_requests.specs.{Name.IsName, Quorum.IsQuorum}
 use Rattle.register_store.specs.declared.error.StoreError.TheVariants.{Database, NoRegister}
-use Rattle.register_store.specs.Columns.{key_columns}
-use Rattle.register_store.specs.Within.Roles.{names_of}
-use Rattle.register_store.specs.Tables.{Tables}
-use Rattle.register_store.specs.StepCount.{counted}
-use Rattle.register_store.specs.Within.StepCount.{taken_row_steps}
 use Rattle.register_store.specs.TableReads.{ShowsKey, seen}
+use Rattle.register_store.specs.{declared.counted.Counted.Counted, declared.stored_key.Role.Role}
+use Rattle.register_store.specs.{declared.error.StoreError.StoreError, Columns.key_columns, Within.Roles.names_of}
+use Rattle.register_store.specs.{Tables.Tables, StepCount.counted, Within.StepCount.taken_row_steps}
 
 -- ---- what is found in tables
 

@@ -1,7 +1,6 @@
 -- What functions within the crate say of one another, beside `specs/Tables.antt`.
 use Rattle.std.specs.Prelude.{List}
-use Rattle.sqlite.specs.Order.{Row as Cells}
-use Rattle.sqlite.specs.Table.{Table}
+use Rattle.sqlite.specs.{Order.Row as Cells, Table.Table}
 use Rattle.register_requests.specs.Version.{current}
 use Rattle.register_store.specs.declared.table.TableName.{TableName}
 use Rattle.register_store.specs.declared.table.TableName.TheVariants.{Meta, Keys, Custodian, Approval, Request}

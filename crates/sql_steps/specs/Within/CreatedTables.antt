@@ -1,9 +1,7 @@
 -- What a CREATE TABLE and a CREATE INDEX make of a database.
 use Rattle.std.specs.Prelude.{◌≡◌, []}
-use Rattle.sqlite.specs.Schema.{Schema}
-use Rattle.sqlite.specs.Table.{Table}
 use Rattle.sqlite.specs.Change.{created, indexed, next_tree, KeepsRows}
-use Rattle.sqlite.specs.Effect.{Database}
+use Rattle.sqlite.specs.{Schema.Schema, Table.Table, Effect.Database}
 use Rattle.sqlite_schema.specs.declared.schema.Index.{Index}
 use Rattle.sql_steps.specs.Steps.{DatabaseChange}
 
@@ -14,8 +12,8 @@ pub record Created (before : Schema) (table : Table) (old new : Database) : Type
   pub others : KeepsRows before.tables old.trees new.trees
 
 -- the table is made where the schema is this one
-abbrev pub Creates : Schema → Table → DatabaseChange
-Creates before table old new = old.schema ≡ before → Created before table old new
+abbrev pub AddsTable : Schema → Table → DatabaseChange
+AddsTable before table old new = old.schema ≡ before → Created before table old new
 
 -- the index is new, and each table is as it was
 pub record Indexed (before : Schema) (table : Table) (index : Index) (old new : Database) : Type 0 where

@@ -1,7 +1,6 @@
 -- What functions within the crate say of one another, beside `specs/Steps.antt`.
 use Rattle.std.specs.Prelude.{Result}
-use Rattle.sqlite.specs.Effect.{Database}
-use Rattle.sqlite.specs.Held.{Held, state}
+use Rattle.sqlite.specs.{Effect.Database, Held.Held, Held.state}
 use Rattle.sqlite_trees.specs.declared.store.Store.{Ghosts}
 use Rattle.sql_steps.specs.Steps.{DatabaseChange, StepsBy}
 

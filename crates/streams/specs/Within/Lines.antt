@@ -1,5 +1,5 @@
 -- What functions within the crate say of one another, beside `specs/Lines.antt`.
-use Rattle.std.specs.Prelude.{◌≡◌, ℕ, ◌+◌, ◌-◌, List, ◌++◌, length, take}
+use Rattle.std.specs.Prelude.{◌≡◌, ℕ, ◌+◌, List, ◌++◌, length, take}
 use Rattle.streams.specs.Lines.{Cut}
 
 -- the line so far grew by this part

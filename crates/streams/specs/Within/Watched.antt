@@ -1,11 +1,9 @@
 -- What functions within the crate say of one another, beside `specs/Watched.antt`.
-use Rattle.std.specs.Prelude.{ℕ, ◌-◌, ◌≤◌, Bool, true, List, length, take, Option, ⊤}
+use Rattle.std.specs.Prelude.{ℕ, ◌≤◌, Bool, true, List, length, take, Option, ⊤}
 use Rattle.std.specs.Io.KnownBytes.{Appends}
-use Rattle.streams.specs.declared.watched.turns.Turn.{Turn}
 use Rattle.streams.specs.declared.watched.turns.Turn.TheVariants.{Done, Interrupted, Failed}
-use Rattle.streams.specs.declared.watched.Watched.{Watched}
-use Rattle.streams.specs.declared.watched.WriteFault.{WriteFault}
-use Rattle.streams.specs.Watched.{IsFaulted, one_more}
+use Rattle.streams.specs.{declared.watched.turns.Turn.Turn, declared.watched.Watched.Watched}
+use Rattle.streams.specs.{declared.watched.WriteFault.WriteFault, Watched.IsFaulted, Watched.one_more}
 
 -- a writing gave up: these of the bytes were taken and no others, and a failure or too many interruptions are the cause
 pub record StopsWithin {W : Type 0} (contents : W

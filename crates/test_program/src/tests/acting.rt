@@ -43,14 +43,14 @@ fn act_on<S: Start, R: Read + Drop, W: Write + Drop, E: Write + Drop>(
             Ok(act_in_memory(rt.alloc(), &mut Watched::new(input), &mut outputs))
         }
         Ok(Task::InFile { file, job }) => {
+            let mut inputs = Inputs {
+                reader: Watched::new(input),
+                attendance: Attendance::new(),
+            };
             let machine = Machine {
                 alloc: rt.alloc(),
                 files: DiskFiles::new(rt, start),
                 network: MachineNetwork::new(rt),
-            };
-            let mut inputs = Inputs {
-                reader: Watched::new(input),
-                attendance: Attendance::new(),
             };
             Ok(act(machine, file, &job, &mut inputs, &mut outputs).status)
         }

@@ -1,18 +1,13 @@
 use Rattle.std.proofs.Common.{◌≡◌, IsTrue, arith, ap, true, false, inl, inr, refl, subst, sym, ◌∙◌}
 use Rattle.std.proofs.Math.Logic.{∥∥₁_map}
-use Rattle.sqlite.specs.Files.{HoldsDatabase, over_files}
-use Rattle.sqlite.specs.Held.{AreDatabases}
-use Rattle.sqlite.specs.Recovery.{Image}
-use Rattle.sqlite.specs.Tree.{Trees}
+use Rattle.sqlite.specs.{Files.HoldsDatabase, Files.over_files, Held.AreDatabases, Recovery.Image, Tree.Trees}
 use Rattle.sqlite.proofs.Theorems.{copied, opens_again}
 use Rattle.sqlite_disk.specs.declared.Disk.{Ghosts}
-use Rattle.sqlite_store.specs.declared.store.FileStore.{FileStore}
 use Rattle.sqlite_store.specs.FileStore.{recovers, state, view}
-use Rattle.sqlite_store.specs.Laws.{not_broken, stays_at}
+use Rattle.sqlite_store.specs.{declared.store.FileStore.FileStore, Laws.not_broken, Laws.stays_at}
 use Rattle.sqlite_trees.specs.View.{IsClean, View}
-use Rattle.register_program.specs.declared.files.LogCopy.{LogCopy}
 use Rattle.register_program.specs.declared.files.LogCopy.TheVariants.{Broken, Copied, Kept}
-use Rattle.register_program.specs.Closing.{ClosesFiles, alone}
+use Rattle.register_program.specs.{declared.files.LogCopy.LogCopy, Closing.ClosesFiles, Closing.alone}
 use Rattle.disk_files.proofs.disk_files.checkpoint_store.Goals as goal
 
 -- nothing is new in what a stop leaves, and where the log was copied the database file alone holds it too

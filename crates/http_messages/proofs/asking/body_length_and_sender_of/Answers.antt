@@ -1,8 +1,7 @@
 use Rattle.std.proofs.Common.{◌≡◌, ◌≢◌, ℕ, ◌+◌, ◌<◌, ◌≤◌, min, List, [], ◌∷◌, length, arith, refl, sym, ap, subst, ◌∙◌}
-use Rattle.http_messages.specs.HeaderFields.{AreFound, IsLength}
-use Rattle.http_messages.specs.declared.header_fields.Values.{Values}
-use Rattle.http_messages.specs.declared.header_fields.Values.TheVariants as found
 use Rattle.http_messages.specs.Asked.{max_body_length, encoded, no_length, bad_length, large_body, no_sender}
+use Rattle.http_messages.specs.{HeaderFields.AreFound, HeaderFields.IsLength, declared.header_fields.Values.Values}
+use Rattle.http_messages.specs.declared.header_fields.Values.TheVariants as found
 use Rattle.http_messages.proofs.asking.body_length_and_sender_of.Goals as goal
 
 one_not_none : (vs : List (List ℕ)) (v : List ℕ) → vs ≡ v ∷ [] → vs ≢ []

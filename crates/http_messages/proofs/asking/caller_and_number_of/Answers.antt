@@ -1,10 +1,9 @@
 -- Who sends is told by the one value of either name.
-use Rattle.std.proofs.Common.{◌≡◌, ℕ, List, ◌∷◌, [], None, Some, rules, ap, sym, subst, ◌∙◌}
+use Rattle.std.proofs.Common.{◌≡◌, ℕ, List, ◌∷◌, [], rules, ap, sym, subst, ◌∙◌}
 use Rattle.std.specs.Prelude.{decimal}
 use Rattle.register_requests.specs.Name.{IsName}
-use Rattle.http_messages.specs.Asked.{IsFrom}
-use Rattle.http_messages.specs.HeaderFields.{HeaderLines}
-use Rattle.http_messages.proofs.InOrder.{if_none}
+use Rattle.http_messages.specs.{Asked.IsFrom, HeaderFields.HeaderLines}
+use Rattle.http_messages.proofs.CommandValues.{if_none}
 use Rattle.http_messages.proofs.asking.caller_and_number_of.Goals as goal
 
 one_is : (a b : List ℕ) (vs : List (List ℕ)) → vs ≡ a ∷ [] → vs ≡ b ∷ [] → a ≡ b

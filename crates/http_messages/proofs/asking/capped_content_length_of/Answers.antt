@@ -1,10 +1,8 @@
-use Rattle.std.proofs.Common.{◌≡◌, ℕ, zero, suc, ◌+◌, ◌-◌, ◌*◌, min, [], ◌∷◌, ◌++◌, take, get_or, arith, sym, ap}
-use Rattle.std.proofs.Common.{subst, ◌∙◌, true}
-use Rattle.std.specs.Prelude.{IsTrue}
-use Rattle.std.specs.Char.{is_ascii_digit, digit_value}
-use Rattle.std.specs.Str.Parse.{digits_value}
+use Rattle.std.proofs.Common.{◌≡◌, ℕ, zero, suc, ◌+◌, ◌-◌, ◌*◌, min, [], ◌∷◌, ◌++◌, take, get_or, arith, sym, ap, subst}
+use Rattle.std.proofs.Common.{◌∙◌, true}
 use Rattle.std.proofs.lemmas.List.{take_more}
 use Rattle.std.proofs.lemmas.List.Elements.{All-append}
+use Rattle.std.specs.{Prelude.IsTrue, Char.is_ascii_digit, Char.digit_value, Str.Parse.digits_value}
 use Rattle.httparse.proofs.ChunkLemmas.{digits_value_after_push}
 use Rattle.httparse.specs.Grammar.{AllPass}
 use Rattle.http_messages.specs.Asked.{max_body_length}

@@ -1,7 +1,6 @@
 -- The digits so far write the number, as far as the limit.
 use Rattle.std.proofs.Common.{◌≡◌, ◌+◌, min, take}
-use Rattle.std.specs.Char.{is_ascii_digit}
-use Rattle.std.specs.Str.Parse.{digits_value}
+use Rattle.std.specs.{Char.is_ascii_digit, Str.Parse.digits_value}
 use Rattle.httparse.specs.Grammar.{AllPass}
 use Rattle.http_messages.specs.Asked.{max_body_length}
 use Rattle.http_messages.proofs.asking.capped_content_length_of.Given as goal

@@ -1,6 +1,6 @@
 use Rattle.std.proofs.Common.{◌∙◌}
 use Rattle.std.proofs.lemmas.Result.{err_from_is_err_and}
-use Rattle.http_messages.proofs.HeadChecked.{asks_no_host, asks_no_path, asks_no_method, is_for}
+use Rattle.http_messages.proofs.HeadLaws.{asks_no_host, asks_no_path, asks_no_method, is_for}
 use Rattle.http_messages.proofs.asking.route_or_rejection_of_head.Goals as goal
 
 pub returns-in_err-check_host-clause-err : goal.returns-in_err-check_host-clause-err

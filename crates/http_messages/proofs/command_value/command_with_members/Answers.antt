@@ -1,14 +1,9 @@
 use Rattle.std.proofs.Common.{◌≡◌, Option, None, Some, IfSome, IfNone, sym, ap, subst, ◌∙◌}
-use Rattle.serde_json.specs.Data.{Members}
-use Rattle.serde_json.specs.View.{members_view}
-use Rattle.register_requests.specs.declared.command_fields.CommandKind.{CommandKind}
-use Rattle.register_requests.specs.declared.command_fields.Fields.{Fields}
-use Rattle.register_requests.specs.declared.command_fields.Shape.{Shape}
-use Rattle.register_requests.specs.declared.request.Command.{Command}
-use Rattle.register_requests.specs.CommandKind.{command_shape, kind_of}
-use Rattle.register_requests.specs.Fields.{command_with, fields_of}
-use Rattle.register_requests.specs.Within.Fields.{AreFieldsInRange}
-use Rattle.register_requests.specs.Request.{IsCommand}
+use Rattle.serde_json.specs.{Data.Members, View.members_view}
+use Rattle.register_requests.specs.{declared.command_fields.CommandKind.CommandKind, CommandKind.command_shape}
+use Rattle.register_requests.specs.{CommandKind.kind_of, Fields.command_with, Fields.fields_of}
+use Rattle.register_requests.specs.{declared.command_fields.Fields.Fields, declared.command_fields.Shape.Shape}
+use Rattle.register_requests.specs.{declared.request.Command.Command, Within.Fields.AreFieldsInRange, Request.IsCommand}
 use Rattle.register_requests.proofs.Commands.{made, has_shape, some_made, in_range_of, is_command}
 use Rattle.http_messages.specs.Within.CommandValue.{HasMembers, IsShaped}
 use Rattle.http_messages.proofs.command_value.command_with_members.Goals as goal

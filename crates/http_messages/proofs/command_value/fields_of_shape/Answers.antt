@@ -1,19 +1,15 @@
 use Rattle.std.proofs.Common.{◌≡◌, ◌≢◌, ℕ, Option}
 use Rattle.serde_json.specs.Data.{Data, Members}
-use Rattle.period_core.specs.declared.key_type.KeyType.{KeyType}
-use Rattle.period_core.specs.Period.{Period}
+use Rattle.period_core.specs.{declared.key_type.KeyType.KeyType, Period.Period}
 use Rattle.lifecycle_core.specs.declared.reason.Reason.{Reason}
-use Rattle.register_requests.specs.declared.command_fields.Fields.{Fields}
 use Rattle.register_requests.specs.declared.command_fields.Fields.TheVariants.{TypeAndPeriod, Registration, DateEdits}
 use Rattle.register_requests.specs.declared.command_fields.Fields.TheVariants.{Revocation}
-use Rattle.register_requests.specs.declared.command_fields.Shape.{Shape}
-use Rattle.register_requests.specs.declared.command_fields.Shape.TheVariants as shapes
-use Rattle.register_requests.specs.declared.request.Edit.{Edit}
 use Rattle.register_requests.specs.declared.request.Registration.{Registration as Registered}
-use Rattle.register_requests.specs.Within.Fields.{AreFieldsInRange}
-use Rattle.http_messages.specs.CommandValue.{fields_members}
-use Rattle.http_messages.specs.Within.CommandValue.{IsShaped}
-use Rattle.http_messages.proofs.InOrder.{none_then}
+use Rattle.register_requests.specs.{declared.command_fields.Fields.Fields, declared.command_fields.Shape.Shape}
+use Rattle.register_requests.specs.{declared.request.Edit.Edit, Within.Fields.AreFieldsInRange}
+use Rattle.register_requests.specs.declared.command_fields.Shape.TheVariants as shapes
+use Rattle.http_messages.specs.{CommandValue.fields_members, Within.CommandValue.IsShaped}
+use Rattle.http_messages.proofs.CommandValues.{none_then}
 use Rattle.http_messages.proofs.command_value.fields_of_shape.Goals as goal
 
 -- no fields of the shape have these members

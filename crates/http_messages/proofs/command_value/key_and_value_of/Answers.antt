@@ -1,6 +1,6 @@
 use Rattle.std.proofs.Common.{sym, ap, ◌∙◌}
 use Rattle.serde_json.specs.View.{view, members_view}
-use Rattle.http_messages.proofs.InOrder.{◌before◌}
+use Rattle.http_messages.proofs.CommandValues.{◌before◌}
 use Rattle.http_messages.proofs.command_value.key_and_value_of.Goals as goal
 
 pub returns-clause-found : goal.returns-clause-found

@@ -3,10 +3,9 @@ use Rattle.std.specs.Prelude.{codes}
 use Rattle.period_core.specs.KeyType.{key_type_text}
 use Rattle.register_requests.specs.declared.command_fields.Fields.TheVariants as fields
 use Rattle.register_requests.specs.declared.request.Registration.{Registration}
-use Rattle.serde_json.specs.Data.{Data, string}
-use Rattle.serde_json.specs.View.{view, members_view}
+use Rattle.serde_json.specs.{Data.Data, Data.string, View.view, View.members_view}
 use Rattle.http_messages.specs.CommandValue.{date_data, fields_members, members_of}
-use Rattle.http_messages.proofs.InOrder.{◌past◌, ◌before◌}
+use Rattle.http_messages.proofs.CommandValues.{◌past◌, ◌before◌}
 use Rattle.http_messages.proofs.command_value.registration_fields_of.Goals as goal
 
 pub returns-in_err-activation-clause-none : goal.returns-in_err-activation-clause-none

@@ -1,6 +1,6 @@
 use Rattle.std.proofs.Common.{refl, sym, ap, ◌∙◌}
 use Rattle.serde_json.specs.View.{view, members_view}
-use Rattle.http_messages.proofs.InOrder.{◌past◌, ◌before◌}
+use Rattle.http_messages.proofs.CommandValues.{◌past◌, ◌before◌}
 use Rattle.http_messages.proofs.command_value.type_and_period_fields_of.Goals as goal
 
 pub returns-in_err-originator-clause-none : goal.returns-in_err-originator-clause-none

@@ -1,8 +1,7 @@
 use Rattle.std.proofs.Common.{◌≡◌, List, map, take, ap, ◌∙◌, take_all, rules}
 use Rattle.serde_json.specs.Data.{Data, array, string}
-use Rattle.serde_json.specs.declared.value.Value.{the_lemmas}
+use Rattle.serde_json.specs.{declared.value.Value.the_lemmas, View.view, View.items_of}
 use Rattle.serde_json.specs.declared.value.Value.TheVariants as Value
-use Rattle.serde_json.specs.View.{view, items_of}
 use Rattle.http_messages.proofs.reply_text.names_value.Goals as goal
 
 pub returns : goal.returns

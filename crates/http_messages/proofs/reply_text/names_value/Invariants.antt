@@ -1,6 +1,5 @@
 use Rattle.std.proofs.Common.{◌≡◌, map, take}
-use Rattle.serde_json.specs.Data.{string}
-use Rattle.serde_json.specs.View.{view}
+use Rattle.serde_json.specs.{Data.string, View.view}
 use Rattle.http_messages.proofs.reply_text.names_value.Given as goal
 
 -- the values so far are the names so far

@@ -1,8 +1,6 @@
 use Rattle.std.proofs.Common.{◌∙◌, ap}
 use Rattle.std.proofs.lemmas.Result.{IfOk-weaker}
-use Rattle.http_messages.specs.AnswerText.{json_reply}
-use Rattle.http_messages.specs.AnswerValue.{refusal_data}
-use Rattle.http_messages.specs.HttpReply.{reply_bytes}
+use Rattle.http_messages.specs.{AnswerText.json_reply, AnswerValue.refusal_data, HttpReply.reply_bytes}
 use Rattle.http_messages.proofs.reply_text.refused_reply_text.Goals as goal
 
 pub returns : goal.returns

@@ -1,5 +1,5 @@
 use Rattle.std.proofs.Common.{◌≢◌, List, ℕ, ◌++◌, ap, ◌∙◌}
-use Rattle.http_messages.proofs.InOrder.{if_none, none_by, some_by}
+use Rattle.http_messages.proofs.CommandValues.{if_none, none_by, some_by}
 use Rattle.http_messages.proofs.Routing.{cut_prefix, prefix_joins, rest_is, back_joins, cut_back}
 use Rattle.http_messages.proofs.route.field_between.Goals as goal
 

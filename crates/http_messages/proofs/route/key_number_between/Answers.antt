@@ -1,9 +1,9 @@
 use Rattle.std.proofs.Common.{◌≡◌, ◌≢◌, ◌++◌, ℕ, sym, ap, ◌∙◌}
-use Rattle.std.specs.Prelude.{decimal}
 use Rattle.std.proofs.lemmas.List.{append_cancel_left, append_cancel_right}
 use Rattle.std.proofs.lemmas.Option.{IfSome_then}
+use Rattle.std.specs.Prelude.{decimal}
 use Rattle.register_requests.specs.Request.{IsKeyNumber}
-use Rattle.http_messages.proofs.InOrder.{if_none, none_then}
+use Rattle.http_messages.proofs.CommandValues.{if_none, none_then}
 use Rattle.http_messages.proofs.route.key_number_between.Goals as goal
 
 pub returns-in_err-field-clause-none : goal.returns-in_err-field-clause-none

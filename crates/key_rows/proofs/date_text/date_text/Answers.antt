@@ -1,6 +1,6 @@
 use Rattle.std.proofs.Common.{subst, sym}
-use Rattle.std.specs.Str.{IsAscii}
 use Rattle.std.proofs.lemmas.Str.{IsUtf8-from_ascii}
+use Rattle.std.specs.Str.{IsAscii}
 use Rattle.key_rows.proofs.Printable.{moment_ascii}
 use Rattle.key_rows.proofs.date_text.date_text.Goals as goal
 

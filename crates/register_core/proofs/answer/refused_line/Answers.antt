@@ -1,9 +1,8 @@
 use Rattle.std.proofs.Common.{◌≡◌, ℕ, ◌+◌, ◌≤◌, List, ◌++◌, length, ap, ◌∙◌, arith, length-append}
-use Rattle.std.specs.Prelude.{decimal}
 use Rattle.std.proofs.lemmas.Fmt.{length-decimal-le}
-use Rattle.register_core.specs.declared.reply.Refusal.{Refusal}
+use Rattle.std.specs.Prelude.{decimal}
 use Rattle.register_core.specs.declared.reply.Refusal.TheVariants.{ApprovalsMissing}
-use Rattle.register_core.specs.Reply.{refusal_number, refusal_name}
+use Rattle.register_core.specs.{declared.reply.Refusal.Refusal, Reply.refusal_number, Reply.refusal_name}
 use Rattle.register_core.proofs.answer.refused_line.Goals as goal
 
 -- This refusal's number has two digits, where `put_number` says only that a number has at most twenty, and its name

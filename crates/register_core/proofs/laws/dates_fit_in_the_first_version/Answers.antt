@@ -1,7 +1,6 @@
 use Rattle.register_requests.specs.declared.version.Version.TheVariants.{First}
 use Rattle.register_core.specs.History.{type}
-use Rattle.register_core.proofs.UnsetPeriods.{unset_fit}
-use Rattle.register_core.proofs.Versions.{lawful_still, no_period}
+use Rattle.register_core.proofs.{UnsetPeriods.unset_fit, Versions.lawful_still, Versions.no_period}
 use Rattle.register_core.proofs.laws.dates_fit_in_the_first_version.Goals as goal
 
 pub returns : goal.returns

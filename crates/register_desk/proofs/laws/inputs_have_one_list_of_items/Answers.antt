@@ -1,4 +1,4 @@
-use Rattle.register_desk.proofs.InputLemmas.{same_input}
+use Rattle.register_desk.proofs.LinesCut.{same_input}
 use Rattle.register_desk.proofs.laws.inputs_have_one_list_of_items.Goals as goal
 
 pub returns : goal.returns

@@ -1,9 +1,9 @@
-use Rattle.std.proofs.Common.{rules, refl, sym, ap, ◌∙◌, ℕ}
+use Rattle.std.proofs.Common.{rules, refl, ap, ◌∙◌, ℕ}
 use Rattle.moment_core.specs.Moment.{IsMoment}
 use Rattle.streams.specs.declared.watched.Watched.{Watched}
-use Rattle.register_http.proofs.ItemLemmas.{leaves_one, was_clean}
-use Rattle.register_http.proofs.ServingLemmas.{leaves_reader, sent_answer, sent_memory, sent_no_reply}
-use Rattle.register_http.proofs.ServingLemmas.{sent_nothing, served_after}
+use Rattle.register_desk.specs.declared.runs.Outcome.{Outcome}
+use Rattle.register_http.proofs.ServingLemmas.{leaves_one, was_clean, leaves_reader, sent_answer, sent_memory}
+use Rattle.register_http.proofs.ServingLemmas.{sent_no_reply, sent_nothing, served_after}
 use Rattle.register_http.proofs.exchanging.exchange.Goals.{in-Ok-Some, in-Err-Memory}
 use Rattle.register_http.proofs.exchanging.exchange.Goals as goal
 
@@ -39,18 +39,11 @@ returns-in-Ok-None-clause-clean g c =
 pub returns-in-Ok-None-clause-reader : goal.returns-in-Ok-None-clause-reader
 unfolding returns-in-Ok-None-clause-exchanges
 returns-in-Ok-None-clause-reader g c =
-    let read = c.read_asked-asking.ensures.read in
-    leaves_reader g.S.Store c.args.moment c.args.desk.now c.args.desk.now c.read_asked-asking.result.asked _ _
-    c.with_read.result (returns-in-Ok-None-clause-exchanges g c).serves g.R.Read.remaining c.args.reader.now
-    c.read_asked-asking.new.reader
-    (rw (c.with_read.ensures) (
-      read.0,
-      rw (sym (ap (λ (r : Watched g.row.R.Denot). g.R.Read.remaining r.inner) c.reset_turn_counts.ensures)) read.1,
-      sym read.2,
-    ))
-    (c.read_asked-asking.ensures.tells (ap (λ (r : Watched g.row.R.Denot). r.failed) c.reset_turn_counts.ensures
-    ∙ c.requires.reader))
-    c.read_asked-asking.ensures.fault (search rules)
+    let asked = c.read_asked-asking in
+    leaves_reader g.S.Store c.args.moment c.args.desk.now c.args.desk.now asked.result.asked _ _ c.with_read.result
+    (returns-in-Ok-None-clause-exchanges g c).serves g.R.Read.remaining c.args.reader.now _ asked.new.reader _
+    c.reset_turn_counts.ensures (ap (λ (o : Outcome). o.read) c.with_read.ensures) asked.ensures.read asked.ensures.tells c.requires.reader asked.ensures.fault
+    (search rules)
 
 pub returns-in-Ok-None-clause-writer : goal.returns-in-Ok-None-clause-writer
 returns-in-Ok-None-clause-writer g c = rw (c.with_read.ensures, c.ended_without_bytes.ensures) (search rules)
@@ -89,18 +82,11 @@ returns-in-Err-ReadFault-clause-clean g c =
 pub returns-in-Err-ReadFault-clause-reader : goal.returns-in-Err-ReadFault-clause-reader
 unfolding returns-in-Err-ReadFault-clause-exchanges
 returns-in-Err-ReadFault-clause-reader g c =
-    let read = c.read_asked-asking.ensures.read in
-    leaves_reader g.S.Store c.args.moment c.args.desk.now c.args.desk.now c.read_asked-asking.result.asked _ _
-    c.with_read-in-Err-ReadFault.result (returns-in-Err-ReadFault-clause-exchanges g c).serves g.R.Read.remaining
-    c.args.reader.now c.read_asked-asking.new.reader
-    (rw (c.with_read-in-Err-ReadFault.ensures) (
-      read.0,
-      rw (sym (ap (λ (r : Watched g.row.R.Denot). g.R.Read.remaining r.inner) c.reset_turn_counts.ensures)) read.1,
-      sym read.2,
-    ))
-    (c.read_asked-asking.ensures.tells (ap (λ (r : Watched g.row.R.Denot). r.failed) c.reset_turn_counts.ensures
-    ∙ c.requires.reader))
-    c.read_asked-asking.ensures.fault (search rules)
+    let asked = c.read_asked-asking in
+    leaves_reader g.S.Store c.args.moment c.args.desk.now c.args.desk.now asked.result.asked _ _ c.with_read-in-Err-ReadFault.result
+    (returns-in-Err-ReadFault-clause-exchanges g c).serves g.R.Read.remaining c.args.reader.now _ asked.new.reader _
+    c.reset_turn_counts.ensures (ap (λ (o : Outcome). o.read) c.with_read-in-Err-ReadFault.ensures) asked.ensures.read asked.ensures.tells c.requires.reader asked.ensures.fault
+    (search rules)
 
 pub returns-in-Err-ReadFault-clause-writer : goal.returns-in-Err-ReadFault-clause-writer
 returns-in-Err-ReadFault-clause-writer g c =
@@ -145,18 +131,11 @@ returns-clause-clean g c =
 pub returns-clause-reader : goal.returns-clause-reader
 unfolding returns-clause-exchanges
 returns-clause-reader g c =
-    let read = c.read_asked-asking.ensures.read in
-    leaves_reader g.S.Store c.args.moment c.args.desk.now c.match-asking.desk c.read_asked-asking.result.asked _ _
-    c.send_reply.result (returns-clause-exchanges g c).serves g.R.Read.remaining c.args.reader.now
-    c.read_asked-asking.new.reader
-    (rw (c.send_reply.ensures.read) (
-      read.0,
-      rw (sym (ap (λ (r : Watched g.row.R.Denot). g.R.Read.remaining r.inner) c.reset_turn_counts.ensures)) read.1,
-      sym read.2,
-    ))
-    (c.read_asked-asking.ensures.tells (ap (λ (r : Watched g.row.R.Denot). r.failed) c.reset_turn_counts.ensures
-    ∙ c.requires.reader))
-    c.read_asked-asking.ensures.fault (search rules)
+    let asked = c.read_asked-asking in
+    leaves_reader g.S.Store c.args.moment c.args.desk.now c.match-asking.desk asked.result.asked _ _ c.send_reply.result
+    (returns-clause-exchanges g c).serves g.R.Read.remaining c.args.reader.now _ asked.new.reader _
+    c.reset_turn_counts.ensures c.send_reply.ensures.read asked.ensures.read asked.ensures.tells c.requires.reader asked.ensures.fault
+    (search rules)
 
 pub returns-clause-writer : goal.returns-clause-writer
 returns-clause-writer g c = search rules

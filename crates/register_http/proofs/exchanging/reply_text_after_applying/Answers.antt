@@ -1,9 +1,7 @@
 use Rattle.std.proofs.Common.{Err, Some, [], inl, ◌∷◌, refl, sym, subst, ap, ◌∙◌}
 use Rattle.std.proofs.lemmas.Result.{err_from_is_err_and}
-use Rattle.register_core.specs.Answer.{outcome}
-use Rattle.register_core.specs.Fold.{history}
+use Rattle.register_core.specs.{Answer.outcome, Fold.history, Verdict.answer}
 use Rattle.register_requests.specs.Request.{IsRequest}
-use Rattle.register_core.specs.Verdict.{answer}
 use Rattle.register_http.proofs.ActingLemmas.{changes_answered, went_applied, acts_text, applied_ends, outcome_told}
 use Rattle.register_http.proofs.exchanging.reply_text_after_applying.Goals as goal
 

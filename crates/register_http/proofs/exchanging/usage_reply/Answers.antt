@@ -8,8 +8,8 @@ pub returns-in-Some-clause-acts : goal.returns-in-Some-clause-acts
 returns-in-Some-clause-acts g c = λ moment.
     acts_text _ moment _ _ _ c.usage_reply_text.result c.text_or_end.result
     (went_reading _ moment _ _ _ (record { same = λ h. refl; uses = refl; asks = λ rejection is. absurd (cc) })
-    c.in_ok-usage.ensures.ends c.in_ok-usage.ensures.reads)
-    (inl c.in_ok-usage.ensures.reads)
+    c.in_ok-usage.ensures.asks.ends c.in_ok-usage.ensures.asks.reads)
+    (inl c.in_ok-usage.ensures.asks.reads)
     (λ rejection is. absurd (cc))
     (λ h stands clean. found_text usage_reply (Some _) _ c.usage_reply_text.result (sym c.in-Some.is
     ∙ c.in_ok-usage.ensures.used h stands clean) c.usage_reply_text.ensures)
@@ -19,8 +19,8 @@ pub returns-in-None-clause-acts : goal.returns-in-None-clause-acts
 returns-in-None-clause-acts g c = λ moment.
     acts_text _ moment _ _ _ c.unknown_key_text.result c.text_or_end-in-None.result
     (went_reading _ moment _ _ _ (record { same = λ h. refl; uses = refl; asks = λ rejection is. absurd (cc) })
-    c.in_ok-usage.ensures.ends c.in_ok-usage.ensures.reads)
-    (inl c.in_ok-usage.ensures.reads)
+    c.in_ok-usage.ensures.asks.ends c.in_ok-usage.ensures.asks.reads)
+    (inl c.in_ok-usage.ensures.asks.reads)
     (λ rejection is. absurd (cc))
     (λ h stands clean. found_text usage_reply (None) _ c.unknown_key_text.result (sym c.in-None.is
     ∙ c.in_ok-usage.ensures.used h stands clean) c.unknown_key_text.ensures)
@@ -30,5 +30,5 @@ pub returns-in_err-usage-clause-acts : goal.returns-in_err-usage-clause-acts
 returns-in_err-usage-clause-acts g c = λ moment.
     let ended = err_from_is_err_and c.from_residual.result c.from_residual.ensures.1 in
     question_ends _ moment _ _ _ c.in_err-usage.field-0.0 _
-    (record { same = λ h. refl; uses = refl; asks = λ rejection is. absurd (cc) }) c.in_err-usage.ensures.ends
-    c.in_err-usage.ensures.reads (ended.1 ∙ ap Err ended.2)
+    (record { same = λ h. refl; uses = refl; asks = λ rejection is. absurd (cc) }) c.in_err-usage.ensures.asks.ends
+    c.in_err-usage.ensures.asks.reads (ended.1 ∙ ap Err ended.2)

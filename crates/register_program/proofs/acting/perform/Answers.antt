@@ -14,18 +14,18 @@ returns-in-Run-clause-performs g c =
       untouched (λ w. g.W.Write.contents w.inner) _ _ _ c.run_file.ensures.untouched,
     )
 
-pub returns-in-Import-clause-performs : goal.returns-in-Import-clause-performs
-returns-in-Import-clause-performs g c =
-    performs_as _ _ _ _ _ _ _ _ c.args.job.now (Import c.in-Import.terms) c.in-Import.is (
-      c.import_file.ensures.imports,
-      untouched (λ w. g.W.Write.contents w.inner) _ _ _ c.import_file.ensures.untouched,
-    )
-
 pub returns-in-Export-clause-performs : goal.returns-in-Export-clause-performs
 returns-in-Export-clause-performs g c =
     performs_as _ _ _ _ _ _ _ _ c.args.job.now Export c.in-Export.is (
       c.export_file.ensures.exports,
       untouched (λ w. g.W.Write.contents w.inner) _ _ _ c.export_file.ensures.untouched,
+    )
+
+pub returns-in-Import-clause-performs : goal.returns-in-Import-clause-performs
+returns-in-Import-clause-performs g c =
+    performs_as _ _ _ _ _ _ _ _ c.args.job.now (Import c.in-Import.terms) c.in-Import.is (
+      c.import_file.ensures.imports,
+      untouched (λ w. g.W.Write.contents w.inner) _ _ _ c.import_file.ensures.untouched,
     )
 
 pub returns-in-Report-clause-performs : goal.returns-in-Report-clause-performs
@@ -44,15 +44,15 @@ pub returns-in-Run-clause-ends : goal.returns-in-Run-clause-ends
 returns-in-Run-clause-ends g c =
     ends_so _ _ _ _ _ _ c.args.job.now Run c.in-Run.is (λ life. life.outcome) c.run_file.result c.run_file.ensures.ends
 
-pub returns-in-Import-clause-ends : goal.returns-in-Import-clause-ends
-returns-in-Import-clause-ends g c =
-    ends_so _ _ _ _ _ _ c.args.job.now (Import c.in-Import.terms) c.in-Import.is (λ life. life.outcome)
-    c.import_file.result c.import_file.ensures.ends
-
 pub returns-in-Export-clause-ends : goal.returns-in-Export-clause-ends
 returns-in-Export-clause-ends g c =
     ends_so _ _ _ _ _ _ c.args.job.now Export c.in-Export.is (λ life. life.outcome) c.export_file.result
     c.export_file.ensures.ends
+
+pub returns-in-Import-clause-ends : goal.returns-in-Import-clause-ends
+returns-in-Import-clause-ends g c =
+    ends_so _ _ _ _ _ _ c.args.job.now (Import c.in-Import.terms) c.in-Import.is (λ life. life.outcome)
+    c.import_file.result c.import_file.ensures.ends
 
 pub returns-in-Report-clause-ends : goal.returns-in-Report-clause-ends
 returns-in-Report-clause-ends g c =
@@ -68,13 +68,13 @@ pub returns-in-Run-clause-desk : goal.returns-in-Run-clause-desk
 returns-in-Run-clause-desk g c =
     breaks_so c.args.job.now Run c.in-Run.is c.run_file.result c.run_file.ensures.desk
 
-pub returns-in-Import-clause-desk : goal.returns-in-Import-clause-desk
-returns-in-Import-clause-desk g c =
-    breaks_so c.args.job.now (Import c.in-Import.terms) c.in-Import.is c.import_file.result c.import_file.ensures.desk
-
 pub returns-in-Export-clause-desk : goal.returns-in-Export-clause-desk
 returns-in-Export-clause-desk g c =
     breaks_so c.args.job.now Export c.in-Export.is c.export_file.result c.export_file.ensures.desk
+
+pub returns-in-Import-clause-desk : goal.returns-in-Import-clause-desk
+returns-in-Import-clause-desk g c =
+    breaks_so c.args.job.now (Import c.in-Import.terms) c.in-Import.is c.import_file.result c.import_file.ensures.desk
 
 pub returns-in-Report-clause-desk : goal.returns-in-Report-clause-desk
 returns-in-Report-clause-desk g c =

@@ -1,13 +1,10 @@
 use Rattle.std.proofs.Common.{List, Result, Ok, Err}
 use Rattle.sqlite_trees.specs.declared.store.Store.{Ghosts}
 use Rattle.register_requests.specs.declared.request.Request.{Request}
-use Rattle.register_desk.specs.declared.desk.Desk.{Desk}
-use Rattle.register_desk.specs.Desk.{connection_of}
-use Rattle.register_desk.specs.Lives.{after_lives}
+use Rattle.register_desk.specs.{declared.desk.Desk.Desk, Desk.connection_of, Lives.after_lives}
 use Rattle.sqlite.specs.Held.{state}
 use Rattle.register_desk.proofs.Found.{keeps_history}
-use Rattle.register_program.specs.declared.refused.Refused.{Refused}
-use Rattle.register_program.specs.Opening.{FindsHistory, OpensAs}
+use Rattle.register_program.specs.{declared.refused.Refused.Refused, Opening.FindsHistory, Opening.OpensAs}
 use Rattle.register_program.proofs.laws.openings_find_lives.Goals as goal
 
 -- a desk that stands for a history is the desk of it

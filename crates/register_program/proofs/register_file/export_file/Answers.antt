@@ -1,7 +1,5 @@
-use Rattle.register_desk.proofs.Found.{leaves_still}
-use Rattle.register_program.proofs.Breaking.{breaks_none}
-use Rattle.register_program.proofs.Living.{exports_none}
-use Rattle.register_program.proofs.OfDesk.{of_desk}
+use Rattle.register_program.proofs.Acts.{breaks_none}
+use Rattle.register_program.proofs.Living.{asked_leaves, exports_none, opens_asked, of_desk}
 use Rattle.register_program.proofs.register_file.export_file.Goals as goal
 
 pub returns-clause-exports : goal.returns-clause-exports
@@ -12,15 +10,10 @@ returns-clause-exports g c = record {
       let stands = c.in_ok-desk.ensures.stands h lawful holds (alone.clean after) in
       of_desk (c.close_desk-files.ensures.closes clean) (λ may leaves. record {
         writes = c.export-outcome.ensures.agrees h stands after;
-        leaves = leaves.one_of h h (leaves_still g.F.Opened.Store h c.in_ok-desk.desk
-            c.export-outcome.new.desk alone stands c.in_ok-desk.ensures.whole after);
+        leaves = asked_leaves alone stands c.in_ok-desk.ensures.whole after leaves;
       });
-  opens = record {
-    nothing = λ none clean.
-        c.in_ok-desk.ensures.nothing none
-        (c.export-outcome.ensures.alone.reads.clean (c.close_desk-files.ensures.clean clean));
-    refuses = tt;
-  };
+  opens = opens_asked c.in_ok-desk.desk c.export-outcome.new.desk c.in_ok-desk.ensures.nothing c.export-outcome.ensures.alone.reads.clean
+      c.close_desk-files.ensures.clean;
 }
 
 pub export-outcome-requires : goal.export-outcome-requires

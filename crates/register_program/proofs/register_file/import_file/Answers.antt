@@ -2,9 +2,8 @@ use Rattle.std.proofs.Common.{[], ap, refl}
 use Rattle.register_desk.proofs.Found.{leaves_alone}
 use Rattle.register_desk.specs.Desk.{LeavesEither}
 use Rattle.register_report.specs.ImportRows.{HasRowItems}
-use Rattle.register_program.proofs.Breaking.{breaks_as}
-use Rattle.register_program.proofs.OfDesk.{of_desk}
-use Rattle.register_program.proofs.Living.{fault_leaves, imports_none, lives_anyway}
+use Rattle.register_program.proofs.Living.{fault_leaves, imports_none, lives_anyway, of_desk}
+use Rattle.register_program.proofs.Acts.{breaks_as}
 use Rattle.register_program.proofs.register_file.import_file.Goals as goal
 
 pub returns-clause-imports : goal.returns-clause-imports

@@ -1,8 +1,7 @@
 use Rattle.std.proofs.Common.{[], arith, refl}
 use Rattle.register_desk.specs.OpenRefusal.{connection_in, refusal_in}
 use Rattle.register_desk.proofs.Found.{finds_nothing, leaves_alone, shows_table}
-use Rattle.register_program.proofs.OfDesk.{of_desk}
-use Rattle.register_program.proofs.Refusing.{made_closed, made_none, refuses_making}
+use Rattle.register_program.proofs.{Living.of_desk, Refusing.made_closed, Refusing.made_none, Refusing.refuses_making}
 use Rattle.register_program.proofs.register_file.init_file.Goals as goal
 
 pub returns : goal.returns

@@ -1,6 +1,5 @@
-use Rattle.register_program.proofs.Breaking.{breaks_as}
-use Rattle.register_program.proofs.OfDesk.{of_desk}
-use Rattle.register_program.proofs.Living.{fault_leaves, lives_anyway, runs_none}
+use Rattle.register_program.proofs.Living.{fault_leaves, lives_anyway, runs_none, of_desk}
+use Rattle.register_program.proofs.Acts.{breaks_as}
 use Rattle.register_program.proofs.register_file.run_file.Goals as goal
 
 pub returns-clause-runs : goal.returns-clause-runs

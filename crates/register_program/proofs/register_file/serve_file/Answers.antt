@@ -1,8 +1,6 @@
 use Rattle.std.proofs.Common.{◌++◌}
 use Rattle.register_core.specs.Fold.{history}
-use Rattle.register_program.proofs.Breaking.{breaks_as}
-use Rattle.register_program.proofs.Living.{serves_none}
-use Rattle.register_program.proofs.OfDesk.{of_desk}
+use Rattle.register_program.proofs.{Acts.breaks_as, Living.opens_asked, Living.serves_none, Living.of_desk}
 use Rattle.register_program.proofs.register_file.serve_file.Goals as goal
 
 pub returns-clause-serves : goal.returns-clause-serves
@@ -22,11 +20,7 @@ returns-clause-serves g c =
             leaves = leaves.one_of (history h some.items) (history h (some.items ++ some.next)) some.leaves;
           });
       ends = serve.ensures.ends;
-      opens = record {
-        nothing = λ none clean.
-            c.in_ok-desk.ensures.nothing none (serve.ensures.clean (c.close_desk-files.ensures.clean clean));
-        refuses = tt;
-      };
+      opens = opens_asked c.in_ok-desk.desk serve.new.desk c.in_ok-desk.ensures.nothing serve.ensures.clean c.close_desk-files.ensures.clean;
     })
 
 pub returns-in_err-desk-clause-serves : goal.returns-in_err-desk-clause-serves

@@ -1,6 +1,6 @@
 use Rattle.std.proofs.Common.{rules}
 use Rattle.register_program.proofs.Served.{leaves_at_fault, served_nothing}
-use Rattle.register_desk.proofs.Goings.{still}
+use Rattle.register_desk.proofs.Lived.{still}
 use Rattle.register_program.proofs.serving.serve_at.Goals as goal
 
 pub returns-in_default : goal.returns-in_default

@@ -1,8 +1,8 @@
 use Rattle.std.proofs.Common.{ℕ, ◌+◌, ◌≤◌, ◌∙◌, ap, arith, refl, rules, sym}
 use Rattle.register_program.specs.declared.attendance.Attendance.{Attendance}
 use Rattle.register_program.proofs.Served.{ends_serving, explains_end, not_store, served_none, served_next, served_all}
-use Rattle.register_program.proofs.Served.{served_last, goes_on_by, leaves_at_end, leaves_at_fault, leaves_by}
-use Rattle.register_desk.proofs.Goings.{still}
+use Rattle.register_program.proofs.Served.{served_last, served_to_fault, goes_on_by, leaves_at_end, leaves_by}
+use Rattle.register_desk.proofs.Lived.{still}
 use Rattle.register_program.proofs.serving.serve_on.Goals as goal
 
 pub exchanges-init : goal.exchanges-init
@@ -37,24 +37,14 @@ exchanges-preserved g c = record {
 }
 
 pub returns-in_default : goal.returns-in_default
-returns-in_default g c = record {
-  leaves = λ h stands whole clean. served_all g.S.Store h c.exchanges.served c.args.exchanges c.exchanges.desk
-      (c.exchanges.invariant.so_far h stands whole clean) c.exchanges.invariant.within clean;
-  clean = c.exchanges.invariant.clean;
-  ends = tt;
-  cause = search rules;
-  desk = leaves_at_fault _ _ c.exchanges.desk c.exchanges.invariant.goes_on;
-}
+returns-in_default g c =
+    let so = c.exchanges.invariant in
+    served_to_fault g.S.Store _ _ _ _ _ so.so_far so.within so.clean so.goes_on (search rules)
 
 pub returns-in_default-tell_moment : goal.returns-in_default-tell_moment
-returns-in_default-tell_moment g c = record {
-  leaves = λ h stands whole clean. served_all g.S.Store h c.exchanges.served c.args.exchanges c.exchanges.desk
-      (c.exchanges.invariant.so_far h stands whole clean) c.exchanges.invariant.within clean;
-  clean = c.exchanges.invariant.clean;
-  ends = tt;
-  cause = search rules;
-  desk = leaves_at_fault _ _ c.exchanges.desk c.exchanges.invariant.goes_on;
-}
+returns-in_default-tell_moment g c =
+    let so = c.exchanges.invariant in
+    served_to_fault g.S.Store _ _ _ _ _ so.so_far so.within so.clean so.goes_on (search rules)
 
 pub returns-then-not-may_serve_on : goal.returns-then-not-may_serve_on
 returns-then-not-may_serve_on g c =

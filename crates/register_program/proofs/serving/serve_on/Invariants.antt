@@ -1,8 +1,7 @@
 -- After each exchange the desk is whole and of some items more.
 use Rattle.std.proofs.Common.{◌≡◌, ◌-◌, ◌≤◌, List, false}
 use Rattle.register_requests.specs.declared.request.Request.{Request}
-use Rattle.register_desk.specs.Desk.{GoesOn, IsClean, IsWhole}
-use Rattle.register_desk.specs.Register.{StandsFor}
+use Rattle.register_desk.specs.{Desk.GoesOn, Desk.IsClean, Desk.IsWhole, Register.StandsFor}
 use Rattle.register_program.specs.Within.ServedExchanges.{StandsForSome}
 use Rattle.register_program.proofs.serving.serve_on.Given as goal
 

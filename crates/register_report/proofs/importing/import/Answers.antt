@@ -1,7 +1,6 @@
 use Rattle.std.proofs.Common.{◌∙◌, List, ℕ, Option, ap, inl, inr, subst}
-use Rattle.register_desk.specs.declared.end.End.TheVariants.{Memory}
 use Rattle.register_desk.specs.declared.runs.Finish.TheVariants.{Ended}
-use Rattle.register_desk.specs.Lives.{DeskLives}
+use Rattle.register_desk.specs.{declared.end.End.TheVariants.Memory, Lives.DeskLives}
 use Rattle.register_desk.proofs.Serving.{leaves_from}
 use Rattle.register_report.proofs.Retold.{counts_retold, desk_retold, lives_retold, table_of, table_retold}
 use Rattle.register_report.proofs.Retold.{writer_retold}

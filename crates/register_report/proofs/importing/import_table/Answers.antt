@@ -1,18 +1,14 @@
 use Rattle.std.proofs.Common.{◌≡◌, ◌∙◌, ℕ, List, [], ap, arith, inl, inr, refl, rules, subst, sym}
 use Rattle.std.specs.Prelude as Std
 use Rattle.csv.specs.Reading.{default_config, reader_config}
-use Rattle.register_desk.specs.declared.end.End.{End}
-use Rattle.register_desk.specs.declared.end.End.TheVariants.{ReadFault}
-use Rattle.register_desk.specs.declared.runs.Finish.TheVariants.{Ended}
-use Rattle.register_desk.specs.declared.runs.Outcome.{Outcome}
-use Rattle.register_report.specs.Import.{StopsAtRecord}
-use Rattle.register_report.specs.declared.importing.Rows.{Rows}
+use Rattle.register_desk.specs.{declared.end.End.End, declared.end.End.TheVariants.ReadFault}
+use Rattle.register_desk.specs.{declared.runs.Finish.TheVariants.Ended, declared.runs.Outcome.Outcome}
 use Rattle.register_report.specs.ImportRows.{AreRowItems, AreTexts}
-use Rattle.register_report.specs.Within.TableRows.{LacksHeader}
+use Rattle.register_report.specs.{Import.StopsAtRecord, declared.importing.Rows.Rows, Within.TableRows.LacksHeader}
 use Rattle.register_desk.proofs.Serving.{clean_so, lives_so, no_header_so, runs_so, wrote_begin}
-use Rattle.register_report.proofs.HeaderLemmas.{begins_so, no_header, no_header_ends, no_header_leaves, no_header_lives}
-use Rattle.register_report.proofs.HeaderLemmas.{no_header_runs, no_header_sound, reads_input, rows_after, stops_first}
-use Rattle.register_report.proofs.HeaderLemmas.{stops_next}
+use Rattle.register_report.proofs.RowsLemmas.{begins_so, no_header, no_header_ends, no_header_leaves, no_header_lives}
+use Rattle.register_report.proofs.RowsLemmas.{no_header_runs, no_header_sound, reads_input, rows_after, stops_first}
+use Rattle.register_report.proofs.RowsLemmas.{stops_next}
 use Rattle.register_report.proofs.RowsCut.{answered_rows, no_rest_so, read_fault_so, rows_ahead, rows_none, texts_so}
 use Rattle.register_report.proofs.importing.import_table.Goals as goal
 

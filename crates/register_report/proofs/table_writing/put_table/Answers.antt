@@ -3,8 +3,8 @@ use Rattle.register_desk.specs.declared.end.End.{End}
 use Rattle.register_desk.specs.declared.end.End.TheVariants.{Memory, WriteFault}
 use Rattle.register_report.specs.Within.KeyTable.{foot_text, head_text}
 use Rattle.register_report.proofs.TextLemmas.{text_same, value_so}
-use Rattle.register_report.proofs.TableWritten.{no_foot, no_head, part_of_head, part_of_rows}
-use Rattle.register_report.proofs.TableWritten.{table_passed_on, with_foot}
+use Rattle.register_report.proofs.TableWritten.{no_foot, no_head, part_of_head, part_of_rows, table_passed_on}
+use Rattle.register_report.proofs.TableWritten.{with_foot}
 use Rattle.register_report.proofs.table_writing.put_table.Goals as goal
 
 -- want of memory is no fault of a writer

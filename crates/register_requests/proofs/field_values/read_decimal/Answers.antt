@@ -1,10 +1,9 @@
 -- Each number's text is UTF-8, parse reads it as the number, and it is what is written of the number.
 use Rattle.std.proofs.Common.{◌≡◌, ℕ, ◌<◌, ◌^◌, true, false, List, Ok, sym, ap, ◌∙◌}
-use Rattle.std.specs.Prelude.{IsUtf8, decimal}
-use Rattle.std.specs.Str.{bytes_eq}
 use Rattle.std.proofs.lemmas.Str.{IsUtf8-from_ascii}
 use Rattle.std.proofs.lemmas.Fmt.{IsAscii-decimal, parse-decimal}
 use Rattle.std.proofs.lemmas.Slice.Eq.{bytes_eq-Decides}
+use Rattle.std.specs.{Prelude.IsUtf8, Prelude.decimal, Str.bytes_eq}
 use Rattle.register_requests.proofs.field_values.read_decimal.Goals as goal
 
 utf8_from_decimal : (n : ℕ) (field : List ℕ) → n < 2 ^ 64 → field ≡ decimal n → IsUtf8 field

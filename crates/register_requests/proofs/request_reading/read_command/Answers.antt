@@ -1,7 +1,6 @@
 use Rattle.std.proofs.Common.{None}
 use Rattle.register_requests.specs.CommandKind.{command_kind_text}
-use Rattle.register_requests.proofs.FieldTexts.{any_stands}
-use Rattle.register_requests.proofs.Lines.{no_kind, no_fields_of, command_made}
+use Rattle.register_requests.proofs.{FieldTexts.any_stands, Lines.no_kind, Lines.no_fields_of, Lines.command_made}
 use Rattle.register_requests.proofs.request_reading.read_command.Goals as goal
 
 pub returns-in_err-kind : goal.returns-in_err-kind

@@ -1,6 +1,5 @@
 use Rattle.std.proofs.Common.{None}
-use Rattle.register_requests.proofs.Texts.{made_stands}
-use Rattle.register_requests.proofs.Lines.{date_edits}
+use Rattle.register_requests.proofs.{Texts.made_stands, Lines.date_edits}
 use Rattle.register_requests.proofs.request_reading.read_date_edits.Goals as goal
 
 pub returns-in_err-key : goal.returns-in_err-key

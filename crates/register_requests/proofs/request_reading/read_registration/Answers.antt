@@ -1,6 +1,5 @@
 use Rattle.std.proofs.Common.{None}
-use Rattle.register_requests.proofs.Texts.{made_stands}
-use Rattle.register_requests.proofs.Lines.{registration}
+use Rattle.register_requests.proofs.{Texts.made_stands, Lines.registration}
 use Rattle.register_requests.proofs.request_reading.read_registration.Goals as goal
 
 pub returns-in_err-kind : goal.returns-in_err-kind

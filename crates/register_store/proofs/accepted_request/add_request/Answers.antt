@@ -1,7 +1,6 @@
 use Rattle.std.proofs.Common.{rules, arith, refl}
 use Rattle.register_store.specs.Tables.{request_cells}
-use Rattle.register_store.proofs.RequestAdded.{insert_text, adds_request}
-use Rattle.register_store.proofs.Wrote.{ran}
+use Rattle.register_store.proofs.{RequestAdded.insert_text, RequestAdded.adds_request, Wrote.ran}
 use Rattle.register_store.proofs.accepted_request.add_request.Goals as goal
 
 pub returns : goal.returns

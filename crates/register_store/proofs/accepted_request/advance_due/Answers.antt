@@ -4,10 +4,8 @@ use Rattle.sql_steps.specs.Within.Steps.{Then}
 use Rattle.sql_steps.proofs.Stepping.{stays, steps_then, steps_weaker}
 use Rattle.register_store.specs.declared.accepted_request.DueDate.TheVariants.{Activation, Deactivation}
 use Rattle.register_store.specs.TableChanges.{Makes, AreRightAt, with_keys_advanced}
-use Rattle.register_store.specs.Within.TableChanges.{Always}
-use Rattle.register_store.specs.Within.Due.{moved_on, with_each}
-use Rattle.register_store.proofs.DueStates.{moves_all, none_moves}
-use Rattle.register_store.proofs.Wrote.{wrote}
+use Rattle.register_store.specs.{Within.TableChanges.Always, Within.Due.moved_on, Within.Due.with_each}
+use Rattle.register_store.proofs.{DueStates.moves_all, DueStates.none_moves, Wrote.wrote}
 use Rattle.register_store.proofs.accepted_request.advance_due.Goals as goal
 
 pub returns : goal.returns

@@ -1,7 +1,6 @@
 use Rattle.std.proofs.Common.{rules, arith}
 use Rattle.register_store.specs.Within.Due.{update_text}
-use Rattle.register_store.proofs.DueChange.{params, moves}
-use Rattle.register_store.proofs.Wrote.{ran}
+use Rattle.register_store.proofs.{DueChange.params, DueChange.moves, Wrote.ran}
 use Rattle.register_store.proofs.accepted_request.advance_keys_by_date.Goals as goal
 
 pub returns : goal.returns

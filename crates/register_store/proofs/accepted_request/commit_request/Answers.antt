@@ -1,7 +1,6 @@
 use Rattle.sql_steps.proofs.Stepping.{fails_as, transacts_as}
 use Rattle.register_store.specs.AcceptedRequest.{CanTake, with_request}
-use Rattle.register_store.specs.TableChanges.{Makes}
-use Rattle.register_store.specs.TableReads.{seen}
+use Rattle.register_store.specs.{TableChanges.Makes, TableReads.seen}
 use Rattle.register_store.proofs.accepted_request.commit_request.Goals as goal
 use Rattle.std.proofs.Common.{arith}
 

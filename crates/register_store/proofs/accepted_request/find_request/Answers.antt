@@ -1,6 +1,5 @@
 use Rattle.std.proofs.Common.{rules}
-use Rattle.register_store.proofs.AnswersRead.{reads_one}
-use Rattle.register_store.proofs.RequestFound.{request_read}
+use Rattle.register_store.proofs.RowFound.{reads_one, request_read}
 use Rattle.register_store.proofs.accepted_request.find_request.Goals as goal
 
 pub returns-clause-reads : goal.returns-clause-reads

@@ -1,6 +1,5 @@
 use Rattle.std.proofs.Common.{◌≡◌, false, sym, ap, ◌∙◌, arith}
-use Rattle.register_core.specs.declared.kept_reply.KeptReply.{KeptReply}
-use Rattle.register_core.specs.KeptReply.{fits_its_command}
+use Rattle.register_core.specs.{declared.kept_reply.KeptReply.KeptReply, KeptReply.fits_its_command}
 use Rattle.register_store.specs.TableReads.{HasCellsOf}
 use Rattle.register_store.proofs.Decoding.{same_request}
 use Rattle.register_store.proofs.accepted_request.kept_reply_in.Goals as goal

@@ -4,8 +4,7 @@ use Rattle.sql_steps.proofs.Stepping.{steps_then, steps_weaker}
 use Rattle.register_core.specs.KeptReply.{IsKeptReply}
 use Rattle.register_store.specs.TableChanges.{Makes, with_recorded}
 use Rattle.register_store.specs.Within.TableChanges.{Always, with_counts, with_kept}
-use Rattle.register_store.proofs.RequestAdded.{both_made}
-use Rattle.register_store.proofs.Wrote.{wrote}
+use Rattle.register_store.proofs.{RequestAdded.both_made, Wrote.wrote}
 use Rattle.register_store.proofs.accepted_request.record_request.Goals as goal
 
 pub returns : goal.returns

@@ -1,6 +1,5 @@
 use Rattle.std.proofs.Common.{rules, arith, refl}
-use Rattle.register_store.proofs.CountsRow.{counts_text, params, records}
-use Rattle.register_store.proofs.Wrote.{ran}
+use Rattle.register_store.proofs.{CountsRow.counts_text, CountsRow.params, CountsRow.records, Wrote.ran}
 use Rattle.register_store.proofs.accepted_request.set_latest_and_key_count.Goals as goal
 
 pub returns : goal.returns

@@ -1,12 +1,10 @@
 use Rattle.std.proofs.Common.{◌≡◌, ◌+◌, length, sym, subst, arith, rules}
-use Rattle.sql_steps.specs.Steps.{StepsBy}
-use Rattle.sql_steps.specs.Within.Steps.{Then}
+use Rattle.sql_steps.specs.{Steps.StepsBy, Within.Steps.Then}
 use Rattle.sql_steps.proofs.Stepping.{steps_then, steps_weaker}
 use Rattle.register_core.specs.declared.change.Change.{Change}
 use Rattle.register_core.specs.declared.change.Change.TheVariants.{Held, Made}
-use Rattle.register_store.specs.Change.{with_change, with_custody}
 use Rattle.register_store.specs.TableChanges.{Makes, HasKeys, with_owner_and_row, with_key, with_key_at}
-use Rattle.register_store.specs.Within.TableChanges.{Always}
+use Rattle.register_store.specs.{Change.with_change, Change.with_custody, Within.TableChanges.Always}
 use Rattle.register_store.proofs.Wrote.{wrote}
 use Rattle.register_store.proofs.accepted_request.write_change.Goals as goal
 

@@ -1,13 +1,10 @@
 use Rattle.std.proofs.Common.{◌≡◌, ◌≤◌, ℕ, Result, Ok, refl, arith}
 use Rattle.sqlite.specs.State.{State}
 use Rattle.register_core.specs.declared.change.CustodyChange.{CustodyChange}
-use Rattle.sql_steps.proofs.Stepping.{stays}
 use Rattle.register_core.specs.declared.change.CustodyChange.TheVariants.{Kept}
-use Rattle.register_store.specs.Change.{with_custody}
-use Rattle.register_store.specs.declared.counted.StepCount.{StepCount}
-use Rattle.register_store.specs.Within.StepCount.{WritesInside}
-use Rattle.register_store.specs.TableChanges.{Makes}
-use Rattle.register_store.specs.Within.TableChanges.{Always}
+use Rattle.sql_steps.proofs.Stepping.{stays}
+use Rattle.register_store.specs.{Change.with_custody, declared.counted.StepCount.StepCount}
+use Rattle.register_store.specs.{Within.StepCount.WritesInside, TableChanges.Makes, Within.TableChanges.Always}
 use Rattle.register_store.proofs.Readings.{survives_none}
 use Rattle.register_store.proofs.accepted_request.write_custody.Goals as goal
 

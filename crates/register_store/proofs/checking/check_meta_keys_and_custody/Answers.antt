@@ -1,17 +1,14 @@
 use Rattle.std.proofs.Common.{Ok, List, ℕ, arith}
 use Rattle.std.specs.Global.{Vec}
-use Rattle.sqlite.specs.Held.{state}
-use Rattle.sqlite.specs.State.{State, Survives}
-use Rattle.register_store.specs.declared.found.Found.{Found}
+use Rattle.sqlite.specs.{Held.state, State.State, State.Survives}
 use Rattle.register_store.specs.declared.table.TableName.TheVariants.{Approval, Custodian, Meta, Request}
 use Rattle.register_store.specs.Within.CheckedRows.{Chain, IsCounts, KnowsCounts, KnowsCustodians}
 use Rattle.register_store.specs.Within.CheckedTables.{ChecksTable}
-use Rattle.register_store.specs.Stored.{Stored}
-use Rattle.register_store.specs.OpeningChecks.{before}
+use Rattle.register_store.specs.{declared.found.Found.Found, Stored.Stored, OpeningChecks.before}
 use Rattle.register_store.proofs.Asked.{in_both}
-use Rattle.register_store.proofs.Checked.{CustodiansCheck, KeysChecks, KnowsNames, KnowsOwners, chain_as}
-use Rattle.register_store.proofs.Checked.{custodians_pass, custodians_stop, keys_pass, keys_stop, meta_passes}
-use Rattle.register_store.proofs.Checked.{meta_stops, silent_pass, silent_stop, stops_first}
+use Rattle.register_store.proofs.OpenedIn.{CustodiansCheck, KeysChecks, KnowsNames, KnowsOwners, chain_as}
+use Rattle.register_store.proofs.OpenedIn.{custodians_pass, custodians_stop, keys_pass, keys_stop, meta_passes}
+use Rattle.register_store.proofs.OpenedIn.{meta_stops, silent_pass, silent_stop, stops_first}
 use Rattle.register_store.proofs.checking.check_meta_keys_and_custody.Goals as goal
 
 -- the keys pass after meta, and the custodians after them

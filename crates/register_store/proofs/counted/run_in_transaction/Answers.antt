@@ -1,6 +1,5 @@
 use Rattle.std.proofs.Common.{◌≡◌, rules}
-use Rattle.sqlite.specs.Held.{state}
-use Rattle.sqlite.specs.State.{Survives}
+use Rattle.sqlite.specs.{Held.state, State.Survives}
 use Rattle.register_store.proofs.counted.run_in_transaction.Goals as goal
 
 -- what is committed is what the work left

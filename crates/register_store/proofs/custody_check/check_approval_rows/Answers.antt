@@ -1,11 +1,8 @@
 use Rattle.std.proofs.Common.{Err, ap, refl}
 use Rattle.register_store.specs.declared.table.TableName.TheVariants.{Approval}
-use Rattle.register_store.specs.CheckedTables.{ShowsName}
-use Rattle.register_store.specs.CheckedRows.{IsListed}
-use Rattle.register_store.proofs.Asked.{query_of}
-use Rattle.register_store.proofs.ApprovalsChecked.{are_checked}
-use Rattle.register_store.proofs.EachChecked.{none_shown}
-use Rattle.register_store.proofs.EntriesChecked.{entries_stopped, entries_read_beside}
+use Rattle.register_store.specs.{CheckedTables.ShowsName, CheckedRows.IsListed}
+use Rattle.register_store.proofs.EntriesChecked.{entries_stopped, entries_read_beside, none_shown}
+use Rattle.register_store.proofs.{Asked.query_of, ApprovalsChecked.are_checked}
 use Rattle.register_store.proofs.custody_check.check_approval_rows.Goals as goal
 
 pub check_rows-requires-clause-query : goal.check_rows-requires-clause-query

@@ -1,7 +1,7 @@
 use Rattle.register_store.proofs.Decoding.{one_key, same_number}
-use Rattle.register_store.proofs.key_check.sound_key_in.Goals as goal
 use Rattle.register_store.proofs.key_check.sound_key_in.Goals.{else-shown-from-via-then-shown-from+else-is_sound_key}
 use Rattle.register_store.proofs.key_check.sound_key_in.Goals.{else-shown-from-via-else-shown-from}
+use Rattle.register_store.proofs.key_check.sound_key_in.Goals as goal
 use Rattle.std.proofs.Common.{arith}
 
 pub returns-else-shown-from : goal.returns-else-shown-from

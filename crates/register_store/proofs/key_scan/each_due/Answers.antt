@@ -1,5 +1,4 @@
-use Rattle.register_store.proofs.NextDue.{past_next}
-use Rattle.register_store.proofs.Readings.{reads_weaker}
+use Rattle.register_store.proofs.{NextDue.past_next, Readings.reads_weaker}
 use Rattle.register_store.proofs.key_scan.each_due.Goals as goal
 use Rattle.std.proofs.Common.{arith}
 

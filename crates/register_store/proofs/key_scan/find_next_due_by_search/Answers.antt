@@ -2,17 +2,13 @@ use Rattle.std.proofs.Common.{◌≡◌, ℕ, List, Option, Result, MatchOption,
 use Rattle.sqlite.specs.Order.{Row}
 use Rattle.sqlite_trees.specs.declared.store.Store.{Ghosts}
 use Rattle.register_core.specs.declared.key.Key.{Key}
-use Rattle.register_store.specs.declared.counted.Counted.{Counted}
-use Rattle.register_store.specs.declared.error.StoreError.{StoreError}
-use Rattle.register_store.specs.declared.key_scan.DueCursor.{DueCursor}
-use Rattle.register_store.specs.declared.key_scan.DueSearch.{DueSearch}
 use Rattle.register_store.specs.TableReads.{KeepsSight, ReadsBy, seen}
 use Rattle.register_store.specs.Within.TableReads.{FindsOne, ShowsAt}
 use Rattle.register_store.specs.Within.DueSearch.{HasFirst, IsNumbered, is_found, search_text}
-use Rattle.register_store.proofs.AnswersRead.{reads_one}
+use Rattle.register_store.specs.{declared.counted.Counted.Counted, declared.error.StoreError.StoreError}
+use Rattle.register_store.specs.{declared.key_scan.DueCursor.DueCursor, declared.key_scan.DueSearch.DueSearch}
 use Rattle.register_store.proofs.DueFound.{due_read, passes_of, query_of, search_is}
-use Rattle.register_store.proofs.NextDue.{params_of, check_is}
-use Rattle.register_store.proofs.OpenQueries.{keeps_sight}
+use Rattle.register_store.proofs.{RowFound.reads_one, RowFound.keeps_sight, NextDue.params_of, NextDue.check_is}
 use Rattle.register_store.proofs.key_scan.find_next_due_by_search.Goals as goal
 
 -- what a search does that was asked with these parameters

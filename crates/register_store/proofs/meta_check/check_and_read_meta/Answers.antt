@@ -1,7 +1,6 @@
 use Rattle.std.proofs.Common.{Err, ap, refl, ◌∙◌}
 use Rattle.sqlite.specs.Held.{state}
-use Rattle.register_store.specs.declared.table.TableName.TheVariants.{Meta}
-use Rattle.register_store.specs.Within.CheckedRows.{counts_in}
+use Rattle.register_store.specs.{declared.table.TableName.TheVariants.Meta, Within.CheckedRows.counts_in}
 use Rattle.register_store.proofs.Asked.{query_of}
 use Rattle.register_store.proofs.MetaChecked.{meta_fails, meta_none, meta_told, told_as}
 use Rattle.register_store.proofs.meta_check.check_and_read_meta.Goals as goal

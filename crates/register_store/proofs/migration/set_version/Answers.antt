@@ -1,7 +1,6 @@
 use Rattle.std.proofs.Common.{arith, rules}
-use Rattle.register_store.proofs.Beside.{updates_meta}
 use Rattle.register_store.proofs.VersionSet.{sets_second, version_params, version_text}
-use Rattle.register_store.proofs.Wrote.{altered}
+use Rattle.register_store.proofs.{Beside.updates_meta, Wrote.altered}
 use Rattle.register_store.proofs.migration.set_version.Goals as goal
 
 pub returns : goal.returns

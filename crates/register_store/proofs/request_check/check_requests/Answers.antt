@@ -1,11 +1,8 @@
 use Rattle.std.proofs.Common.{Err, ap, refl, arith}
-use Rattle.register_store.specs.declared.table.TableName.TheVariants.{Request}
 use Rattle.register_store.specs.CheckedTables.{ShowsKept, mark_of}
-use Rattle.register_store.specs.OpeningChecks.{IsReplyOf}
-use Rattle.register_store.proofs.EachChecked.{none_shown}
+use Rattle.register_store.specs.{declared.table.TableName.TheVariants.Request, OpeningChecks.IsReplyOf}
+use Rattle.register_store.proofs.EntriesChecked.{entries_stopped, entries_read_beside, none_shown, are_checked}
 use Rattle.register_store.proofs.Asked.{query_of}
-use Rattle.register_store.proofs.EntriesChecked.{entries_stopped, entries_read_beside}
-use Rattle.register_store.proofs.RequestsChecked.{are_checked}
 use Rattle.register_store.proofs.request_check.check_requests.Goals as goal
 
 pub check_rows-requires-clause-query : goal.check_rows-requires-clause-query

@@ -1,14 +1,11 @@
 use Rattle.std.proofs.Common.{[], Err, Bool, true, Result, sym, refl, subst}
-use Rattle.sqlite.specs.Held.{state}
+use Rattle.sqlite.specs.{Held.state, declared.error.Error.Error}
 use Rattle.sql_steps.specs.Steps.{StepsBy}
 use Rattle.sql_steps.proofs.Asking.{asks_row, asks_fails, has_meaning}
-use Rattle.sqlite.specs.declared.error.Error.{Error}
-use Rattle.register_store.specs.Creation.{IsThere}
-use Rattle.register_store.specs.Within.Creation.{Answers}
-use Rattle.register_store.specs.Tables.{count_text}
+use Rattle.register_store.specs.{Creation.IsThere, Within.Creation.Answers, Tables.count_text}
 use Rattle.register_store.proofs.RowCounts.{answers_no}
-use Rattle.register_store.proofs.schema_change.is_table_there.Goals as goal
 use Rattle.register_store.proofs.schema_change.is_table_there.Goals.{in-Ok, in-Err-SqlInputError, in-Err}
+use Rattle.register_store.proofs.schema_change.is_table_there.Goals as goal
 
 pub returns-clause-answer : goal.returns-clause-answer
 returns-clause-answer g c =

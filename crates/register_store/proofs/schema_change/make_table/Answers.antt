@@ -1,11 +1,8 @@
 use Rattle.std.proofs.Common.{[], arith}
 use Rattle.sqlite.specs.Held.{state}
 use Rattle.sql_steps.proofs.Stepping.{runs}
-use Rattle.register_store.specs.Within.Migration.{MakesNext}
-use Rattle.register_store.specs.Tables.{create_statement}
-use Rattle.register_store.proofs.Beside.{table_adds}
-use Rattle.register_store.proofs.Creating.{makes_table}
-use Rattle.register_store.proofs.NewTables.{makes_next}
+use Rattle.register_store.specs.{Within.Migration.MakesNext, Tables.create_statement}
+use Rattle.register_store.proofs.{Beside.table_adds, Creating.makes_table, NewTables.makes_next}
 use Rattle.register_store.proofs.schema_change.make_table.Goals as goal
 
 pub returns-clause-made : goal.returns-clause-made

@@ -1,12 +1,10 @@
 use Rattle.std.proofs.Common.{rules, arith, refl}
 use Rattle.register_core.specs.Settings.{KeyNeed, TypePeriod}
-use Rattle.register_store.specs.declared.setting.Setting.{Setting}
-use Rattle.register_store.specs.TableChanges.{Makes}
 use Rattle.register_store.specs.Within.TableChanges.{HasNoneSet, more_set}
-use Rattle.register_store.proofs.KeyedChange.{puts_in}
+use Rattle.register_store.specs.{declared.setting.Setting.Setting, TableChanges.Makes}
 use Rattle.register_store.proofs.SettingTables.{params, put_text}
 use Rattle.register_store.proofs.SettingTexts.{needs, needs_are, periods, periods_are}
-use Rattle.register_store.proofs.Wrote.{ran, wrote_so}
+use Rattle.register_store.proofs.{KeyedChange.puts_in, Wrote.ran, Wrote.wrote_so}
 use Rattle.register_store.proofs.setting.add_setting.Goals as goal
 
 pub returns-in_ok-execute-in-Period : goal.returns-in_ok-execute-in-Period

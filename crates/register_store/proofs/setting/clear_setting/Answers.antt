@@ -1,12 +1,10 @@
 use Rattle.std.proofs.Common.{rules, arith, refl}
 use Rattle.period_core.specs.KeyType.{key_type_code}
-use Rattle.register_store.specs.declared.setting.Setting.{Setting}
-use Rattle.register_store.specs.TableChanges.{Makes}
 use Rattle.register_store.specs.Within.TableChanges.{Always, without_set}
-use Rattle.register_store.proofs.KeyedChange.{takes_out}
+use Rattle.register_store.specs.{declared.setting.Setting.Setting, TableChanges.Makes}
 use Rattle.register_store.proofs.SettingTables.{clear_text, number_params}
 use Rattle.register_store.proofs.SettingTexts.{needs, needs_are, periods, periods_are}
-use Rattle.register_store.proofs.Wrote.{ran, wrote_so}
+use Rattle.register_store.proofs.{KeyedChange.takes_out, Wrote.ran, Wrote.wrote_so}
 use Rattle.register_store.proofs.setting.clear_setting.Goals as goal
 
 pub returns-in_ok-execute-in-Period : goal.returns-in_ok-execute-in-Period

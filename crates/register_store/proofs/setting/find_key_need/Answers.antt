@@ -1,7 +1,5 @@
 use Rattle.std.proofs.Common.{rules}
-use Rattle.register_store.proofs.AnswersRead.{reads_one}
-use Rattle.register_store.proofs.KeyedFound.{value_read}
-use Rattle.register_store.proofs.SettingTexts.{needs_are}
+use Rattle.register_store.proofs.{RowFound.reads_one, KeyedFound.value_read, SettingTexts.needs_are}
 use Rattle.register_store.proofs.setting.find_key_need.Goals as goal
 
 pub returns-clause-reads : goal.returns-clause-reads

@@ -1,11 +1,9 @@
 use Rattle.std.proofs.Common.{rules}
 use Rattle.period_core.specs.KeyType.{key_type_code}
 use Rattle.register_store.specs.TableReads.{seen}
-use Rattle.register_store.proofs.AnswersRead.{reads_one}
-use Rattle.register_store.proofs.KeyedFound.{searched, value_read}
-use Rattle.register_store.proofs.OpenQueries.{keeps_sight}
 use Rattle.register_store.proofs.SettingTables.{find_text, number_params}
 use Rattle.register_store.proofs.SettingTexts.{periods, periods_are}
+use Rattle.register_store.proofs.{RowFound.reads_one, RowFound.keeps_sight, KeyedFound.searched, KeyedFound.value_read}
 use Rattle.register_store.proofs.setting.find_office_period.Goals as goal
 
 pub returns-clause-reads : goal.returns-clause-reads

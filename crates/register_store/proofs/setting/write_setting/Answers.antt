@@ -1,13 +1,10 @@
 use Rattle.std.proofs.Common.{Result, Ok, rules}
 use Rattle.sqlite.specs.State.{State}
 use Rattle.sql_steps.specs.Steps.{StepsBy}
-use Rattle.register_store.specs.declared.setting.Setting.{Setting}
 use Rattle.register_store.specs.declared.setting.Setting.TheVariants.{Need, Period}
-use Rattle.register_store.specs.TableChanges.{Makes}
 use Rattle.register_store.specs.Within.TableChanges.{Always, HasNoneSet, more_set, with_setting, without_set}
-use Rattle.register_store.proofs.KeyedChange.{put_anew}
-use Rattle.register_store.proofs.SettingTexts.{needs_are, periods_are}
-use Rattle.register_store.proofs.Wrote.{wrote}
+use Rattle.register_store.specs.{declared.setting.Setting.Setting, TableChanges.Makes}
+use Rattle.register_store.proofs.{KeyedChange.put_anew, SettingTexts.needs_are, SettingTexts.periods_are, Wrote.wrote}
 use Rattle.register_store.proofs.setting.write_setting.Goals as goal
 
 set_anew : {X Y E F : Type 0} (setting : Setting) (old mid new : State) (x : X) (r : Result Y F)

@@ -1,11 +1,8 @@
 use Rattle.std.proofs.Common.{Err, ap, refl, arith}
-use Rattle.register_store.specs.declared.table.TableName.TheVariants.{Quorum}
 use Rattle.register_store.specs.CheckedTables.{ShowsKeyNeed, counts_of}
-use Rattle.register_store.specs.OpeningChecks.{IsNeedOf}
-use Rattle.register_store.proofs.EachChecked.{none_shown}
+use Rattle.register_store.specs.{declared.table.TableName.TheVariants.Quorum, OpeningChecks.IsNeedOf}
+use Rattle.register_store.proofs.EntriesChecked.{entries_stopped, entries_read_beside, none_shown, needs_checked}
 use Rattle.register_store.proofs.Asked.{query_of}
-use Rattle.register_store.proofs.EntriesChecked.{entries_stopped, entries_read_beside}
-use Rattle.register_store.proofs.SettingsChecked.{needs_checked}
 use Rattle.register_store.proofs.setting_check.check_needs.Goals as goal
 
 pub check_rows-requires-clause-query : goal.check_rows-requires-clause-query

@@ -1,18 +1,15 @@
 use Rattle.std.proofs.Common.{Err, ap, arith}
 use Rattle.register_store.specs.declared.table.TableName.TheVariants.{Period}
-use Rattle.register_store.specs.CheckedTables.{ShowsTypePeriod}
-use Rattle.register_store.specs.CheckedRows.{IsAnyPeriod}
-use Rattle.register_store.proofs.EachChecked.{none_shown}
+use Rattle.register_store.specs.{CheckedTables.ShowsTypePeriod, CheckedRows.IsAnyPeriod}
+use Rattle.register_store.proofs.EntriesChecked.{entries_stopped, entries_read, none_shown, periods_checked}
 use Rattle.register_store.proofs.Asked.{query_of}
-use Rattle.register_store.proofs.EntriesChecked.{entries_stopped, entries_read}
-use Rattle.register_store.proofs.SettingsChecked.{periods_checked}
 use Rattle.register_store.proofs.setting_check.check_periods.Goals as goal
-
-pub check_rows-requires-clause-query : goal.check_rows-requires-clause-query
-check_rows-requires-clause-query g c = query_of Period
 
 pub returns-clause-checks : goal.returns-clause-checks
 returns-clause-checks g c t second = search (arith, entries_read, periods_checked, none_shown)
+
+pub check_rows-requires-clause-query : goal.check_rows-requires-clause-query
+check_rows-requires-clause-query g c = query_of Period
 
 pub returns-in_err-check_rows-clause-checks : goal.returns-in_err-check_rows-clause-checks
 returns-in_err-check_rows-clause-checks g c t second =

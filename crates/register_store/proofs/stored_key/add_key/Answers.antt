@@ -1,7 +1,6 @@
 use Rattle.std.proofs.Common.{rules, arith, refl}
 use Rattle.register_store.specs.Tables.{IsKey}
-use Rattle.register_store.proofs.KeyRow.{insert_text, params, adds_key}
-use Rattle.register_store.proofs.Wrote.{ran}
+use Rattle.register_store.proofs.{KeyRow.insert_text, KeyRow.params, KeyRow.adds_key, Wrote.ran}
 use Rattle.register_store.proofs.stored_key.add_key.Goals as goal
 
 pub returns : goal.returns

@@ -1,7 +1,6 @@
 use Rattle.std.proofs.Common.{pos, [], ◌∷◌, rules, arith, refl}
 use Rattle.sqlite.specs.declared.types.Value.TheVariants.{Int}
-use Rattle.register_store.proofs.NameRemoved.{approvals_text, removes_approvals}
-use Rattle.register_store.proofs.Wrote.{ran}
+use Rattle.register_store.proofs.{NameChanges.approvals_text, NameChanges.removes_approvals, Wrote.ran}
 use Rattle.register_store.proofs.stored_key.end_approvals.Goals as goal
 
 pub returns : goal.returns

@@ -1,8 +1,6 @@
 use Rattle.std.proofs.Common.{rules}
 use Rattle.register_store.specs.TableReads.{seen}
-use Rattle.register_store.proofs.AnswersRead.{reads_one}
-use Rattle.register_store.proofs.KeyFound.{key_read, params}
-use Rattle.register_store.proofs.OpenQueries.{keeps_sight}
+use Rattle.register_store.proofs.RowFound.{key_read, params, reads_one, keeps_sight}
 use Rattle.register_store.proofs.Texts.{find_is, find_text}
 use Rattle.register_store.proofs.stored_key.find_key_row.Goals as goal
 

@@ -1,7 +1,6 @@
 use Rattle.register_store.specs.Within.Roles.{names_of, select_text}
 use Rattle.register_store.specs.declared.error.StoreError.TheVariants.{Database}
-use Rattle.register_store.specs.TableReads.{seen}
-use Rattle.register_store.specs.Within.TableReads.{HasNames}
+use Rattle.register_store.specs.{TableReads.seen, Within.TableReads.HasNames}
 use Rattle.register_store.proofs.NamesFound.{names_read, names_refused, rows_counted, names_ranged, names_shown}
 use Rattle.register_store.proofs.NamesFound.{select_is, table_at}
 use Rattle.register_store.proofs.Readings.{reads_fail}

@@ -1,9 +1,7 @@
 use Rattle.std.proofs.Common.{rules, arith}
 use Rattle.register_core.specs.KeyName.{key_name}
-use Rattle.register_store.specs.Within.Roles.{change_text}
-use Rattle.register_store.specs.Tables.{name_cells}
-use Rattle.register_store.proofs.NameRemoved.{changes_role}
-use Rattle.register_store.proofs.Wrote.{ran}
+use Rattle.register_store.specs.{Within.Roles.change_text, Tables.name_cells}
+use Rattle.register_store.proofs.{NameChanges.changes_role, Wrote.ran}
 use Rattle.register_store.proofs.stored_key.give_or_take_role.Goals as goal
 
 pub returns : goal.returns

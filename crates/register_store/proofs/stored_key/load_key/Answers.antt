@@ -1,11 +1,9 @@
 use Rattle.std.proofs.Common.{◌+◌, ℕ, List, Result, Ok, Err, arith}
 use Rattle.sqlite_trees.specs.declared.store.Store.{Ghosts}
-use Rattle.register_store.specs.declared.counted.Counted.{Counted}
-use Rattle.register_store.specs.declared.error.StoreError.{StoreError}
 use Rattle.register_store.specs.declared.stored_key.Role.TheVariants.{Custodian, Approver}
 use Rattle.register_store.specs.TableReads.{seen, load_steps, Calls, CallsOver, ReadsBy, HasHeldKey, HasRow}
 use Rattle.register_store.specs.Within.TableReads.{count_at, HasNames}
-use Rattle.register_store.specs.Tables.{Tables}
+use Rattle.register_store.specs.{declared.counted.Counted.Counted, declared.error.StoreError.StoreError, Tables.Tables}
 use Rattle.register_store.proofs.Readings.{calls_then, calls_weaker, reads_as, reads_fail, reads_then}
 use Rattle.register_store.proofs.stored_key.load_key.Goals as goal
 

@@ -1,8 +1,7 @@
 use Rattle.std.proofs.Common.{◌≡◌, ◌≤◌, length, map, Option, Result, Err, IfErr, arith}
 use Rattle.std.proofs.lemmas.List.{take_all}
 use Rattle.std.specs.Option.{MatchOption, ok_or}
-use Rattle.sqlite.specs.declared.types.Value.TheVariants.{Text as Words}
-use Rattle.sqlite.specs.Order.{column}
+use Rattle.sqlite.specs.{declared.types.Value.TheVariants.Text as Words, Order.column}
 use Rattle.sql_steps.proofs.Members.{contains_has}
 use Rattle.register_store.proofs.NamesFound.{sorted_so}
 use Rattle.register_store.proofs.stored_key.sorted_names_in.Goals as goal

@@ -1,6 +1,5 @@
 use Rattle.std.proofs.Common.{◌≡◌, map, take}
-use Rattle.sqlite.specs.declared.types.Value.TheVariants.{Text as Words}
-use Rattle.sqlite.specs.Order.{column}
+use Rattle.sqlite.specs.{declared.types.Value.TheVariants.Text as Words, Order.column}
 use Rattle.register_store.proofs.stored_key.sorted_names_in.Given as goal
 
 -- the names in the rows so far

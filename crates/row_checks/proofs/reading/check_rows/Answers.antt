@@ -1,11 +1,8 @@
 use Rattle.std.proofs.Common.{◌≡◌, [], Err, OnOk, rules, arith}
-use Rattle.sqlite.specs.Held.{Held, state}
-use Rattle.sqlite.specs.State.{HasCleanDisk, Survives}
-use Rattle.row_checks.specs.declared.error.RowsError.TheVariants.{Refused}
-use Rattle.sqlite.proofs.Callers.{unchanged_then}
-use Rattle.sqlite.proofs.StateLemmas.{survives_then}
+use Rattle.sqlite.specs.{Held.Held, Held.state, State.HasCleanDisk, State.Survives}
+use Rattle.row_checks.specs.{declared.error.RowsError.TheVariants.Refused, ShownRows.ShowsAll, ShownRows.ShowsFirst}
+use Rattle.sqlite.proofs.{Callers.unchanged_then, StateLemmas.survives_then}
 use Rattle.row_checks.proofs.RowByRow.{commits_none, no_meaning, carry, at_start, first_from, met_from}
-use Rattle.row_checks.specs.ShownRows.{ShowsAll, ShowsFirst}
 use Rattle.row_checks.proofs.reading.check_rows.Goals as goal
 
 pub returns-in-Ok-clause-met : goal.returns-in-Ok-clause-met

@@ -1,8 +1,5 @@
 use Rattle.std.proofs.Common.{◌≡◌, false, List, []}
-use Rattle.sqlite.specs.Held.{state}
-use Rattle.sqlite.specs.Order.{Row}
-use Rattle.sqlite.specs.State.{HasCleanDisk, IsUnchanged, Survives}
-use Rattle.sqlite.specs.Given.{HasGiven}
+use Rattle.sqlite.specs.{Held.state, Order.Row, State.HasCleanDisk, State.IsUnchanged, State.Survives, Given.HasGiven}
 use Rattle.row_checks.proofs.RowByRow.{HasTakenSoFar}
 use Rattle.row_checks.proofs.reading.check_rows_left.Given as goal
 

@@ -2,7 +2,7 @@ use Rattle.std.proofs.Common.{arith, sym, ap, ◌∙◌, ◌≡◌, ◌++◌, Li
 use Rattle.std.proofs.lemmas.List.{append-nil}
 use Rattle.register_requests.specs.declared.values.Name.{Name}
 use Rattle.register_core.specs.Within.Custody.{name_list}
-use Rattle.register_core.proofs.Walks.{one_at, approvals_step}
+use Rattle.register_core.proofs.CustodyLeads.{one_at, approvals_step}
 use Rattle.test_plain_register.proofs.custody.approvals.Goals as goal
 use Rattle.test_plain_register.proofs.custody.approvals.Goals.{in-Some+in_ok-push, in_default}
 

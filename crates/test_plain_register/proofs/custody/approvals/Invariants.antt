@@ -1,6 +1,5 @@
 use Rattle.std.proofs.Common.{◌≡◌, ◌≤◌, [], ◌++◌, length, take, drop}
-use Rattle.register_core.specs.KeyName.{names_at}
-use Rattle.register_core.specs.Custody.{approvals_from}
+use Rattle.register_core.specs.{KeyName.names_at, Custody.approvals_from}
 use Rattle.test_plain_register.proofs.custody.approvals.Given as goal
 
 abbrev pub invariant-loop-at : goal.invariant-loop-at

@@ -1,6 +1,5 @@
 use Rattle.std.proofs.Common.{◌≡◌, ◌≤◌, ◌++◌, length, drop}
-use Rattle.register_core.specs.KeyName.{names_at}
-use Rattle.register_core.specs.Custody.{all_custodians}
+use Rattle.register_core.specs.{KeyName.names_at, Custody.all_custodians}
 use Rattle.test_plain_register.proofs.custody.custodians.Given as goal
 
 abbrev pub invariant-loop-at : goal.invariant-loop-at

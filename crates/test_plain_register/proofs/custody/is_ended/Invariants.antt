@@ -1,6 +1,5 @@
 use Rattle.std.proofs.Common.{◌≡◌, ◌≤◌, length, take, drop}
-use Rattle.register_core.specs.KeyName.{key_name}
-use Rattle.register_core.specs.Custody.{is_ended}
+use Rattle.register_core.specs.{KeyName.key_name, Custody.is_ended}
 use Rattle.test_plain_register.proofs.custody.is_ended.Given as goal
 
 abbrev pub invariant-loop-at : goal.invariant-loop-at

@@ -1,7 +1,6 @@
 use Rattle.std.proofs.Common.{take, refl}
 use Rattle.std.specs.Prelude.{None}
-use Rattle.register_core.specs.Effect.{need_after}
-use Rattle.register_core.specs.History.{count, Placed}
+use Rattle.register_core.specs.{Effect.need_after, History.count, History.Placed}
 use Rattle.register_core.proofs.Histories.{fold_with}
 use Rattle.test_plain_register.proofs.custody.need.Goals as goal
 

@@ -1,7 +1,6 @@
 use Rattle.std.proofs.Common.{◌≡◌, false, take}
 use Rattle.std.specs.List.{list_any}
-use Rattle.register_core.specs.KeyName.{key_name}
-use Rattle.register_core.specs.Custody.{is_about}
+use Rattle.register_core.specs.{KeyName.key_name, Custody.is_about}
 use Rattle.test_plain_register.proofs.custody.stays_custodian.Given as goal
 
 abbrev pub invariant-loop-request : goal.invariant-loop-request

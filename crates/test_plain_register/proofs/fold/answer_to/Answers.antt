@@ -1,4 +1,4 @@
-use Rattle.std.proofs.Common.{arith, rules}
+use Rattle.std.proofs.Common.{rules}
 use Rattle.register_core.proofs.Verdicts.{told_is}
 use Rattle.test_plain_register.proofs.fold.answer_to.Goals as goal
 

@@ -1,7 +1,6 @@
 use Rattle.std.proofs.Common.{◌≡◌, ◌≤◌, length, take}
 use Rattle.std.specs.Prelude.{fold}
-use Rattle.register_core.specs.History.{count, own}
-use Rattle.register_core.specs.Effect.{unset_dates}
+use Rattle.register_core.specs.{History.count, History.own, Effect.unset_dates}
 use Rattle.register_core.proofs.Histories.{dates_step}
 use Rattle.test_plain_register.proofs.history.dates.Given as goal
 

@@ -2,8 +2,7 @@ use Rattle.std.proofs.Common.{Option, None, [], ◌∷◌, take, sym, ap, ◌∙
 use Rattle.std.proofs.lemmas.List.Sums.{fold-append}
 use Rattle.period_core.specs.Period.{Period}
 use Rattle.register_requests.specs.declared.request.Request.{Request}
-use Rattle.register_core.specs.Effect.{period_after}
-use Rattle.register_core.specs.History.{set_period}
+use Rattle.register_core.specs.{Effect.period_after, History.set_period}
 use Rattle.register_core.proofs.Histories.{next_prefix}
 use Rattle.test_plain_register.proofs.history.set_period.Goals as goal
 

@@ -1,10 +1,7 @@
 use Rattle.std.proofs.Common.{◌≡◌, true, Bool, Option, None, Some, refl, sym, ap, ◌∙◌}
-use Rattle.std.specs.List.{list_all}
-use Rattle.std.specs.Prelude.{is_none}
 use Rattle.std.proofs.lemmas.List.Sums.{AllPass-from_list_all, list_all-from_AllPass}
-use Rattle.period_core.specs.declared.key_type.KeyType.{KeyType}
-use Rattle.period_core.specs.Office.{set_in}
-use Rattle.period_core.specs.Period.{Period}
+use Rattle.std.specs.{List.list_all, Prelude.is_none}
+use Rattle.period_core.specs.{declared.key_type.KeyType.KeyType, Office.set_in, Period.Period}
 use Rattle.period_core.proofs.Types.{each, types}
 use Rattle.period_core.proofs.office.OfficePeriods.are_all_unset.Goals as goal
 

@@ -1,16 +1,13 @@
 use Rattle.std.proofs.Common.{Err, arith, ap, sym, subst, ◌∙◌}
 use Rattle.std.proofs.lemmas.Result.{err_from_is_err_and}
 use Rattle.std.specs.Prelude.{◌≤◌, ℕ, Bool, if◌then◌else◌, IfSome}
-use Rattle.register_core.specs.declared.answer.Answer.{Answer}
-use Rattle.register_core.specs.declared.kept_reply.KeptReply.{KeptReply}
-use Rattle.register_core.specs.declared.reply.Reply.{Reply}
-use Rattle.register_core.specs.declared.reply.Refusal.TheVariants.{RequestReused}
 use Rattle.register_core.specs.Verdict.{answer_by, is_same_command, Repeats, Refuses}
+use Rattle.register_core.specs.{declared.answer.Answer.Answer, declared.kept_reply.KeptReply.KeptReply}
+use Rattle.register_core.specs.{declared.reply.Reply.Reply, declared.reply.Refusal.TheVariants.RequestReused}
 use Rattle.register_store.specs.TableReads.{HasRequest}
 use Rattle.register_desk.specs.Desk.{IsClean, latest_of, keys_of, RepeatsWithin}
-use Rattle.register_desk.specs.Register.{IsOver}
-use Rattle.register_desk.specs.TablesView.{reply_over}
-use Rattle.register_desk.proofs.Overgoing.{answers_again, applies_ended, unchanged_so, unless_accepted}
+use Rattle.register_desk.specs.{Register.IsOver, TablesView.reply_over}
+use Rattle.register_desk.proofs.Applying.{answers_again, applies_ended, unchanged_so, unless_accepted}
 use Rattle.register_desk.proofs.Readings.{nothing_then, over_still, steps_then}
 use Rattle.register_desk.proofs.desk.Desk.answer.Goals as goal
 

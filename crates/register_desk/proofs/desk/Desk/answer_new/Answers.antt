@@ -2,8 +2,8 @@ use Rattle.std.proofs.Common.{◌≤◌, ℕ, Err, ap, sym, subst, ◌∙◌, ar
 use Rattle.std.proofs.lemmas.Result.{err_from_is_err_and}
 use Rattle.register_core.specs.Verdict.{max_keys}
 use Rattle.register_desk.specs.Desk.{IsClean}
-use Rattle.register_desk.proofs.Overgoing.{answers_refusal, answers_request, applies_broken, applies_ended}
-use Rattle.register_desk.proofs.Overgoing.{leaves_request, over_broken, room_left}
+use Rattle.register_desk.proofs.Applying.{answers_refusal, answers_request, applies_broken, applies_ended}
+use Rattle.register_desk.proofs.Applying.{leaves_request, over_broken, room_left}
 use Rattle.register_desk.proofs.Readings.{over_still}
 use Rattle.register_desk.proofs.desk.Desk.answer_new.Goals as goal
 

@@ -2,10 +2,8 @@ use Rattle.std.proofs.Common.{◌≡◌, ◌≤◌, true, ap, sym, ◌∙◌}
 use Rattle.std.proofs.Math.Bridge.{le_prop}
 use Rattle.sqlite_trees.specs.declared.store.Store.{Ghosts}
 use Rattle.register_core.specs.Verdict.{max_keys}
-use Rattle.register_desk.specs.declared.desk.Desk.{Desk}
-use Rattle.register_desk.specs.declared.end.End.{End}
 use Rattle.register_desk.specs.declared.end.End.TheVariants.{Store}
-use Rattle.register_desk.specs.Within.DeskCalls.{left_at}
+use Rattle.register_desk.specs.{declared.desk.Desk.Desk, declared.end.End.End, Within.DeskCalls.left_at}
 use Rattle.register_desk.proofs.desk.Desk.break_at.Goals as goal
 
 -- there is one proof that the keys are within their limit

@@ -1,8 +1,7 @@
 use Rattle.sql_steps.proofs.Stepping.{transacts_as}
 use Rattle.register_core.specs.KeptReply.{kept_with}
-use Rattle.register_store.specs.TableChanges.{Makes}
-use Rattle.register_store.specs.TableReads.{seen}
 use Rattle.register_store.specs.AcceptedRequest.{CanTake, with_request}
+use Rattle.register_store.specs.{TableChanges.Makes, TableReads.seen}
 use Rattle.register_desk.proofs.desk.Desk.commit_accepted.Goals as goal
 
 pub returns-in-Ok-clause-keys : goal.returns-in-Ok-clause-keys

@@ -1,8 +1,7 @@
 use Rattle.std.proofs.Common.{◌≡◌, Option, Result, Ok, IfOk, ap, subst, ◌∙◌}
 use Rattle.period_core.specs.Period.{Period, period_or_default}
-use Rattle.register_core.proofs.Settled.{periods_are}
-use Rattle.register_desk.specs.declared.end.End.{End}
-use Rattle.register_desk.specs.Register.{tables}
+use Rattle.register_core.proofs.Histories.{periods_are}
+use Rattle.register_desk.specs.{declared.end.End.End, Register.tables}
 use Rattle.register_desk.proofs.desk.Desk.look_up_period.Goals as goal
 
 -- what was told is what was found

@@ -1,9 +1,7 @@
 use Rattle.std.proofs.Common.{◌≡◌, ℕ, Some, Err, sym, ap, ◌∙◌}
 use Rattle.std.proofs.lemmas.Result.{err_from_is_err_and}
 use Rattle.std.specs.Option.{option_map}
-use Rattle.register_store.specs.TableChanges.{key_at}
-use Rattle.register_store.specs.TableReads.{loaded}
-use Rattle.register_store.specs.Tables.{Tables}
+use Rattle.register_store.specs.{TableChanges.key_at, TableReads.loaded, Tables.Tables}
 use Rattle.register_desk.specs.Register.{tables}
 use Rattle.register_desk.proofs.Grows.{as_shown, shown_is}
 use Rattle.register_desk.proofs.Readings.{looks_ended, looks_given, looks_then}

@@ -1,11 +1,9 @@
 use Rattle.std.proofs.Common.{ℕ, Some, sym, ap, ◌∙◌}
 use Rattle.std.specs.Option.{option_map}
 use Rattle.lifecycle_core.specs.Usage.{usage_at}
-use Rattle.register_core.specs.declared.key.Key.{Key}
-use Rattle.register_core.specs.History.{latest}
+use Rattle.register_core.specs.{declared.key.Key.Key, History.latest}
 use Rattle.register_desk.specs.Register.{tables}
-use Rattle.register_desk.proofs.Grows.{usage_is}
-use Rattle.register_desk.proofs.Readings.{looks_given, stands_still}
+use Rattle.register_desk.proofs.{Grows.usage_is, Readings.looks_given, Readings.stands_still}
 use Rattle.register_desk.proofs.desk.Desk.look_up_usage.Goals as goal
 
 pub returns-in-Some-clause-used : goal.returns-in-Some-clause-used

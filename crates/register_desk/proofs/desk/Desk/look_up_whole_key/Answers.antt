@@ -1,7 +1,6 @@
 use Rattle.std.proofs.Common.{Err, ap, refl, ◌∙◌}
 use Rattle.std.proofs.lemmas.Result.{err_from_is_err_and}
-use Rattle.register_desk.proofs.Readings.{looks_failed, looks_where}
-use Rattle.register_desk.proofs.Taken.{loads_few}
+use Rattle.register_desk.proofs.Readings.{looks_failed, looks_where, loads_few}
 use Rattle.register_desk.proofs.desk.Desk.look_up_whole_key.Goals as goal
 
 pub returns-clause-looks : goal.returns-clause-looks

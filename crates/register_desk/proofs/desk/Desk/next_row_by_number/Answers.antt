@@ -1,7 +1,6 @@
 use Rattle.std.proofs.Common.{arith, rules}
 use Rattle.register_desk.specs.Register.{tables}
-use Rattle.register_desk.proofs.Readings.{sees_nothing}
-use Rattle.register_desk.proofs.RowScan.{none_after}
+use Rattle.register_desk.proofs.{Readings.sees_nothing, RowScan.none_after}
 use Rattle.register_desk.proofs.desk.Desk.next_row_by_number.Goals as goal
 
 pub returns-in_err-key-clause-reads : goal.returns-in_err-key-clause-reads

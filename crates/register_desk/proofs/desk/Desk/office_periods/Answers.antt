@@ -1,10 +1,9 @@
 use Rattle.std.proofs.Common.{◌≡◌, ◌+◌, ◌*◌, ◌≤◌, ℕ, arith, sym, subst, ◌∙◌, rules}
 use Rattle.register_store.specs.StepCount.{Rises}
 use Rattle.register_desk.proofs.Readings.{nothing_then}
-use Rattle.register_core.proofs.Settled.{periods_are}
-use Rattle.register_desk.specs.Desk.{IsWhole}
-use Rattle.register_desk.specs.Register.{tables}
-use Rattle.register_desk.proofs.Sets.{AreSet, all_set, one_more_set}
+use Rattle.register_desk.proofs.TablesInRange.{AreSet, all_set, one_more_set}
+use Rattle.register_core.proofs.Histories.{periods_are}
+use Rattle.register_desk.specs.{Desk.IsWhole, Register.tables}
 use Rattle.register_desk.proofs.desk.Desk.office_periods.Goals as goal
 
 steps_then : {start mid end : ℕ} (first next most : ℕ) → Rises first start mid → Rises next mid end

@@ -2,7 +2,7 @@ use Rattle.std.proofs.Common.{◌≡◌, ◌*◌}
 use Rattle.register_desk.specs.Desk.{ChangesNothing, IsClean, IsWhole, TakesSteps}
 use Rattle.register_desk.specs.Register.{Sees}
 use Rattle.register_store.specs.Tables.{Tables}
-use Rattle.register_desk.proofs.Sets.{AreSet}
+use Rattle.register_desk.proofs.TablesInRange.{AreSet}
 use Rattle.register_desk.proofs.desk.Desk.office_periods.Given as goal
 
 abbrev pub invariant-kinds : goal.invariant-kinds

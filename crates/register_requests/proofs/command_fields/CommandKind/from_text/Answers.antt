@@ -1,7 +1,6 @@
 use Rattle.std.proofs.Common.{◌≢◌}
 use Rattle.std.specs.Prelude.{All, IfNone, Option, Some, None}
-use Rattle.register_requests.specs.declared.command_fields.CommandKind.{CommandKind}
-use Rattle.register_requests.specs.CommandKind.{command_kind_text}
+use Rattle.register_requests.specs.{declared.command_fields.CommandKind.CommandKind, CommandKind.command_kind_text}
 use Rattle.register_requests.proofs.FieldTexts.{all_kinds, each_kind}
 use Rattle.register_requests.proofs.command_fields.CommandKind.from_text.Goals as goal
 

@@ -1,6 +1,5 @@
 use Rattle.std.proofs.Common.{None}
-use Rattle.register_requests.proofs.Texts.{made_stands}
-use Rattle.register_requests.proofs.Lines.{request}
+use Rattle.register_requests.proofs.{Texts.made_stands, Lines.request}
 use Rattle.register_requests.proofs.request_reading.RequestFromBytes.from_bytes.Goals as goal
 
 pub returns-in_err-moment : goal.returns-in_err-moment

@@ -1,13 +1,10 @@
 use Rattle.std.proofs.Common.{Bool, true, Ok, subst, rules, arith}
-use Rattle.sqlite.specs.Effect.{Database}
-use Rattle.sqlite.specs.Held.{state}
-use Rattle.sql_steps.specs.Steps.{StepsBy}
-use Rattle.sql_steps.specs.Within.Steps.{Then}
+use Rattle.sqlite.specs.{Effect.Database, Held.state}
+use Rattle.sql_steps.specs.{Steps.StepsBy, Within.Steps.Then}
 use Rattle.sql_steps.proofs.Stepping.{steps_as, steps_then}
 use Rattle.register_store.specs.Creation.{HasTable, IsThere}
 use Rattle.register_store.specs.Within.Creation.{Answers, LacksFirst}
-use Rattle.register_store.proofs.EachTable.{placed_low}
-use Rattle.register_store.proofs.RowCounts.{lacks_next, table_at}
+use Rattle.register_store.proofs.{EachTable.placed_low, RowCounts.lacks_next, RowCounts.table_at}
 use Rattle.register_store.proofs.creation.CreationSchemaChange.finds_table_it_would_make.Goals as goal
 
 pub loop-table-preserved : goal.loop-table-preserved

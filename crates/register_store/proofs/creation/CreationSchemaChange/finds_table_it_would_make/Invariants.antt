@@ -1,7 +1,6 @@
 use Rattle.std.proofs.Common.{◌≡◌, Ok}
-use Rattle.sqlite.specs.Held.{state}
+use Rattle.sqlite.specs.{Held.state, declared.error.Error.Error}
 use Rattle.sql_steps.specs.Steps.{StepsBy}
-use Rattle.sqlite.specs.declared.error.Error.{Error}
 use Rattle.register_store.specs.Within.Creation.{LacksFirst}
 use Rattle.register_store.proofs.creation.CreationSchemaChange.finds_table_it_would_make.Given as goal
 

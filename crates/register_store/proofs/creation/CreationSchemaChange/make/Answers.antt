@@ -2,9 +2,8 @@ use Rattle.std.proofs.Common.{Ok}
 use Rattle.sqlite.specs.Held.{state}
 use Rattle.sql_steps.specs.Within.Steps.{Then}
 use Rattle.sql_steps.proofs.Stepping.{steps_then}
-use Rattle.register_store.specs.Within.Beside.{AddsUncounted, InsertsMeta}
-use Rattle.register_store.specs.Creation.{MakesAll}
 use Rattle.register_store.specs.Within.Creation.{AddsIndexes, AddsMeta, MakesTables}
+use Rattle.register_store.specs.{Within.Beside.AddsUncounted, Within.Beside.InsertsMeta, Creation.MakesAll}
 use Rattle.register_store.proofs.Beside.{makes_beside, steps_both}
 use Rattle.register_store.proofs.creation.CreationSchemaChange.make.Goals as goal
 

@@ -1,10 +1,9 @@
 use Rattle.std.proofs.Common.{◌≡◌, suc, true, false, length, Some, sym, ap, subst, ◌∙◌, arith}
 use Rattle.register_core.specs.KeyName.{KeyName, key_name}
 use Rattle.register_requests.specs.Name.{is_among}
-use Rattle.register_store.specs.CheckedTables.{ShowsName}
-use Rattle.register_store.specs.CheckedRows.{IsListed, list_at}
+use Rattle.register_store.specs.{CheckedTables.ShowsName, CheckedRows.IsListed, CheckedRows.list_at}
 use Rattle.register_store.proofs.CustodiansChecked.{list_read, not_listed, one_name}
-use Rattle.register_store.proofs.EachChecked.{one_more, one_odd}
+use Rattle.register_store.proofs.EntriesChecked.{one_more, one_odd}
 use Rattle.register_store.proofs.custody_check.ApprovalCheckRowCheck.take_row.Goals as goal
 
 pub returns-in_default-clause-refused : goal.returns-in_default-clause-refused

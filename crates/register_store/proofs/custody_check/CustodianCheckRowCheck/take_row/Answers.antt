@@ -4,11 +4,11 @@ use Rattle.register_core.specs.KeyName.{key_name, names_at}
 use Rattle.register_store.specs.OpeningChecks.{MayBeCustodian, owner_at}
 use Rattle.register_store.proofs.CustodiansChecked.{custodians_more, is_full, is_owner, kept_at, not_shown, not_there}
 use Rattle.register_store.proofs.CustodiansChecked.{owner_seen}
-use Rattle.register_store.proofs.custody_check.CustodianCheckRowCheck.take_row.Goals as goal
 use Rattle.register_store.proofs.custody_check.CustodianCheckRowCheck.take_row.Goals.{then-at-len-via-then-at-len}
 use Rattle.register_store.proofs.custody_check.CustodianCheckRowCheck.take_row.Goals.{then-at-len-via-else-at-len+then-at-len-2}
 use Rattle.register_store.proofs.custody_check.CustodianCheckRowCheck.take_row.Goals.{then-len-self-via-then-len-self}
 use Rattle.register_store.proofs.custody_check.CustodianCheckRowCheck.take_row.Goals.{then-len-self-via-else-len-self+then-eq}
+use Rattle.register_store.proofs.custody_check.CustodianCheckRowCheck.take_row.Goals as goal
 
 pub returns-in_default-clause-refused : goal.returns-in_default-clause-refused
 returns-in_default-clause-refused c result first rows taken =

@@ -4,11 +4,9 @@ use Rattle.sql_steps.specs.Within.Steps.{Then}
 use Rattle.sql_steps.proofs.Stepping.{steps_then}
 use Rattle.register_store.specs.declared.table.TableName.TheVariants.{Period, Quorum}
 use Rattle.register_store.specs.Within.Beside.{Adds, IsMadeAs, UpdatesMeta}
-use Rattle.register_store.specs.Migration.{TakesToSecond}
-use Rattle.register_store.specs.Within.Migration.{MakesNext, SetsVersion}
+use Rattle.register_store.specs.{Migration.TakesToSecond, Within.Migration.MakesNext, Within.Migration.SetsVersion}
 use Rattle.register_store.proofs.Beside.{IsOther, adds_other, migrates_beside, steps_both}
-use Rattle.register_store.proofs.BesideMade.{adds_then}
-use Rattle.register_store.proofs.VersionSet.{begins}
+use Rattle.register_store.proofs.{BesideMade.adds_then, VersionSet.begins}
 use Rattle.register_store.proofs.migration.MigrationSchemaChange.make.Goals as goal
 
 pub returns-clause-made : goal.returns-clause-made

@@ -1,9 +1,7 @@
 use Rattle.std.proofs.Common.{◌≡◌, true, subst, arith}
-use Rattle.register_store.specs.declared.found.Found.{Found}
 use Rattle.register_store.specs.CheckedTables.{ShowsKept, mark_of}
-use Rattle.register_store.specs.OpeningChecks.{IsReplyOf}
-use Rattle.register_store.proofs.EachChecked.{one_more, one_odd}
-use Rattle.register_store.proofs.RequestsChecked.{one_kept}
+use Rattle.register_store.specs.{declared.found.Found.Found, OpeningChecks.IsReplyOf}
+use Rattle.register_store.proofs.EntriesChecked.{one_more, one_odd, one_kept}
 use Rattle.register_store.proofs.request_check.RequestCheckRowCheck.take_row.Goals as goal
 
 pub returns-in_default-clause-refused : goal.returns-in_default-clause-refused

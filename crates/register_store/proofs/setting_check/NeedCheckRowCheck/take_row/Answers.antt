@@ -1,10 +1,7 @@
 use Rattle.std.proofs.Common.{◌≡◌, true, subst, arith}
-use Rattle.register_store.specs.declared.found.Found.{Found}
 use Rattle.register_store.specs.CheckedTables.{ShowsKeyNeed, counts_of}
-use Rattle.register_store.specs.Within.CheckedRows.{key_need}
-use Rattle.register_store.specs.OpeningChecks.{IsNeedOf}
-use Rattle.register_store.proofs.EachChecked.{one_more, one_odd}
-use Rattle.register_store.proofs.SettingsChecked.{one_need}
+use Rattle.register_store.specs.{declared.found.Found.Found, Within.CheckedRows.key_need, OpeningChecks.IsNeedOf}
+use Rattle.register_store.proofs.EntriesChecked.{one_more, one_odd, one_need}
 use Rattle.register_store.proofs.setting_check.NeedCheckRowCheck.take_row.Goals as goal
 
 pub returns-in_default-clause-refused : goal.returns-in_default-clause-refused

@@ -1,7 +1,6 @@
 use Rattle.std.proofs.Common.{◌≡◌, true, false, sym, ◌∙◌}
-use Rattle.register_store.specs.CheckedTables.{ShowsTypePeriod}
-use Rattle.register_store.specs.CheckedRows.{IsAnyPeriod}
-use Rattle.register_store.proofs.EachChecked.{found_none, found_one, one_more, one_odd}
+use Rattle.register_store.specs.{CheckedTables.ShowsTypePeriod, CheckedRows.IsAnyPeriod}
+use Rattle.register_store.proofs.EntriesChecked.{found_none, found_one, one_more, one_odd}
 use Rattle.register_store.proofs.setting_check.PeriodCheckRowCheck.take_row.Goals as goal
 
 pub returns-clause-taken : goal.returns-clause-taken

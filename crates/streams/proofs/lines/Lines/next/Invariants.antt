@@ -2,8 +2,7 @@
 use Rattle.std.proofs.Common.{◌≡◌, ◌-◌, ◌*◌, ◌≤◌, ℕ, List}
 use Rattle.std.specs.Io.KnownBytes.{prepend_known}
 use Rattle.streams.specs.declared.lines.TheConstants.{MAX_PIECE_LENGTH}
-use Rattle.streams.specs.declared.watched.TheConstants.{MAX_READS}
-use Rattle.streams.specs.Lines.{Takes, work_left}
+use Rattle.streams.specs.{declared.watched.TheConstants.MAX_READS, Lines.Takes, Lines.work_left}
 use Rattle.streams.proofs.LinesLemmas.{Begun}
 use Rattle.streams.proofs.lines.Lines.next.Given as goal
 

@@ -1,66 +1,53 @@
 -- What applying a request does to a desk that is over some tables, whatever history they are of if any.
-use Rattle.std.proofs.Common.{◌≡◌, ◌≤◌, inl, inr, ℕ, ◌+◌, Bool, false, if◌then◌else◌, List, [], ◌∷◌}
-use Rattle.std.proofs.Common.{length, map, Option, None, Some, Result, Ok, Err, refl, sym, ap, subst, ◌∙◌, arith}
-use Rattle.std.specs.List.{AllByRecursion, enumerate_from}
+use Rattle.std.proofs.Common.{◌≡◌, ◌≤◌, inl, inr, ℕ, ◌+◌, Bool, false, if◌then◌else◌, List, [], ◌∷◌, length, map}
+use Rattle.std.proofs.Common.{Option, None, Some, Result, Ok, Err, refl, sym, ap, subst, ◌∙◌, arith, ◌++◌, cond}
 use Rattle.std.proofs.lemmas.Bool.Decides.{nat_tests}
 use Rattle.std.proofs.lemmas.List.{length-append, length-map}
 use Rattle.std.proofs.lemmas.List.FromFn.{length-enumerate_from}
+use Rattle.std.proofs.lemmas.Result.{IfErr-weaker, IfOk-weaker, on_err_weaker}
+use Rattle.std.specs.List.{AllByRecursion, enumerate_from, cons_option}
 use Rattle.sqlite_trees.specs.declared.store.Store as store
 use Rattle.sqlite.specs.Effect.{Database}
 use Rattle.sql_steps.specs.Steps.{TransactsBy}
-use Rattle.lifecycle_core.specs.declared.row.Row.{Row}
-use Rattle.lifecycle_core.specs.Row.{IsRightAt}
-use Rattle.period_core.specs.declared.key_type.KeyType.{KeyType}
-use Rattle.period_core.specs.Period.{Period, period_or_default}
-use Rattle.register_requests.specs.declared.request.Command.{Command}
+use Rattle.lifecycle_core.specs.{declared.row.Row.Row, Row.IsRightAt}
+use Rattle.period_core.specs.{declared.key_type.KeyType.KeyType, Period.Period, Period.period_or_default}
 use Rattle.register_requests.specs.declared.request.Request.{Request}
-use Rattle.register_requests.specs.Request.{IsRequest}
-use Rattle.register_requests.specs.Subject.{Subject, subject}
-use Rattle.register_requests.specs.Version.{current}
-use Rattle.register_requests.specs.Within.Subject.{made_by}
-use Rattle.register_core.specs.declared.answer.Answer.{Answer}
+use Rattle.register_requests.specs.{Subject.Subject, Subject.subject, declared.request.Command.Command}
+use Rattle.register_requests.specs.{Request.IsRequest, Version.current, Within.Subject.made_by}
 use Rattle.register_core.specs.declared.answer.Answer.TheVariants.{Accepted, Refused}
-use Rattle.register_core.specs.Answer.{UnlessAccepted}
-use Rattle.register_core.specs.declared.change.Change.{Change}
 use Rattle.register_core.specs.declared.change.Change.TheVariants.{Made, Nothing}
-use Rattle.register_core.specs.declared.change.Change.TheVariants as change
-use Rattle.register_core.specs.declared.key.Key.{Key}
-use Rattle.register_core.specs.declared.kept_reply.KeptReply.{KeptReply}
-use Rattle.register_core.specs.declared.reply.Refusal.{Refusal}
 use Rattle.register_core.specs.declared.reply.Refusal.TheVariants.{RequestReused}
-use Rattle.register_core.specs.declared.reply.Reply.{Reply}
-use Rattle.register_core.specs.declared.view.Held.{Held}
-use Rattle.register_core.specs.declared.view.View.{View}
 use Rattle.register_core.specs.Decision.{change_of, change_by_request, change_without_key, reply_of_view, reply_to}
-use Rattle.register_core.specs.Effect.{needed_period_type}
-use Rattle.register_core.specs.KeptReply.{kept_with, IsKeptReply}
-use Rattle.register_core.specs.Settings.{period_at}
+use Rattle.register_core.specs.KeptReply.{kept_with, IsKeptReply, kept, kept_under, reply}
 use Rattle.register_core.specs.Verdict.{answer_by, is_same_command, judge, judge_view, limit_refusal, max_keys}
-use Rattle.register_core.specs.Verdict.{repeated, Repeats, Refuses, verdict_by}
-use Rattle.register_core.proofs.Kept.{decided_at, decided_in_range}
-use Rattle.register_core.proofs.Lawful.{all_more}
-use Rattle.register_core.proofs.Needed.{AreSoFor, changed_by, judge_by, so_for}
-use Rattle.register_core.proofs.Refusals.{passes}
-use Rattle.register_store.specs.AcceptedRequest.{CanTake, with_request}
-use Rattle.register_store.specs.Change.{made_count, with_change}
-use Rattle.register_store.specs.Schema.{Holds}
-use Rattle.register_store.specs.TableChanges as tabled
+use Rattle.register_core.specs.Verdict.{repeated, Repeats, Refuses, verdict_by, Verdict, Accepts, answer, is_accepted}
+use Rattle.register_core.specs.Verdict.{judgement, named_key, unless_kept, verdict}
+use Rattle.register_core.specs.declared.kept_reply.KeptReply.{KeptReply}
+use Rattle.register_core.specs.{declared.answer.Answer.Answer, Answer.UnlessAccepted, declared.change.Change.Change}
+use Rattle.register_core.specs.{declared.key.Key.Key, declared.reply.Refusal.Refusal, declared.reply.Reply.Reply}
+use Rattle.register_core.specs.{declared.view.Held.Held, declared.view.View.View, Effect.needed_period_type}
+use Rattle.register_core.specs.{Settings.period_at, Fold.history_after, Fold.IsLawful, History.latest, History.period}
+use Rattle.register_core.specs.declared.change.Change.TheVariants as change
+use Rattle.register_core.proofs.Needed.{AreSoFor, changed_by, judge_by, so_for, changed_so, judged_so}
+use Rattle.register_core.proofs.{Kept.decided_at, Kept.decided_in_range, Kept.one_kept, Lawful.all_more}
+use Rattle.register_core.proofs.{Lawful.lawful_after, Refusals.passes, Decisions.agrees_as, Verdicts.judged}
 use Rattle.register_store.specs.TableChanges.{AreRightAt, advanced, where_number, with_keys_advanced}
 use Rattle.register_store.specs.TableChanges.{with_owner_and_row}
-use Rattle.register_store.specs.TableReads.{HasRequest, seen}
-use Rattle.register_store.specs.Tables.{Tables}
-use Rattle.register_desk.specs.declared.desk.Desk.{Desk}
-use Rattle.register_desk.specs.declared.end.End.{End}
-use Rattle.register_desk.specs.declared.end.End.TheVariants.{Store}
+use Rattle.register_store.specs.{AcceptedRequest.CanTake, AcceptedRequest.with_request, TableReads.HasRequest}
+use Rattle.register_store.specs.{TableReads.seen, Change.made_count, Change.with_change, Schema.Holds, Tables.Tables}
+use Rattle.register_store.specs.TableChanges as tabled
 use Rattle.register_desk.specs.Desk.{AppliesOver, ChangesNothing, IsAnsweredOver, IsClean, IsNew, IsOpen, IsWhole}
-use Rattle.register_desk.specs.Desk.{KeepsCounts, LeavesWithRequest, UnlessChanged}
-use Rattle.register_desk.specs.Within.DeskCalls.{left_at, left_by}
-use Rattle.register_desk.specs.Register.{IsOver}
+use Rattle.register_desk.specs.Desk.{KeepsCounts, LeavesWithRequest, UnlessChanged, AppliesTo, LeavesEither}
 use Rattle.register_desk.specs.TablesView.{change_over, judgement_over, key_needed, period_over, reply_over}
-use Rattle.register_desk.specs.TablesView.{tables_after, with_accepted}
-use Rattle.register_desk.specs.Within.TablesView.{IsViewOver}
-use Rattle.register_desk.proofs.Grows.{change_counts}
+use Rattle.register_desk.specs.TablesView.{tables_after, with_accepted, verdict_over}
+use Rattle.register_desk.specs.Register.{IsOver, LeavesEitherOf, tables}
+use Rattle.register_desk.specs.{Within.DeskCalls.left_at, Within.DeskCalls.left_by, declared.desk.Desk.Desk}
+use Rattle.register_desk.specs.{declared.end.End.End, declared.end.End.TheVariants.Store, Within.TablesView.IsViewOver}
+use Rattle.register_desk.proofs.Grows.{change_counts, tables_grow, keys_counted, period_is}
 use Rattle.register_desk.proofs.Readings.{Settles, keeps_committed, leaves_nothing_else, over_still}
+use Rattle.register_desk.proofs.Needing.{needed_is}
+use Rattle.sqlite_rules.specs.Lists.{Has}
+use Rattle.sqlite_trees.specs.declared.store.Store.{Ghosts}
 
 -- ---- how many keys there are
 
@@ -312,3 +299,97 @@ pub unchanged_left : {S : Type 0} (g : store.Ghosts S) (old mid : Desk S g) (r :
 unchanged_left g old mid (Ok given) holds = holds
 unchanged_left g old mid (Err Store) holds = λ other. absurd (other refl)
 unchanged_left g old mid (Err end) holds = holds
+
+-- ---- What applying a request does over the tables of a history it does to a desk that stands for the history.
+
+-- ---- the tables of a history
+
+-- an element of a list of one at most is all of it
+alone : {X : Type 0} (xs : List X) (x : X) → Has xs x → length xs ≤ 1 → xs ≡ x ∷ []
+alone [] x there one = absurd there
+alone (y ∷ []) x (inl same) one = ap (λ z. z ∷ []) (sym same)
+alone (y ∷ []) x (inr none) one = absurd none
+alone (y ∷ z ∷ more) x there one = absurd (omega (arith, one))
+
+-- what is found under a caller and a number is what the history keeps there
+kept_is : (h : List Request) → IsLawful h → (caller : List ℕ) (number : ℕ) (found : Option KeptReply)
+    → HasRequest caller number (tables h) found → kept_under caller number (kept h) ≡ cons_option found []
+kept_is h lawful caller number None none = none
+kept_is h lawful caller number (Some k) there =
+    alone (kept_under caller number (kept h)) k there (one_kept h lawful caller number)
+
+module _ (h : List Request) (q : Request) where
+  judged_is : judgement_over (tables h) q ≡ judgement h q
+  judged_is =
+      (λ i. judge (latest h) (keys_counted h i) (λ (kind : KeyType). period_is h kind i) (needed_is h q i) q)
+      ∙ judged_so h q
+
+  verdict_is : IsLawful h → (found : Option KeptReply) → HasRequest q.caller q.number (tables h) found
+      → verdict_over (tables h) q found ≡ verdict h q
+  verdict_is lawful found there i =
+      unless_kept (sym (kept_is h lawful q.caller q.number found there) i) q.command (verdict_by (judged_is i))
+
+  -- an acceptance makes the tables of the history with the request
+  module _ (lawful : IsLawful h) (accepted : verdict h q ≡ Accepts) where
+    changed_is : change_over (tables h) q ≡ change_by_request (period h) (named_key h q.command) q
+    changed_is =
+        (λ i. change_by_request (λ (kind : KeyType). period_is h kind i) (needed_is h q i) q)
+        ∙ changed_so h q (judged h q accepted)
+
+    replied_is : reply_over (tables h) q ≡ reply h q
+    replied_is =
+        (agrees_as h q (length (tables h).keys) (change_over (tables h) q) (keys_counted h) changed_is
+        (judged h q accepted)).0
+
+    accepted_is : with_accepted (tables h) q ≡ tables (h ++ q ∷ [])
+    accepted_is =
+        (λ i. with_request (keys_counted h i) (changed_is i) (kept_with q (replied_is i)) (tables h))
+        ∙ sym (tables_grow h q (record { lawful = lawful; accepted = accepted }))
+
+  -- the answer over the tables is the history's, and after it they are those of the history after the request
+  module _ (lawful : IsLawful h) where
+    by_verdict : (v : Verdict) → verdict h q ≡ v
+        → (answer_by v (reply_over (tables h) q) ≡ answer_by v (reply h q))
+        × (tables_after (tables h) q (answer_by v (reply_over (tables h) q))
+        ≡ tables (cond (is_accepted v) (h ++ q ∷ []) h))
+    by_verdict Accepts is = (ap Accepted (replied_is lawful is), accepted_is lawful is)
+    by_verdict (Repeats first) is = (refl, refl)
+    by_verdict (Refuses refusal) is = (refl, refl)
+
+    answered_is : (given : Answer) (found : Option KeptReply) → HasRequest q.caller q.number (tables h) found
+        → given ≡ answer_by (verdict_over (tables h) q found) (reply_over (tables h) q)
+        → (given ≡ answer h q) × (tables_after (tables h) q given ≡ tables (history_after h (Some q)))
+    answered_is given found there is =
+        let same = is ∙ ap (λ (v : Verdict). answer_by v (reply_over (tables h) q)) (verdict_is lawful found there) in
+        let it = by_verdict (verdict h q) refl in
+        (same ∙ it.0, ap (tables_after (tables h) q) same ∙ it.1)
+
+-- ---- the desk of a history
+
+module _ {S : Type 0} (g : Ghosts S) (h : List Request) (q : Request) (old new : Desk S g) where
+  leaves_either : IsLawful h → LeavesWithRequest g (tables h) q new → LeavesEither g h (history_after h (Some q)) new
+  leaves_either lawful (inl same) = λ trees may. let left = same trees may in (left.0, inl left.1, left.2)
+  leaves_either lawful (inr (accepts, leaves)) =
+      subst (λ (u : Tables). LeavesEitherOf (tables h) u (seen g new.connection))
+      (answered_is h q lawful _ None accepts.new
+      (ap (λ (j : Option Refusal). answer_by (verdict_by j) (reply_over (tables h) q)) (sym accepts.judged))).1 leaves
+
+  pub history_follows : (result : Result Answer End) → AppliesOver g (tables h) q old new result
+      → AppliesTo g h q old new result
+  history_follows result applies = record {
+    answers = λ stands request clean.
+        IfOk-weaker result _ _ (λ given is.
+        let it = answered_is h q stands.lawful given is.found is.kept is.answer_is in
+        record {
+          answer_is = it.0;
+          stands = record {
+            lawful = lawful_after h q request stands.lawful;
+            over = subst (IsOver g new) it.1 is.over;
+          };
+        }) (applies.answers stands.over request clean);
+    still = λ stands.
+        on_err_weaker result (λ over. record { lawful = stands.lawful; over = over }) (applies.still stands.over);
+    leaves = λ stands request clean.
+        IfErr-weaker result _ _ (λ end left is. leaves_either stands.lawful (left is))
+        (applies.leaves stands.over request clean);
+  }

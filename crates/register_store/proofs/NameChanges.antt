@@ -1,52 +1,171 @@
--- What the DELETEs of custodians and of approvals do.
-use Rattle.std.proofs.Common.{◌≡◌, ◌≢◌, ◌⊎◌, inl, inr, ◌&&◌, ◌||◌, ℕ, pos, List, [], ◌∷◌, codes, drop, filter, not}
-use Rattle.std.proofs.Common.{Bool, true, false, Some, Ok, refl, sym, ap, subst, ◌∙◌, arith}
-use Rattle.std.specs.List.{AllByRecursion}
-use Rattle.sqlite.specs.declared.types.Value.TheVariants.{Null, Int}
-use Rattle.sqlite.specs.Effect.{Database}
-use Rattle.sqlite.specs.Order.{Row as Cells}
-use Rattle.sqlite.specs.Schema.{Schema}
-use Rattle.sqlite.specs.State.{State, Executes}
-use Rattle.sqlite.specs.Term.{Term}
-use Rattle.sqlite_rules.proofs.ListLemmas.{all_has, some_has}
-use Rattle.sqlite_rules.specs.Action.{loses}
-use Rattle.sqlite_rules.specs.Lists.{Has}
-use Rattle.sqlite_trees.proofs.ListLemmas.{all-filter}
-use Rattle.sqlite_schema.specs.Names.{same_name}
+-- What the conditions of the statements say of the row of an entry.
+use Rattle.std.proofs.Common.{◌≡◌, ◌==◌, ◌&&◌, inl, inr, ℕ, pos, List, [], ◌∷◌, drop, bytes_eq, not, Bool, true, false}
+use Rattle.std.proofs.Common.{refl, sym, ap, ◌∙◌, arith, ◌++◌, codes, slice_get, Some, Ok, ◌≢◌, ◌⊎◌, ◌||◌, filter}
+use Rattle.std.proofs.Common.{subst}
+use Rattle.std.proofs.Math.Bool.{and-true}
+use Rattle.std.proofs.lemmas.Bool.Decides.{eqb_tells}
+use Rattle.std.specs.{Cmp.Lexicographic.bytes_decides, List.AllByRecursion}
+use Rattle.sqlite.specs.declared.types.Value.TheVariants.{Null, Int, Text as Words}
+use Rattle.sqlite.specs.Term.{Term, col, op2, lit}
+use Rattle.sqlite.specs.{Collation.TheVariants.Binary, Ops.binary, Order.Row as Cells, Listing.understood, State.State}
+use Rattle.sqlite.specs.{State.Executes, Effect.Database, Schema.Schema, Table.Table}
+use Rattle.sqlite_rules.specs.{Action.loses, Action.works, Lists.Has}
 use Rattle.sqlite_schema.specs.Rules.{agree, has_null, parent_key, passes, Keeps}
-use Rattle.sqlite_schema.specs.declared.schema.Constraint.TheVariants.{ForeignKey}
-use Rattle.sqlite_tied.specs.Compute.{everything}
-use Rattle.sqlite_value.specs.Keys.{joined, plain}
-use Rattle.sqlite.specs.Table.{Table}
-use Rattle.sql_steps.proofs.Deletes.{ids_shown}
-use Rattle.sql_steps.proofs.Orphans.{removes_both}
-use Rattle.sql_steps.proofs.Removing.{removes}
-use Rattle.sql_steps.proofs.Statements.{plain_query, is_picked}
-use Rattle.register_requests.specs.Name.{IsName}
+use Rattle.sqlite_schema.specs.{declared.schema.Keys.TheVariants.Enforced, declared.schema.Reference.Reference}
+use Rattle.sqlite_schema.specs.{Names.same_name, declared.schema.Constraint.TheVariants.ForeignKey}
+use Rattle.sqlite_sql.specs.{declared.ops.BinaryOp.TheVariants.Compare, declared.ops.CompareOp.TheVariants.Eq}
+use Rattle.sqlite_value.specs.Keys.{first_key, plain, joined}
+use Rattle.sql_steps.proofs.Statements.{is_picked, cast_int, cast_null, plain_query}
+use Rattle.sql_steps.proofs.{Comparing.equal_numbers, Comparing.equal_words, Appending.chosen, Inserting.edit}
+use Rattle.sql_steps.proofs.{Deletes.ids_shown, Orphans.removes_both, Removing.removes}
 use Rattle.register_core.specs.KeyName.{KeyName, key_name, is_key_name, is_at}
-use Rattle.register_store.specs.declared.stored_key.Role.{Role}
-use Rattle.register_store.specs.declared.stored_key.Role.TheVariants as role
-use Rattle.register_store.specs.declared.table.TableName.{TableName}
+use Rattle.register_store.specs.Tables.{name_cells, Layout, to_keys, to_custodian, place_of, ShowsEntries, IsNamed}
+use Rattle.register_store.specs.Tables.{table_of, Tables, IsInRange, content}
 use Rattle.register_store.specs.declared.table.TableName.TheVariants.{Custodian, Approval}
-use Rattle.register_store.specs.declared.stored_key.RoleChange.{RoleChange}
 use Rattle.register_store.specs.declared.stored_key.RoleChange.TheVariants.{Given, Taken}
 use Rattle.register_store.specs.Within.Roles.{change_text, with_role_changed}
-use Rattle.register_store.specs.Tables.{to_custodian, place_of, table_of, Layout, Tables, ShowsEntries, IsNamed}
-use Rattle.register_store.specs.Tables.{IsInRange, content, name_cells}
-use Rattle.register_store.specs.Within.Tables.{custodian, approval, Shows}
 use Rattle.register_store.specs.Schema.{schema_with, Holds, table_rows}
-use Rattle.register_store.specs.TableChanges.{Makes}
 use Rattle.register_store.specs.Within.TableChanges.{Always, without_custodian, without_approval, without_approvals}
 use Rattle.register_store.specs.Within.TableChanges.{without_name}
-use Rattle.register_store.proofs.Actions.{idle, custodian_drops, shows_all}
+use Rattle.register_store.specs.Within.Tables.{custodian, approval, Shows}
+use Rattle.register_store.specs.{declared.stored_key.Role.Role, declared.table.TableName.TableName, Columns.paired}
+use Rattle.register_store.specs.{TableChanges.Makes, declared.stored_key.RoleChange.RoleChange}
+use Rattle.sqlite_tied.specs.Compute.{everything}
+use Rattle.register_core.proofs.Lawful.{all_more}
+use Rattle.register_requests.specs.Name.{IsName}
+use Rattle.register_store.specs.declared.stored_key.Role.TheVariants as role
+use Rattle.register_store.proofs.EntryAdded.{AddsEntry, IsInsert, adds_entry}
+use Rattle.register_store.proofs.Actions.{custodian_idle, idle, custodian_drops, shows_all}
 use Rattle.register_store.proofs.EachTable.{apart_all, each, content_with}
-use Rattle.sqlite_resolve.specs.Compile.{first}
 use Rattle.register_store.proofs.Meanings.{Takes, classes, placed, takes}
-use Rattle.register_store.proofs.Frame.{holds_with, rows_kept}
-use Rattle.register_store.proofs.NameAdded.{adds_name}
-use Rattle.register_store.proofs.EntryRows.{entry_of, shows_filtered}
-use Rattle.register_store.proofs.NameChecks.{at_key, at_name, places, key_past, key_is, name_past, name_is, same_cells}
-use Rattle.register_store.proofs.NameChecks.{agree_same, loses_name}
+use Rattle.register_store.proofs.{Frame.holds_with, Frame.rows_kept, EntryRows.entry_of, EntryRows.shows_filtered}
+use Rattle.sqlite_rules.proofs.ListLemmas.{all_has, some_has}
+use Rattle.sqlite_trees.proofs.ListLemmas.{all-filter}
+use Rattle.sqlite_resolve.specs.Compile.{first}
+
+-- the key's number is the first parameter
+abbrev pub at_key : List Term
+at_key = op2 (Compare Eq Binary) (col 1 1) (col 0 0) ∷ []
+
+-- and the name is the second
+abbrev pub at_name : List Term
+at_name = op2 (Compare Eq Binary) (col 1 1) (col 0 0) ∷ op2 (Compare Eq Binary) (col 1 2) (col 0 1) ∷ []
+
+module _ (tree : ℕ) (shown : List Term) (key : ℕ) where
+  pub key_past : (r : Cells)
+      → is_picked (Int (pos key) ∷ []) tree at_key shown r
+      ≡ is_picked (Int (pos key) ∷ []) tree at_key shown (Null ∷ drop 1 r)
+  key_past r = search arith
+
+  pub key_is : (entry : KeyName) → is_picked (Int (pos key) ∷ []) tree at_key shown (Null ∷ name_cells entry)
+      ≡ is_at key entry
+  key_is entry = rw (equal_numbers entry.key key) (and-true (entry.key == key))
+
+  pub name_past : (name : List ℕ) (r : Cells) → is_picked (name_cells (key_name key name)) tree at_name shown r
+      ≡ is_picked (name_cells (key_name key name)) tree at_name shown (Null ∷ drop 1 r)
+  name_past name r = search arith
+
+  pub name_is : (name : List ℕ) (entry : KeyName)
+      → is_picked (name_cells (key_name key name)) tree at_name shown (Null ∷ name_cells entry)
+      ≡ is_key_name key name entry
+  name_is name entry = search (arith, equal_numbers, equal_words, and-true, bytes_eq)
+
+-- ---- two rows that refer to one another
+
+abbrev pub places : List ℕ
+places = 1 ∷ 2 ∷ []
+
+agree_past : (r x : Cells)
+    → agree plain places r places x ≡ agree plain places (Null ∷ drop 1 r) places (Null ∷ drop 1 x)
+agree_past r x = search arith
+
+module _ (r x : Cells) (a b : KeyName) (of_r : drop 1 r ≡ name_cells a) (of_x : drop 1 x ≡ name_cells b) where
+  agree_is : agree plain places r places x ≡ (a.key == b.key && bytes_eq a.name b.name)
+  unfolding first_key
+  agree_is = search (arith, agree_past, equal_numbers, equal_words, and-true, bytes_eq)
+
+  same_both : (m n : Bool) → (m && n) ≡ true → (m ≡ true) × (n ≡ true)
+  same_both m n e = search arith
+
+  -- they show one entry
+  pub same_cells : agree plain places r places x ≡ true → drop 1 r ≡ drop 1 x
+  same_cells e =
+      let both = same_both (a.key == b.key) (bytes_eq a.name b.name) (sym agree_is ∙ e) in
+      let key : a.key
+      ≡ b.key = elim (eqb_tells a.key b.key) [
+        | inl it ↦ it.1
+        | inr it ↦ absurd (let none = it.0 in let some = both.0 in cc)
+      ] in
+      let name : a.name ≡ b.name = (bytes_decides a.name b.name).0 both.1 in
+      of_r ∙ ap (λ k. Int (pos k) ∷ Words a.name ∷ []) key ∙ ap (λ n. Int (pos b.key) ∷ Words n ∷ []) name ∙ sym of_x
+
+-- rows of one entry agree
+pub agree_same : (r x : Cells) (a : KeyName) → drop 1 r ≡ name_cells a → drop 1 x ≡ name_cells a
+    → agree plain places r places x ≡ true
+agree_same r x a of_r of_x =
+    let key : (a.key == a.key) ≡ true = elim (eqb_tells a.key a.key) [ inl it ↦ it.0 | inr it ↦ absurd (it.1 refl) ] in
+    let name : bytes_eq a.name a.name ≡ true = (bytes_decides a.name a.name).1 refl in
+    agree_is r x a a of_r of_x ∙ ap (λ b. b && bytes_eq a.name a.name) key ∙ name
+
+-- a row of an entry that goes had a key
+pub loses_name : (x : Cells) (a : KeyName) → drop 1 x ≡ name_cells a → loses plain places (x, []) ≡ true
+unfolding binary first_key
+loses_name x a of_x =
+    let own = agree_same x x a of_x of_x in
+    let none : agree plain places x places []
+    ≡ false = agree_past x [] ∙ ap (λ cells. agree plain places (Null ∷ cells) places (Null ∷ [])) of_x in
+    ap (λ b. b && not (agree plain places x places [])) own ∙ ap not none
+
+-- ---- What the INSERTs of a custodian and of an approval do.
+
+abbrev terms : List Term
+terms = lit Null ∷ col 0 0 ∷ col 0 1 ∷ []
+
+module _ (name : List ℕ) (table : TableName) (ref : Reference) (sql : List ℕ) (at : ℕ)
+    (parts : IsInsert sql at terms 3) (entry : KeyName) where
+  named : (l : Layout) (old : State) (has : old.now.schema ≡ schema_with l)
+      → (edit (paired name ref (l.tree table)) (name_cells entry) terms 3 (schema_with l) old has at).news ≡ chosen
+      (name_cells entry) (old.now.trees (l.tree table)) ∷ []
+  named l old has = simp (cast_int, cast_null)
+
+  adds : (old new : State) (count : ℕ) → Executes sql (name_cells entry) old new (Ok count)
+      → (l : Layout) (has : old.now.schema ≡ schema_with l)
+      → slice_get (schema_with l).tables at ≡ Some (paired name ref (l.tree table))
+      → ((news : List Cells) → works (schema_with l) Enforced 0 (l.tree table) [] news ≡ [])
+      → (entries : List KeyName) → ShowsEntries name_cells entries (old.now.trees (l.tree table))
+      → AddsEntry name_cells l (l.tree table) entries entry old new
+  adds = adds_entry name_cells (λ (l : Layout). paired name ref (l.tree table)) terms 3 sql at parts entry named
+
+-- ---- the two tables
+
+abbrev table_name : Role → TableName
+table_name role.Custodian = Custodian
+table_name role.Approver = Approval
+
+insert_is : (role : Role) → IsInsert (change_text (Given role)) (place_of (table_name role)) terms 3
+unfolding understood everything
+insert_is role.Custodian l = (refl, (refl, refl))
+insert_is role.Approver l = (refl, (refl, refl))
+
+pub adds_name : (role : Role) (key : ℕ) (name : List ℕ) → IsName name → (old new : State) (count : ℕ)
+    → Executes (change_text (Given role)) (name_cells (key_name key name)) old new (Ok count)
+    → Makes Always (with_role_changed (Given role) key name) old.now new.now
+adds_name role.Custodian key name is old new count h t holds always =
+    let entry = key_name key name in
+    let did = adds (codes "custodian") Custodian to_keys (change_text (Given role.Custodian)) (place_of Custodian)
+    (insert_is role.Custodian) entry old new count h holds.schema.layout holds.schema.is refl
+    (custodian_idle holds.schema.layout holds.schema.apart) t.custodians (holds.shown Custodian) in
+    holds_with Custodian (t.custodians ++ entry ∷ []) t old.now new.now did.rows holds did.wrote
+    (all_more IsNamed t.custodians entry (holds.in_range Custodian) is) did.shows
+adds_name role.Approver key name is old new count h t holds always =
+    let entry = key_name key name in
+    let did = adds (codes "approval") Approval to_custodian (change_text (Given role.Approver)) (place_of Approval)
+    (insert_is role.Approver) entry old new count h holds.schema.layout holds.schema.is refl
+    (idle holds.schema.layout holds.schema.apart Approval refl 0 []) t.approvals (holds.shown Approval) in
+    holds_with Approval (t.approvals ++ entry ∷ []) t old.now new.now did.rows holds did.wrote
+    (all_more IsNamed t.approvals entry (holds.in_range Approval) is) did.shows
+
+-- ---- What the DELETEs of custodians and of approvals do.
 
 -- the text takes rows that pass out of the table at this place
 abbrev IsDelete : List ℕ → TableName → List Term → Type 0
