@@ -42,9 +42,10 @@ import time
 from typing import NamedTuple
 
 HERE = os.path.dirname(os.path.abspath(__file__))
-sys.path.insert(0, os.path.join(HERE, "..", "checks"))
+sys.path.insert(0, os.path.join(HERE, "..", "checks", "shared"))
 from measuring import clock_of, table  # noqa: E402
-from registers import PROGRAM, STATES, TYPES, UNSET, expect, keyreg  # noqa: E402
+from registers import PROGRAM, STATES, TYPES, UNSET, keyreg  # noqa: E402
+from script import expect  # noqa: E402
 from serving import free_port, listens  # noqa: E402
 
 STEP = 7919

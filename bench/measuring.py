@@ -8,8 +8,8 @@ import tempfile
 import time
 from typing import NamedTuple
 
-sys.path.insert(0, os.path.join(os.path.dirname(os.path.abspath(__file__)), "..", "checks"))
-from registers import expect  # noqa: E402
+sys.path.insert(0, os.path.join(os.path.dirname(os.path.abspath(__file__)), "..", "checks", "shared"))
+from script import expect  # noqa: E402
 
 
 # So often a program's first byte is looked for, and so late it may be seen, in seconds.

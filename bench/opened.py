@@ -7,10 +7,11 @@ import os
 import sqlite3
 import sys
 
-sys.path.insert(0, os.path.join(os.path.dirname(os.path.abspath(__file__)), "..", "checks"))
-from registers import STATES, TYPES, UNSET, VERSION, columns_of, expect  # noqa: E402
+sys.path.insert(0, os.path.join(os.path.dirname(os.path.abspath(__file__)), "..", "checks", "shared"))
+from registers import STATES, TYPES, UNSET, VERSION, columns_of  # noqa: E402
 from register_rules import (  # noqa: E402
     GREATEST_NUMBER, MOST_CUSTODIANS, MOST_KEYS, NAME, RANGES, command_of, field_of, state_at)
+from script import expect  # noqa: E402
 
 
 # ---- the ranges of cells

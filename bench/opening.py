@@ -16,9 +16,10 @@ import tempfile
 import time
 
 HERE = os.path.dirname(os.path.abspath(__file__))
-sys.path.insert(0, os.path.join(HERE, "..", "checks"))
+sys.path.insert(0, os.path.join(HERE, "..", "checks", "shared"))
 from measuring import built  # noqa: E402
-from registers import FIRST_TABLES, INDEXES, PROGRAM, TABLES, UNSET, VERSION, expect  # noqa: E402
+from registers import FIRST_TABLES, INDEXES, PROGRAM, TABLES, UNSET, VERSION  # noqa: E402
+from script import expect  # noqa: E402
 
 ROUNDS = 3
 

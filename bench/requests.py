@@ -60,9 +60,10 @@ import time
 from typing import NamedTuple
 
 HERE = os.path.dirname(os.path.abspath(__file__))
-sys.path.insert(0, os.path.join(HERE, "..", "checks"))
+sys.path.insert(0, os.path.join(HERE, "..", "checks", "shared"))
 from measuring import built, clock_of, measured as run_whole, table  # noqa: E402
-from registers import INDEXES, PROGRAM, STATES, TABLES, UNSET, VERSION, all_rows, columns_of, expect, show  # noqa: E402
+from registers import INDEXES, PROGRAM, STATES, TABLES, UNSET, VERSION, all_rows, columns_of  # noqa: E402
+from script import expect, show  # noqa: E402
 
 # The columns of keys past its number, and those that an accepted request may change, with their parameters.
 CELLS = columns_of("keys")[1:]

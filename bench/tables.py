@@ -49,14 +49,15 @@ import tempfile
 import time
 
 HERE = os.path.dirname(os.path.abspath(__file__))
-sys.path.insert(0, os.path.join(HERE, "..", "checks"))
+sys.path.insert(0, os.path.join(HERE, "..", "checks", "shared"))
 import registers  # noqa: E402
 from measuring import built, measured, measured_behind, table  # noqa: E402
 from opened import opened  # noqa: E402
 from registers import EXPORT_COLUMNS, EXPORT_DATES, IMPORT_COLUMNS, INDEXES, STATES, TABLES, TYPES  # noqa: E402
 from registers import UNSET, VERSION  # noqa: E402
-from registers import all_rows, columns_of, expect, keyreg, show  # noqa: E402
+from registers import all_rows, columns_of, keyreg  # noqa: E402
 from register_rules import PERIODS, is_long, state_at  # noqa: E402
+from script import expect, show  # noqa: E402
 
 # The cells of an export that are no column of `keys` of the same name, in SQL. What the text of such a cell is made of
 # stands in CELL_TEXTS too, unless it is a text or a number.

@@ -1,0 +1,160 @@
+"""What the checks over files share: runs of the program, the tables of docs/SPECIFICATION.md, and the texts of the rules,
+which stand in office/register_rules.py alone."""
+import contextlib
+import os
+import sqlite3
+import subprocess
+from typing import Any, Iterable, Iterator, Sequence, Union
+
+from places import PROGRAM
+import register_rules
+from script import expect
+
+File = Union[str, os.PathLike]
+
+# The texts of the key types by their codes, and of the states; 0 stands where a reply names no state.
+TYPES = dict(enumerate(register_rules.TYPES, 1))
+STATES = dict(enumerate(register_rules.STATES))
+
+# A date that is not set.
+UNSET = register_rules.UNSET
+
+# The version of the tables.
+VERSION = 2
+
+# The columns of an export, in their order, each with its cell of a key of which no more is said; those that are dates;
+# and the columns of an import.
+EXPORT_COLUMNS = {
+    "number": "1", "type": "master", "owner": "bob", "activation": "", "protect_stop": "", "deactivation": "",
+    "state": "Active", "initial": "1970-01-01T00:01:40Z", "destroyed": "", "compromised": "", "occurrence": "",
+    "purpose": "spare"}
+EXPORT_DATES = ("activation", "protect_stop", "deactivation", "initial", "destroyed", "compromised", "occurrence")
+IMPORT_COLUMNS = ("type", "owner", "activation", "protect_stop", "deactivation", "purpose")
+
+# The tables that version 1 had, and those that version 2 added.
+FIRST_TABLES = """
+CREATE TABLE meta (id INTEGER PRIMARY KEY, version INTEGER NOT NULL, latest INTEGER NOT NULL,
+    key_count INTEGER NOT NULL) STRICT;
+CREATE TABLE keys (number INTEGER PRIMARY KEY, kind INTEGER NOT NULL, owner TEXT NOT NULL, purpose TEXT NOT NULL,
+    state INTEGER NOT NULL, initial INTEGER NOT NULL, activation INTEGER NOT NULL, protect_stop INTEGER NOT NULL,
+    deactivation INTEGER NOT NULL, destroyed INTEGER NOT NULL, compromised INTEGER NOT NULL,
+    occurrence INTEGER NOT NULL) STRICT;
+CREATE TABLE custodian (key_no INTEGER NOT NULL REFERENCES keys(number), name TEXT NOT NULL,
+    PRIMARY KEY (key_no, name)) STRICT;
+CREATE TABLE approval (key_no INTEGER NOT NULL, name TEXT NOT NULL, PRIMARY KEY (key_no, name),
+    FOREIGN KEY (key_no, name) REFERENCES custodian(key_no, name) ON DELETE CASCADE) STRICT;
+CREATE TABLE request (caller TEXT NOT NULL, number INTEGER NOT NULL, command TEXT NOT NULL,
+    key_no INTEGER NOT NULL, state INTEGER NOT NULL, moment INTEGER NOT NULL,
+    PRIMARY KEY (caller, number)) STRICT;
+"""
+TABLES = FIRST_TABLES + """
+CREATE TABLE period (kind INTEGER PRIMARY KEY, originator INTEGER NOT NULL, recipient INTEGER NOT NULL) STRICT;
+CREATE TABLE quorum (key_no INTEGER PRIMARY KEY REFERENCES keys(number), need INTEGER NOT NULL) STRICT;
+"""
+
+# The indexes of keys beside their primary key, which a new register has and an older one has not.
+INDEXES = """
+CREATE INDEX keys_by_activation ON keys (state, activation);
+CREATE INDEX keys_by_deactivation ON keys (state, deactivation);
+CREATE INDEX keys_by_protect_stop ON keys (state, protect_stop, number);
+"""
+
+# The worked row "approved anew by one who was removed": each line with its reply.
+APPROVED_ANEW = [
+    ("100 ann 1 register master bob - - - spare", "ok 1 Pre-Active 100"),
+    ("101 bob 1 add-custodian 1 cat", "ok 1 Pre-Active 101"),
+    ("102 bob 2 add-custodian 1 dan", "ok 1 Pre-Active 102"),
+    ("103 cat 1 approve 1", "ok 1 Pre-Active 103"),
+    ("104 dan 1 approve 1", "ok 1 Pre-Active 104"),
+    ("105 bob 3 remove-custodian 1 dan", "ok 1 Pre-Active 105"),
+    ("106 bob 4 destroy 1", "refused 18 ApprovalsMissing have=1 need=2"),
+    ("106 bob 4 add-custodian 1 dan", "ok 1 Pre-Active 106"),
+    ("107 dan 2 approve 1", "ok 1 Pre-Active 107"),
+    ("108 bob 5 destroy 1", "ok 1 Destroyed 108"),
+    ("109 zed 1 revoke 1 2 -", "ok 1 Destroyed-Compromised 109"),
+]
+
+# Its rows, by the formats: type 7 is master, state 1 Pre-Active, 5 Destroyed, 6 Destroyed-Compromised; a compromise
+# without an occurrence gets the Initial Date.
+APPROVED_ANEW_ROWS = {
+    "meta": [(1, VERSION, 109, 1)],
+    "keys": [(1, 7, "bob", "spare", 6, 100, UNSET, UNSET, UNSET, 108, 109, 100)],
+    "custodian": [(1, "cat"), (1, "dan")],
+    "approval": [(1, "cat"), (1, "dan")],
+    "request": [
+        ("ann", 1, "register master bob - - - spare", 1, 1, 100),
+        ("bob", 1, "add-custodian 1 cat", 1, 1, 101),
+        ("bob", 2, "add-custodian 1 dan", 1, 1, 102),
+        ("bob", 3, "remove-custodian 1 dan", 1, 1, 105),
+        ("bob", 4, "add-custodian 1 dan", 1, 1, 106),
+        ("bob", 5, "destroy 1", 1, 5, 108),
+        ("cat", 1, "approve 1", 1, 1, 103),
+        ("dan", 1, "approve 1", 1, 1, 104),
+        ("dan", 2, "approve 1", 1, 1, 107),
+        ("zed", 1, "revoke 1 2 -", 1, 6, 109),
+    ],
+    "period": [],
+    "quorum": [],
+}
+
+
+def export_row(**cells):
+    """The row of a key in an export that has these cells, by the names of their columns, and else the usual ones."""
+    return [str(cell) for cell in {**EXPORT_COLUMNS, **cells}.values()]
+
+
+def run_program(words: Sequence[Any], given: Any = b"", **how: Any) -> subprocess.CompletedProcess:
+    """Runs the program to its end; given are bytes, or an open file."""
+    source = {"input": given} if isinstance(given, bytes) else {"stdin": given}
+    return subprocess.run([PROGRAM, *words], **{**source, "capture_output": True, "check": False, **how})
+
+
+def keyreg(words: Sequence[Any], lines: Iterable[str] = ()) -> list[str]:
+    """Runs the program over the lines, and gives what it writes, line by line, where it ends with status 0."""
+    done = run_program(words, "".join(line + "\n" for line in lines).encode())
+    expect(done.returncode == 0, f"{words}: status {done.returncode}, {done.stderr.decode(errors='replace').strip()}")
+    return done.stdout.decode().splitlines()
+
+
+def new_register(file: File, lines: Iterable[str] = ()) -> list[str]:
+    """Makes a register in a file, and gives the replies to the lines."""
+    keyreg(["init", "--file", file])
+    return keyreg(["run", "--file", file], lines) if lines else []
+
+
+def expect_replies(file: File, exchanges: Iterable[tuple[str, str]]) -> None:
+    """Holds the replies to lines over a file to those that stand beside them."""
+    lines, wanted = zip(*exchanges)
+    replies = keyreg(["run", "--file", file], lines)
+    expect(replies == list(wanted), f"{file}: replies {replies}, not {list(wanted)}")
+
+
+@contextlib.contextmanager
+def database(file: File) -> Iterator[sqlite3.Connection]:
+    """A file in SQLite's own library; what is written is committed in the end."""
+    with contextlib.closing(sqlite3.connect(file)) as connection, connection:
+        yield connection
+
+
+def all_rows(connection):
+    """The rows of each table, in order."""
+    return {name: sorted(connection.execute(f"SELECT * FROM {name}")) for name in APPROVED_ANEW_ROWS}
+
+
+def columns_of(name):
+    """The names of a table's columns, in its order."""
+    with contextlib.closing(sqlite3.connect(":memory:")) as connection:
+        connection.executescript(TABLES)
+        return [row[1] for row in connection.execute(f"PRAGMA table_info({name})")]
+
+
+def are_sound(connection):
+    """Whether SQLite's own library finds nothing wrong in the file."""
+    return (connection.execute("PRAGMA integrity_check").fetchall() == [("ok",)]
+            and not connection.execute("PRAGMA foreign_key_check").fetchall())
+
+
+def put_rows(connection, name, rows):
+    """Puts the rows into the table, which may be none."""
+    for row in rows:
+        connection.execute(f"INSERT INTO {name} VALUES ({', '.join('?' * len(row))})", row)

@@ -1,0 +1,133 @@
+"""What checks/sources/documents.py reads of the code: functions with their clauses, the words that these
+cite, and definitions.
+
+A function is told by its lines: from `fn` to the line that opens its body or ends it with a
+semicolon.
+"""
+import os
+import re
+from dataclasses import dataclass, field
+
+from places import listed, read
+
+FUNCTION = re.compile(r"\s*(pub(?:\(\w+\))? )?(?:const )?fn (\w+)")
+CLAUSE = re.compile(r"\s*(?:requires|ensures)(?: (\w+))? \{")
+OWNER = re.compile(r"(?:impl|(?:pub )?trait|pub\(crate\) trait)\b(?:<[^{]*?>)? (.*?)\{")
+DEFINITION = re.compile(r"\s*(?:[a-z]+ )*pub (?:(?:record|data|filled|inverse) )?([\w◌]+)")
+FIELD = re.compile(r"\s+pub (\w+) :")
+
+
+@dataclass
+class Function:
+    crate: str
+    path: str
+    owner: str
+    name: str
+    is_public: bool
+    takes_self: bool = False
+    parameters: int = 0
+    clauses: set = field(default_factory=set)
+    contract: str = ""
+
+
+def stands_on():
+    """Each crate of crates.txt with those that it stands on."""
+    lines = (line.split("#")[0].split(":") for line in read("crates.txt").splitlines())
+    return {parts[0].strip(): parts[1].split() for parts in lines if len(parts) == 2}
+
+
+def reached(left):
+    """These of our crates, and those that they stand on."""
+    uses, found = stands_on(), set()
+    while left:
+        name = left.pop()
+        if name in uses and name not in found:
+            found.add(name)
+            left += uses[name]
+    return found
+
+
+def below(crate):
+    """The crates of ours that one stands on, by way of others too."""
+    return reached(stands_on()[crate])
+
+
+def parts(text):
+    """The parts of a list, at the commas that stand in no bracket."""
+    found, depth, begun = [], 0, 0
+    for at, letter in enumerate(text):
+        is_end = letter in ")]}" or letter == ">" and text[at - 1] not in "-="
+        depth += (letter in "([{<") - is_end
+        if letter == "," and depth == 0:
+            found.append(text[begun:at])
+            begun = at + 1
+    return [part.strip() for part in found + [text[begun:]] if part.strip()]
+
+
+def between_brackets(text, begin):
+    """What stands between the bracket at this place and the one that closes it."""
+    depth = 0
+    for at in range(begin, len(text)):
+        depth += (text[at] == "(") - (text[at] == ")")
+        if depth == 0:
+            return text[begin + 1:at]
+    return text[begin + 1:]
+
+
+def owner_of(line):
+    """The type or trait whose functions the line begins, if it begins any."""
+    match = OWNER.match(line)
+    if not match:
+        return None
+    named = match.group(1).split(" for ")[-1].strip()
+    return re.match(r"[\w:]*", named).group().split("::")[-1]
+
+
+def head_of(lines, at):
+    """The lines of a function up to its body."""
+    head = []
+    for line in lines[at:]:
+        head.append(line)
+        is_body = line.rstrip().endswith("{") and not CLAUSE.match(line)
+        if is_body or line.rstrip().endswith((";", "{ }", "{}")):
+            break
+    return head
+
+
+def functions_of(path):
+    lines, owner, found = read(path).split("\n"), "", []
+    for at, line in enumerate(lines):
+        owner = owner_of(line) or ("" if line.startswith("}") else owner)
+        match = FUNCTION.match(line)
+        if not match or line.lstrip().startswith("//"):
+            continue
+        text = "\n".join(part for part in head_of(lines, at) if not part.lstrip().startswith("//"))
+        taken = parts(between_brackets(text, text.index("(", match.end())))
+        is_self = bool(taken) and re.fullmatch(r"&?(mut )?self(: .*)?", taken[0]) is not None
+        cut = re.search(r"\n\s*(?:requires|ensures)\b", text)
+        function = Function(path.split("/")[1], path, owner, match.group(2),
+                            match.group(1) == "pub ", is_self, len(taken) - is_self)
+        function.contract = text[cut.start():] if cut else ""
+        function.clauses = {name for name in CLAUSE.findall(text) if name}
+        found.append(function)
+    return found
+
+
+def functions():
+    return [function for path in listed("crates/*/src/**/*.rt")
+            for function in functions_of(path)]
+
+
+def definitions(crates):
+    """Each definition of the specs of these crates: crate, file, name; and all names of fields."""
+    defined, fields = set(), set()
+    for path in listed("crates/*/specs/**/*.antt"):
+        crate, module = path.split("/")[1], os.path.basename(path)[:-5]
+        for line in read(path).split("\n"):
+            part = FIELD.match(line)
+            match = None if part else DEFINITION.match(line)
+            if part:
+                fields.add(part.group(1))
+            elif match and match.group(1) != "mod" and crate in crates:
+                defined.add((crate, module, match.group(1)))
+    return defined, fields

@@ -1,0 +1,534 @@
+#!/usr/bin/env python3
+"""What ./keyreg says while it builds, what makes it build, and what a failure, an interrupt and a
+second call leave: in a copy of the sources, with an `rt` that proves nothing.
+
+    checks/sources/first_build.py [PRESSES]
+
+PRESSES is how often Ctrl-C is pressed at a drawn moment besides, 3 if left out: what is to be seen comes of a few
+milliseconds in each second, so 500 beside other work say more.
+
+That `rt` is this file under another name. It prints what the kit's prints, waits, fails where it is
+told to, and puts a shell script in the place of the program. So no proof is run, and neither cores
+nor a built program are needed.
+"""
+import contextlib
+import fcntl
+import os
+import pathlib
+import pty
+import random
+import re
+import select
+import shutil
+import signal
+import struct
+import subprocess
+import sys
+import tempfile
+import termios
+import time
+
+sys.path.insert(1, str(pathlib.Path(__file__).resolve().parents[1] / "shared"))
+from places import TOP
+
+# Gives back its words and its input, or lives on as `serve` does.
+PROGRAM = """#!/bin/sh
+echo "words: $*"
+[ "$1" = linger ] && exec sleep 60
+exec cat
+"""
+# What a linker leaves that was stopped: it could be run.
+HALF = "#!/bin/sh\necho half\n"
+WORDS = ("run", "--file", "x")
+GIVEN = "a line\n"
+WANTED = "words: run --file x\na line\n"
+FUNCTIONS = 3
+# How many looks at the dates of all sources a call may take that builds nothing.
+TIMES = 20
+LINE = re.compile(
+    r"keyreg: (\d+)(?:-(\d+))? of (\d+): ([\w, ]+), (\d+) functions, (\d+ min \d+ s) *")
+ENDED = re.compile(r"^keyreg: (\w+) is proved \((\d+) of (\d+)\)$", re.M)
+
+
+def write_program(text):
+    """The program, written in place."""
+    program = pathlib.Path("out/keyreg")
+    program.parent.mkdir(exist_ok=True)
+    program.write_text(text, encoding="utf-8")
+    program.chmod(0o755)
+
+
+def tell(told, *words):
+    """Adds a line to what the calls of `rt` tell."""
+    with open(told / "journal", "a", encoding="utf-8") as file:
+        print(*words, file=file)
+
+
+def wait_alone(told, crate, seconds):
+    """Until no other crate has been in hand for so long, however busy the machine is."""
+    since = time.monotonic()
+    while time.monotonic() < since + seconds:
+        words = [line.split()[:2] for line in (told / "journal").read_text(encoding="utf-8").splitlines()]
+        if {name for kind, name in words if kind == "begun"} - {name for kind, name in words if kind == "ended"} != {crate}:
+            since = time.monotonic()
+        time.sleep(0.05)
+
+
+def hold_folders(crate):
+    """Shuts others out of the folders of a crate and of all below it, as the kit's does, but waits for none."""
+    held = []
+    for name in sorted(crates_below(pathlib.Path("../.."), crate)):
+        held.append(os.open(f"../{name}", os.O_RDONLY))
+        try:
+            fcntl.flock(held[-1], fcntl.LOCK_EX | fcntl.LOCK_NB)
+        except BlockingIOError:
+            sys.exit(f"fn {crate}::module::held: another proof has the folder of {name}")
+    return held
+
+
+def rt():
+    """Is `rt version`, or `rt lib --jobs N` and `rt run --jobs N` in the folder of a crate."""
+    if sys.argv[1:] == ["version"]:
+        print(f"another-kit logic {os.environ['LOGIC']}")
+        return
+    crate, told = os.path.basename(os.getcwd()), pathlib.Path(os.environ["TOLD"])
+    if crate == "keyreg":
+        write_program(HALF)
+    tell(told, "begun", crate, os.getpid(), *sys.argv[1:])
+    held = hold_folders(crate)
+    with contextlib.suppress(FileNotFoundError):
+        time.sleep(float((told / f"wait-{crate}").read_text(encoding="utf-8")))
+    with contextlib.suppress(FileNotFoundError):
+        wait_alone(told, crate, float((told / f"alone-{crate}").read_text(encoding="utf-8")))
+    if (told / f"fail-{crate}").exists():
+        sys.exit(f"fn {crate}::module::planted: no proof")
+    for at in range(FUNCTIONS):
+        print(f"fn {crate}::module::function_{at}: proved")
+    print(f"struct {crate}::Thing: proved")
+    print(f"logic=proved functions={FUNCTIONS} sum=0123456789abcdef native=nat,char,string")
+    if crate == "keyreg":
+        write_program(PROGRAM)
+        subprocess.run(["out/keyreg"], check=True)
+    tell(told, "ended", crate)
+    for folder in held:
+        os.close(folder)
+
+
+def crates_below(top=TOP, crate="keyreg"):
+    """Each crate that one stands on, and its own, with those of ours that it stands on."""
+    lines = (top / "crates.txt").read_text(encoding="utf-8").splitlines()
+    texts = [line.split("#")[0].strip() for line in lines]
+    rows = dict(text.split(":") for text in texts if text)
+    found, ahead = {}, [crate]
+    while ahead:
+        name = ahead.pop()
+        found[name] = [below for below in rows[name].split() if below in rows]
+        ahead += [below for below in found[name] if below not in found]
+    return found
+
+
+CRATES = crates_below()
+TOTAL = len(CRATES)
+# The program logic that is told to the script, and that the copy has.
+LOGIC = re.search(r"logic ([0-9a-f]{16})", (TOP / "crates/register_words/src/words.rt").read_text("utf-8"))[1]
+CORES = len(os.sched_getaffinity(0))
+
+
+def needs(crate):
+    """Each crate of ours that one stands on, by way of others too."""
+    return {name for below in CRATES[crate] for name in {below} | needs(below)}
+
+
+def until(holds, seconds=30):
+    """Waits until something holds, and gives whether it came to."""
+    end = time.monotonic() + seconds
+    while not holds() and time.monotonic() < end:
+        time.sleep(0.01)
+    return holds()
+
+
+def lives(process):
+    """Whether a process goes on."""
+    with contextlib.suppress(OSError):
+        text = pathlib.Path(f"/proc/{process}/stat").read_text(encoding="utf-8")
+        return text.rsplit(")", 1)[1].split()[0] != "Z"
+    return False
+
+
+class Copy:
+    """A copy of the sources, in which ./keyreg is called."""
+
+    def __init__(self, folder, presses):
+        self.presses = presses
+        self.top, self.told, self.rest = folder / "top", folder / "told", folder / "rest"
+        for made in (self.top, self.told, self.rest, folder / "bin"):
+            made.mkdir()
+        (folder / "bin" / "rt").symlink_to(pathlib.Path(__file__).resolve())
+        for name in ("keyreg", "crates.txt", "HANDLES", "README.md"):
+            shutil.copy2(TOP / name, self.top)
+        for name in ("crates", "docs", "checks"):
+            # Proofs are most of the files, and each tree of a proof has what it stands on.
+            leaving = shutil.ignore_patterns("out", "__pycache__", "proofs")
+            shutil.copytree(TOP / name, self.top / name, ignore=leaving)
+        self.words = [self.top / "keyreg", *WORDS]
+        path = f"{folder / 'bin'}:{os.environ['PATH']}"
+        more = {"PATH": path, "TOLD": self.told, "TMPDIR": self.rest, "LOGIC": LOGIC}
+        self.environ = {**os.environ, **more}
+
+    def start(self, *words):
+        """A call without a terminal, at the head of a group of processes."""
+        ends = {"stdin": subprocess.PIPE, "stdout": subprocess.PIPE, "stderr": subprocess.PIPE}
+        words = [self.top / "keyreg", *words] if words else self.words
+        return subprocess.Popen(
+            words, env=self.environ, text=True, start_new_session=True, **ends)
+
+    def call(self, *before):
+        """The status of such a call, what it wrote, and what it said."""
+        words, self.words = self.words, [*before, *self.words]
+        begun = self.start()
+        self.words = words
+        wrote, said = begun.communicate(GIVEN, timeout=120)
+        return begun.returncode, wrote, said
+
+    def on_terminal(self, columns, at=None):
+        """The same of a call on a terminal; Ctrl-C is pressed once `at` holds and a line tells how far it is."""
+        given, written = self.told / "given", self.told / "written"
+        given.write_text(GIVEN, encoding="utf-8")
+        process, terminal = pty.fork()
+        if process == 0:
+            fcntl.ioctl(2, termios.TIOCSWINSZ, struct.pack("4H", 24, columns, 0, 0))
+            os.dup2(os.open(given, os.O_RDONLY), 0)
+            os.dup2(os.open(written, os.O_WRONLY | os.O_CREAT | os.O_TRUNC), 1)
+            os.execve(self.words[0], self.words, self.environ)
+        said = b""
+        if at:
+            end = time.monotonic() + 30
+            while not (at() and re.search(rb"keyreg: \d", said)) and time.monotonic() < end:
+                if select.select([terminal], [], [], 0.01)[0]:
+                    said += os.read(terminal, 4096)
+            os.write(terminal, b"\x03")
+        # Reading ends with the last process that writes to the terminal.
+        with contextlib.suppress(OSError):
+            while part := os.read(terminal, 4096):
+                said += part
+        status = os.waitstatus_to_exitcode(os.waitpid(process, 0)[1])
+        os.close(terminal)
+        return status, written.read_text(encoding="utf-8"), said.decode()
+
+    def journal(self, kind):
+        """The lines of one kind that the calls of `rt` told, as words."""
+        with contextlib.suppress(FileNotFoundError):
+            lines = (self.told / "journal").read_text(encoding="utf-8").splitlines()
+            return [line.split()[1:] for line in lines if line.startswith(kind)]
+        return []
+
+    def tells(self, *parts):
+        """Tells the calls of `rt` what to do from here on, and forgets what they told."""
+        for old in self.told.iterdir():
+            old.unlink()
+        for part in parts:
+            name, _, text = part.partition("=")
+            (self.told / name).write_text(text, encoding="utf-8")
+
+    def events(self):
+        """What the calls of `rt` told, in order: the kind, the crate and the rest."""
+        with contextlib.suppress(FileNotFoundError):
+            lines = (self.told / "journal").read_text(encoding="utf-8").splitlines()
+            return [(line.split()[0], line.split()[1], line.split()[2:]) for line in lines]
+        return []
+
+    def begin(self, crate):
+        """Whether the crate is in hand."""
+        return any(words[0] == crate for words in self.journal("begun"))
+
+    def renew(self, path="crates/moment_core/src/lib.rt"):
+        """Gives a file the time of now."""
+        os.utime(self.top / path)
+
+    def built(self, called, what):
+        """Faults of a call that was to build all crates once, and to run the program."""
+        if called[:2] != (0, WANTED):
+            yield f"{what}: {called[:2]}"
+        if sorted(words[0] for words in self.journal("begun")) != sorted(CRATES):
+            yield f"{what}: begun {self.journal('begun')}"
+        if self.left():
+            yield f"{what}: a folder is left"
+
+    def left(self):
+        """What is left of a build but the program: temporary folders, and the trees of its proofs."""
+        return [*self.rest.iterdir(), *(self.top / "out").glob("*")]
+
+    def goes_on(self):
+        """The crates whose proofs go on."""
+        return [words[0] for words in self.journal("begun") if lives(words[1])]
+
+
+def in_order(copy, cores):
+    """Faults of what was begun when, and with how many jobs, on so many cores."""
+    proved, jobs = set(), {}
+    for kind, crate, rest in copy.events():
+        if kind == "ended":
+            proved.add(crate)
+            jobs.pop(crate, None)
+            continue
+        verb, flag, number = rest[1:]
+        jobs[crate] = int(number)
+        if not needs(crate) <= proved:
+            yield f"{crate} is begun before {needs(crate) - proved}"
+        if (verb, flag) != ("run" if crate == "keyreg" else "lib", "--jobs") or not 1 <= jobs[crate] <= 4:
+            yield f"{crate}: rt {rest[1:]}"
+        if sum(jobs.values()) > cores:
+            yield f"{jobs} jobs on {cores} cores"
+
+
+def one_core(copy):
+    """On one core one crate is in hand, with one job."""
+    copy.tells()
+    copy.renew()
+    called = copy.call("taskset", "-c", str(min(os.sched_getaffinity(0))))
+    yield from copy.built(called, "on one core")
+    yield from in_order(copy, 1)
+
+
+def without_the_kit(copy):
+    """Where `rt` is not there, or has another program logic, one line says so, and nothing is begun."""
+    environ, folder = copy.environ, copy.told.parent / "no-rt"
+    folder.mkdir()
+    for name in ("bash", "sed", "tac", "dirname", "readlink", "find", "head", "cut", "flock", "touch", "mkdir", "cat"):
+        (folder / name).symlink_to(shutil.which(name))
+    cases = {"there is no rt": {"PATH": str(folder)}, f"another program logic than {LOGIC}": {"LOGIC": "0" * 16}}
+    for said, changed in cases.items():
+        copy.tells()
+        copy.renew()
+        copy.environ = {**environ, **changed}
+        called = copy.call()
+        copy.environ = environ
+        is_one = called[2].count("\n") == 1 and said in called[2] and "README.md" in called[2]
+        if called[:2] != (69, "") or not is_one or copy.journal("begun"):
+            yield f"{said}: {called}"
+    copy.tells()
+    yield from copy.built(copy.call(), "with the kit again")
+
+
+def silent(copy):
+    """Without a terminal: a line for each crate as it ends, after the announcement."""
+    copy.tells("wait-moment_core=1.5")
+    called = copy.call()
+    yield from copy.built(called, "without a terminal")
+    ended = ENDED.findall(called[2])
+    if [row[1:] for row in ended] != [(str(at + 1), str(TOTAL)) for at in range(TOTAL)]:
+        yield f"without a terminal: {ended}"
+    names = [row[0] for row in ended]
+    slow = names.index("moment_core") if set(names) == set(CRATES) else 0
+    if [name for name in names[:slow] if "moment_core" in needs(name)] or "streams" not in names[:slow]:
+        yield f"without a terminal: no line for each crate as it ends: {names}"
+    yield from in_order(copy, CORES)
+
+
+def terminal(copy):
+    """On a terminal: one line that is written over, with what is in hand, functions and a clock."""
+    copy.tells("alone-sql_steps=2.5")
+    copy.renew()
+    # Four long names and the clock are more than 80.
+    columns = 140
+    called = copy.on_terminal(columns)
+    yield from copy.built(called, "on a terminal")
+    if ENDED.search(called[2]):
+        yield "on a terminal: a line for each crate that ends"
+    pieces = [piece.lstrip("\n") for piece in called[2].split("\r")]
+    pieces = [piece for piece in pieces if LINE.fullmatch(piece)]
+    if any(len(piece) != columns - 1 for piece in pieces):
+        yield "on a terminal: a line that leaves something of the one before, or is too long"
+    rows = [LINE.fullmatch(piece).groups() for piece in pieces]
+    for first, last, total, names, functions, _ in rows:
+        wanted = int(first) + names.count(",")
+        if int(last or first) != wanted or int(total) != TOTAL:
+            yield f"on a terminal: {first}-{last} of {total}: {names}"
+        least = FUNCTIONS * (int(first) - 1)
+        # A proof may have printed its lines and not ended.
+        if not least <= int(functions) <= least + FUNCTIONS * len(names.split(",")):
+            yield f"on a terminal: {functions} functions at {first}: {names}"
+    if {name for row in rows for name in row[3].split(", ")} != set(CRATES):
+        yield f"on a terminal: {rows}"
+    if len({row[5] for row in rows if row[3] == "sql_steps"}) < 2:
+        yield "on a terminal: no line of the slow crate alone, or its clock stands"
+    if "\n" in called[2][called[2].index(pieces[0]):called[2].rindex(pieces[-1])]:
+        yield "on a terminal: a line that is not written over"
+
+
+def looked(top):
+    """The seconds that one look at the dates of all sources takes."""
+    seconds = []
+    for _ in range(5):
+        start = time.monotonic()
+        subprocess.run(["find", "crates", "-printf", "%T@\n"], cwd=top, stdout=subprocess.DEVNULL, check=True)
+        seconds.append(time.monotonic() - start)
+    return min(seconds)
+
+
+def used_at_once(copy):
+    """Where no source of the program's changed, it is used at once."""
+    edit = next((copy.top / "crates/register_store/must-fail").iterdir())
+    tested = copy.top / "crates/test_program/src/lib.rt"
+    for path in ("README.md", "docs/GATE.md", "checks/sources/first_build.py", "keyreg", edit, tested):
+        copy.tells()
+        copy.renew(path)
+        seconds = []
+        for _ in range(5):
+            start = time.monotonic()
+            called = copy.call()
+            seconds.append(time.monotonic() - start)
+            if called != (0, WANTED, "") or copy.journal("begun"):
+                yield f"{path} changed: {called}"
+        if min(seconds) >= TIMES * looked(copy.top):
+            yield f"{path} changed: {min(seconds):.2f} s until a program that stands has ended"
+    print(f"a program that stands has begun and ended in {min(seconds):.3f} s, where a look at its sources took "
+          f"{looked(copy.top):.3f}")
+
+
+def built_again(copy):
+    """Where one changed it is built, also where that was during the build before."""
+    law = next((copy.top / "crates/register_store").glob("specs/**/*.antt"))
+    for path in ("crates/streams/src/lib.rt", law, "crates/keyreg/src/main.rt", "crates.txt"):
+        copy.tells()
+        copy.renew(path)
+        yield from copy.built(copy.call(), f"{path} changed")
+    copy.tells("wait-keyreg=1")
+    copy.renew()
+    begun = copy.start()
+    until(lambda: copy.begin("keyreg"))
+    copy.renew()
+    begun.communicate(GIVEN, timeout=120)
+    copy.tells()
+    yield from copy.built(copy.call(), "a source that changed during a build")
+
+
+def failed(copy):
+    """A failed proof: its log, status 70, and nothing that goes on or was begun after it."""
+    copy.tells("fail-register_store", "wait-key_rows=20")
+    copy.renew()
+    start = time.monotonic()
+    status, wrote, said = copy.call()
+    if (status, wrote) != (70, ""):
+        yield f"a failed proof: status {status}, {wrote}"
+    logged = re.findall(r"^fn (\w+)::.*", said, re.M)
+    if logged != ["register_store"] or "keyreg: register_store is not proved\n" not in said:
+        yield f"a failed proof: {said}"
+    if time.monotonic() - start > 15 or copy.goes_on():
+        yield f"a failed proof: after it went on {copy.goes_on() or 'a proof beside it'}"
+    if copy.begin("register_desk") or copy.left():
+        yield "a failed proof: more was begun, or a folder is left"
+    copy.tells()
+    yield from copy.built(copy.call(), "after a failed proof")
+
+
+def stopped(copy, crate, number, whole):
+    """Faults of a call that gets a signal, alone or with all its group, at a crate."""
+    what = f"{signal.Signals(number).name} at {crate}{', to all' if whole else ''}"
+    copy.tells(f"wait-{crate}=20")
+    copy.renew()
+    begun = copy.start()
+    until(lambda: copy.begin(crate))
+    start = time.monotonic()
+    (os.killpg if whole else os.kill)(begun.pid, number)
+    wrote, _ = begun.communicate(timeout=60)
+    if begun.returncode == 0 or wrote:
+        yield f"{what}: status {begun.returncode}, {wrote}"
+    if not until(lambda: not copy.goes_on(), 2) or time.monotonic() - start > 10:
+        yield f"{what}: {copy.goes_on() or 'what was begun'} goes on"
+    if number == signal.SIGKILL:
+        for left in copy.rest.iterdir():
+            shutil.rmtree(left)
+    elif copy.left():
+        yield f"{what}: a folder is left"
+    copy.tells()
+    yield from copy.built(copy.call(), f"after {what}")
+
+
+def interrupted(copy):
+    """An interrupt ends all that was begun, and the next call builds."""
+    for crate in ("streams", "keyreg"):
+        copy.tells(f"wait-{crate}=20")
+        copy.renew()
+        start = time.monotonic()
+        status, wrote, said = copy.on_terminal(30, lambda crate=crate: copy.begin(crate))
+        if (status, wrote) != (130, "") or copy.left():
+            yield f"Ctrl-C at {crate}: status {status}, {wrote}, or a folder is left"
+        if copy.goes_on() or time.monotonic() - start > 15:
+            yield f"Ctrl-C at {crate}: {copy.goes_on() or 'what was begun'} goes on"
+        lines = re.findall(r"keyreg: \d[^\r\n]*", said)
+        if not lines or any(len(piece) != 29 for piece in lines):
+            yield f"a narrow terminal: {lines}"
+        copy.tells()
+        yield from copy.built(copy.call(), f"after Ctrl-C at {crate}")
+    yield from stopped(copy, "streams", signal.SIGINT, True)
+    yield from stopped(copy, "streams", signal.SIGTERM, False)
+    yield from stopped(copy, "keyreg", signal.SIGTERM, False)
+    yield from stopped(copy, "keyreg", signal.SIGKILL, True)
+
+
+def pressed(copy):
+    """Wherever an interrupt comes, the status is that of one, nothing goes on and nothing is left."""
+    drawn = random.Random(5)
+    for number in range(copy.presses):
+        copy.tells("wait-streams=20")
+        copy.renew()
+        # Half of them within a twentieth of a second of a line, where processes begin and end.
+        delay, begun = drawn.random() * (0.05, 1)[number % 2], []
+
+        def is_due(delay=delay, begun=begun):
+            begun += [time.monotonic()] if copy.begin("streams") and not begun else []
+            return begun and time.monotonic() - begun[0] >= delay
+
+        status, wrote, _ = copy.on_terminal(80, is_due)
+        if (status, wrote) != (130, "") or copy.left() or copy.goes_on():
+            yield f"Ctrl-C {delay:.3f} s after the first crate began: status {status}, {copy.left()}, {copy.goes_on()}"
+
+
+def together(copy):
+    """Two calls at once build once; and a program that goes on keeps no build from beginning."""
+    copy.tells("wait-streams=1")
+    copy.renew()
+    ends = [begun.communicate(GIVEN, timeout=120) for begun in (copy.start(), copy.start())]
+    for wrote, _ in ends:
+        yield from copy.built((0, wrote), "two calls at once")
+    if [said.count("another call is building") for _, said in ends] not in ([0, 1], [1, 0]):
+        yield "two calls at once: not one of them says that it waits"
+    # This call builds, and its program then goes on.
+    copy.renew()
+    lasting = copy.start("linger")
+    lasting.stdout.readline()
+    copy.tells()
+    copy.renew()
+    begun = copy.start()
+    if not until(lambda: len(copy.journal("ended")) == TOTAL):
+        yield "a program that goes on keeps the next call from building"
+        lasting.kill()
+    yield from copy.built((0, begun.communicate(GIVEN, timeout=120)[0]), "beside a program")
+    lasting.kill()
+    lasting.communicate()
+
+
+def main():
+    # A shell that was begun where an interrupt is ignored, as after nohup and &, cannot heed it.
+    signal.signal(signal.SIGINT, signal.default_int_handler)
+    found = []
+    with tempfile.TemporaryDirectory() as folder:
+        copy = Copy(pathlib.Path(folder), int(sys.argv[1]) if len(sys.argv) > 1 else 3)
+        tests = (silent, one_core, without_the_kit, terminal, used_at_once, built_again, failed, interrupted,
+                 pressed, together)
+        for test in tests:
+            try:
+                found += test(copy)
+            except subprocess.TimeoutExpired as late:
+                found.append(f"{test.__name__}: {late}")
+    print(*found, sep="\n", end="\n" if found else "")
+    print(f"./keyreg: {len(found)} faults")
+    sys.exit(1 if found else 0)
+
+
+if __name__ == "__main__":
+    if os.path.basename(sys.argv[0]) == "rt":
+        rt()
+    else:
+        main()
