@@ -238,7 +238,7 @@ def wanted_of(register, moment, caller, number, command, key):
     try:
         named = register.answer(Request(moment, caller, number, command)).key_no
     except Refused as refused:
-        return {"told": {"refused": refused.number, "name": refused.name, **refused.told}, **state}
+        return {"told": {"refused": refused.number, "name": refused.name, **refused.details}, **state}
     after = shown(register, named) if named else None
     if command[0] == "register":
         del after["number"]

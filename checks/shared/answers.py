@@ -12,7 +12,7 @@ def reply_line(register, *request):
         accepted = register.answer(Request(*request))
         return f"ok {accepted.key_no} {STATES[accepted.state]} {accepted.moment}"
     except Refused as refused:
-        return " ".join([f"refused {refused.number} {refused.name}", *(f"{k}={v}" for k, v in refused.told.items())])
+        return refused.line
 
 
 # ---- JSON
@@ -93,7 +93,7 @@ def post_reply(register, *request):
     try:
         accepted = register.answer(Request(*request))
     except Refused as refused:
-        return refusal_reply(refused.number, **refused.told)
+        return refusal_reply(refused.number, **refused.details)
     state = STATES[accepted.state] if accepted.key_no else None
     return reply(200, {"key": accepted.key_no, "moment": accepted.moment, "state": state})
 
