@@ -105,7 +105,7 @@ KINDS = (
     Kind("Add a version of the tables",
          r"Version::Second|Version\.TheVariants\.\{[^}]*Second|first_version|\bmigrate\b|\bversion_1\b",
          {"it copies the file": "checks/shared/document_commands.py packaging/pages.py",
-          "it says where things stand": "checks/shared/places.py docs/CHECKS.md"}),
+          "it says where things stand": "checks/shared/places.py"}),
     Kind("Add a test", r"\btable_wrongly_imported\b", {"its module": "*/imports.rt"}),
 )
 
