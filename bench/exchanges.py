@@ -5,9 +5,8 @@ journal modes.
     bench/exchanges.py [--rounds N] [--seconds N] [--exchanges N] [--keys N] [--connections N] [--directory FOLDER]
 
 Two kinds are asked: GET of a key, keys out of their order, and POST of a registration, each a new one. *python* is the
-standard library's `http.server` over `sqlite3`, on a copy of the same file: it looks a kept request up, reads what it
-is given and judges it by office/register_rules.py, puts keys in their states, writes the same rows in one transaction a
-POST, and forms the same JSON. All hold the file's lock as long as they run and sync at each commit (synchronous =
+standard library's `http.server` over python_register.py, on a copy of the same file: it reads what it is given by
+office/register_rules.py, writes the same rows in one transaction a POST, and forms the same JSON. All hold the file's lock as long as they run and sync at each commit (synchronous =
 FULL). *python, delete* has the rollback journal that `sqlite3` has where nothing else is said: as the kit, it trusts no
 checksum to refuse a torn write, and it syncs four times at a commit. *python, wal* keeps a log beside the file, as the
 kit does, but syncs it once, where the kit syncs twice. Neither tests anything as it opens the file; no start and no
@@ -35,7 +34,6 @@ import re
 import resource
 import shutil
 import socket
-import sqlite3
 import statistics
 import subprocess
 import sys
@@ -46,7 +44,8 @@ from typing import Any, Iterable, NamedTuple, Optional, Sequence
 from measuring import STEP, clock_of, table
 from answers import MEMBERS, compact, request_object
 from places import PROGRAM
-from register_rules import PERIODS, Refused, command_of, command_text, field_of, fitted, refuse, state_at
+from python_register import PythonRegister
+from register_rules import Refused, command_of, command_text, field_of
 from registers import STATES, TYPES, UNSET, columns_of, database, new_register
 from script import expect
 from serving import PATIENCE, free_port, get, listens, post, received
@@ -59,7 +58,6 @@ STOP, END = LATER + 1, LATER + 2
 
 # ---- the bare server in Python
 
-CODES = {text: code for code, text in TYPES.items()}
 ROUTE = re.compile(r"/keys/([1-9][0-9]{0,9})\Z")
 DATES = columns_of("keys")[5:]
 
@@ -70,7 +68,7 @@ def date_of(cell: int) -> Optional[int]:
 
 class Bare(http.server.BaseHTTPRequestHandler):
     """Answers GET of a key and POST of a registration."""
-    database: sqlite3.Connection
+    register: PythonRegister
 
     def answer(self, status: int, value: Any) -> None:
         body = compact(value)
@@ -82,7 +80,7 @@ class Bare(http.server.BaseHTTPRequestHandler):
         self.wfile.write(body)
 
     def do_GET(self) -> None:
-        asked, run = ROUTE.match(self.path), self.database.execute
+        asked, run = ROUTE.match(self.path), self.register.run
         if not asked:
             return self.answer(404, {"name": "NoRoute"})
         number = int(asked[1])
@@ -106,39 +104,14 @@ class Bare(http.server.BaseHTTPRequestHandler):
             number = field_of("number", self.headers["Request-Number"] or "")
             given = json.loads(self.rfile.read(int(self.headers["Content-Length"])))
             text = command_text((given["kind"], *(given[name] for name in MEMBERS["register"])))
-            command = command_of(text)
+            command_of(text)
         except (KeyError, ValueError):
             return self.answer(400, {"name": "BadLine", "refused": 1})
-        self.database.execute("BEGIN")
         try:
-            key, state, moment = self.registered(moment, caller, number, text, *command[1:])
+            key, state, moment = self.register.answer(moment, caller, number, text)
         except Refused as refused:
             return self.answer(409, {"name": refused.name, "refused": refused.number, **refused.details})
-        finally:
-            self.database.execute("COMMIT")
         return self.answer(200, {"key": key, "moment": moment, "state": STATES[state]})
-
-    def registered(self, moment: int, caller: str, number: int, text: str, kind: str, owner: str,
-                   *fields: Any) -> tuple[int, int, int]:
-        """The key, the state and the moment of the reply, of a kept request or of this one, whose rows are written."""
-        run, (*dates, purpose) = self.database.execute, fields
-        searched = "SELECT command, key_no, state, moment FROM request WHERE caller = ? AND number = ?"
-        if kept := run(searched, (caller, number)).fetchone():
-            refuse(kept[0] != text, "RequestReused")
-            return kept[1:]
-        latest, count = run("SELECT latest, key_count FROM meta").fetchone()
-        refuse(moment < latest, "MomentBehind", latest=latest)
-        activation, stop, end = fitted(dates, PERIODS[kind], False).values()
-        key, state = count + 1, state_at(moment, activation, end, None, None)
-        if moment > latest:
-            run("UPDATE keys SET state = 2 WHERE state = 1 AND activation <= ?", (moment,))
-            run("UPDATE keys SET state = 3 WHERE state = 2 AND deactivation <= ?", (moment,))
-        cells = (UNSET if date is None else date for date in (activation, stop, end))
-        row = key, CODES[kind], owner, purpose, state, moment, *cells, UNSET, UNSET, UNSET
-        run("INSERT INTO keys VALUES (?, ?, ?, ?, ?, ?, ?, ?, ?, ?, ?, ?)", row)
-        run("INSERT INTO request VALUES (?, ?, ?, ?, ?, ?)", (caller, number, text, key, state, moment))
-        run("UPDATE meta SET latest = ?, key_count = ? WHERE id = 1", (moment, key))
-        return key, state, moment
 
     def log_message(self, *_: Any) -> None:
         pass
@@ -158,11 +131,8 @@ class BareServer(http.server.HTTPServer):
 
 
 def serve_bare(file: str, port: str, journal: str) -> None:
-    Bare.database = sqlite3.connect(file, isolation_level=None)
-    for pragma in ("locking_mode = EXCLUSIVE", "synchronous = FULL", "foreign_keys = ON", "cache_size = 2000"):
-        Bare.database.execute(f"PRAGMA {pragma}").fetchall()
-    # After the lock, so that the log has its index in memory of its own.
-    mode = Bare.database.execute(f"PRAGMA journal_mode = {journal}").fetchone()
+    Bare.register = PythonRegister(file, journal)
+    mode = Bare.register.run("PRAGMA journal_mode").fetchone()
     expect(mode == (journal,), f"no journal mode {journal}")
     BareServer(("127.0.0.1", int(port)), Bare).serve_forever()
 

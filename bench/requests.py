@@ -20,7 +20,7 @@ key is due then. Keys are taken out of their order, so that each stands on anoth
 kind; each caller's numbers rise.
 
 `keyreg` reads lines, decides and writes replies, each before the next line is read. *python* does the same over
-`sqlite3`, by the dates and states of office/register_rules.py. The *bare* program, bare_requests.rt.txt, gives the
+`sqlite3`, by python_register.py. The *bare* program, bare_requests.rt.txt, gives the
 statements of an accepted request to the kit's `sqlite`: it knows the values before, has nothing to decide and writes no
 reply. All three hold the file's lock as long as they run, keep a log beside the file, copy it into the file when it has
 1000 pages, keep 2000 pages in memory, and sync at each commit: the kit twice, since it trusts no checksum to refuse a
@@ -53,33 +53,14 @@ import subprocess
 import sys
 import tempfile
 import time
-from typing import Any, Iterable, Iterator, NamedTuple, Sequence
+from typing import Iterable, Iterator, NamedTuple, Sequence
 
 from measuring import STEP, built, clock_of, measured as run_whole, rows_of, table, write_register
 from places import PROGRAM
-from registers import STATES, TYPES, UNSET, columns_of, new_register
-from register_rules import ACTIVE, MOST_KEYS, PERIODS, PRE_ACTIVE, Refused, fitted, refuse, state_at
+from python_register import STATEMENTS, PythonRegister
+from registers import STATES, UNSET, new_register
+from register_rules import ACTIVE, PRE_ACTIVE, Refused
 from script import expect, show
-
-# The columns of keys past its number, and those that an accepted request may change, with their parameters.
-CELLS = columns_of("keys")[1:]
-GIVEN = [f"{name} = ?{at}" for at, name in
-         enumerate((name for name in CELLS if name not in ("kind", "purpose", "initial")), 2)]
-
-# The statements of an accepted request, between BEGIN and COMMIT but for the searches.
-STATEMENTS = {
-    "FIND_REQUEST": "SELECT command, key_no, state, moment FROM request WHERE caller = ?1 AND number = ?2",
-    "FIND_KEY": f"SELECT {', '.join(CELLS)} FROM keys WHERE number = ?1",
-    "FIND_PERIOD": "SELECT originator, recipient FROM period WHERE kind = ?1",
-    "FIND_CUSTODIANS": "SELECT name FROM custodian WHERE key_no = ?1",
-    "FIND_APPROVALS": "SELECT name FROM approval WHERE key_no = ?1",
-    "ACTIVATE_DUE": "UPDATE keys SET state = 2 WHERE state = 1 AND activation <= ?1",
-    "DEACTIVATE_DUE": "UPDATE keys SET state = 3 WHERE state = 2 AND deactivation <= ?1",
-    "ADD_KEY": f"INSERT INTO keys (number, {', '.join(CELLS)}) VALUES (?{', ?' * len(CELLS)})",
-    "UPDATE_KEY": f"UPDATE keys SET {', '.join(GIVEN)} WHERE number = ?1 AND NOT ({' AND '.join(GIVEN)})",
-    "ADD_REQUEST": f"INSERT INTO request ({', '.join(columns_of('request'))}) VALUES (?, ?, ?, ?, ?, ?)",
-    "SET_COUNTS": "UPDATE meta SET latest = ?1, key_count = ?2 WHERE id = 1",
-}
 
 # The latest moment of the register at first; the one after which its keys fall due, one each second; the Activation
 # Date of the keys that are registered later; the Protect Stop and the Deactivation Date of all keys.
@@ -206,84 +187,17 @@ def write(file: str, keys: int) -> None:
 
 # ---- the register in Python
 
-# The key's number and state, and the statement that writes it, with its cells.
-Judged = tuple[int, int, str, Sequence[Any]]
-
-
-class Register:
-    """The same register, as far as these requests go: it reads a line, judges the request, runs the statements and
-    gives the line of its reply."""
-
-    def __init__(self, file: str) -> None:
-        self.connection = sqlite3.connect(file, isolation_level=None)
-        self.run = self.connection.execute
-        for pragma in (
-            "locking_mode = EXCLUSIVE", "journal_mode = WAL", "synchronous = FULL", "wal_autocheckpoint = 1000",
-            "cache_size = 2000", "foreign_keys = ON",
-        ):
-            self.run(f"PRAGMA {pragma}").fetchall()
-        self.latest, self.count = self.run("SELECT latest, key_count FROM meta").fetchone()
-        self.judges = {"register": self.registration, "assign": self.assignment, "advance": lambda *_: (0, 0, "", ())}
-        self.codes = {text: code for code, text in TYPES.items()}
-
-    def answer(self, line: str) -> str:
-        moment, caller, number, command = line.split(" ", 3)
-        moment, number = int(moment), int(number)
-        kept = self.run(STATEMENTS["FIND_REQUEST"], (caller, number)).fetchone()
-        try:
-            if kept is not None:
-                refuse(kept[0] != command, "RequestReused")
-                return ok_line(*kept[1:])
-            refuse(moment < self.latest, "MomentBehind", latest=self.latest)
-            word, *fields = command.split(" ", 6)
-            key, state, statement, cells = self.judges[word](moment, caller, *fields)
-        except Refused as refused:
-            return f"{refused.line}\n"
-        kept = Kept(caller, number, command, key, state, moment)
-        self.accept(kept, statement, cells)
-        return ok_line(key, state, moment)
-
-    def registration(self, moment: int, _: str, kind: str, owner: str, *fields: str) -> Judged:
-        *dates, text = fields
-        code = self.codes[kind]
-        period = self.run(STATEMENTS["FIND_PERIOD"], (code,)).fetchone() or PERIODS[kind]
-        activation, stop, end = fitted([None if date == "-" else int(date) for date in dates], period, False).values()
-        refuse(self.count >= MOST_KEYS, "Full")
-        key, state = self.count + 1, state_at(moment, activation, end, None, None)
-        cells = (UNSET if date is None else date for date in (activation, stop, end))
-        return key, state, "ADD_KEY", (key, code, owner, text, state, moment, *cells, UNSET, UNSET, UNSET)
-
-    def assignment(self, moment: int, caller: str, key: str, owner: str) -> Judged:
-        number = int(key)
-        row = self.run(STATEMENTS["FIND_KEY"], (number,)).fetchone()
-        custodians, _ = (sorted(name for name, in self.run(STATEMENTS[names], (number,)))
-                         for names in ("FIND_CUSTODIANS", "FIND_APPROVALS"))
-        refuse(row is None, "UnknownKey")
-        refuse(row[1] != caller, "NotOwner")
-        refuse(owner in custodians, "OwnerCustodian")
-        activation, _, end, destroyed, compromised, _ = (None if date == UNSET else date for date in row[5:])
-        state = state_at(moment, activation, end, destroyed, compromised)
-        return number, state, "UPDATE_KEY", (number, owner, state, *row[5:])
-
-    def accept(self, kept: Kept, statement: str, cells: Sequence[Any]) -> None:
-        self.run("BEGIN")
-        if kept.moment > self.latest:
-            self.run(STATEMENTS["ACTIVATE_DUE"], (kept.moment,))
-            self.run(STATEMENTS["DEACTIVATE_DUE"], (kept.moment,))
-        if statement:
-            self.run(STATEMENTS[statement], cells)
-        count = self.count + (statement == "ADD_KEY")
-        self.run(STATEMENTS["ADD_REQUEST"], kept)
-        self.run(STATEMENTS["SET_COUNTS"], (kept.moment, count))
-        self.run("COMMIT")
-        self.latest, self.count = kept.moment, count
-
 
 def serve_lines(file: str) -> None:
     """Answers the lines that it reads, each before the next, over the file."""
-    register, write_to = Register(file), sys.stdout.buffer
+    register, write_to = PythonRegister(file), sys.stdout.buffer
     for line in sys.stdin.buffer:
-        write_to.write(register.answer(line.decode().rstrip("\n")).encode())
+        moment, caller, number, command = line.decode().rstrip("\n").split(" ", 3)
+        try:
+            reply = ok_line(*register.answer(int(moment), caller, int(number), command))
+        except Refused as refused:
+            reply = f"{refused.line}\n"
+        write_to.write(reply.encode())
         write_to.flush()
     register.connection.close()
 
