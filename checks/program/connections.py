@@ -4,7 +4,7 @@
     checks/program/connections.py
 
 replies    The longest reply that a register has, of more than 2 KB, arrives whole, also where the client takes it
-           in small pieces; none is of 8 KB. A long request is read in pieces, and not byte by byte.
+           in small pieces. A long request is read in pieces, and not byte by byte.
 behind     A client that sends 600 KB behind its request, all of it before it is served, has its whole reply and
            then an end in order: behind each kind of reply, 500 and 503 among them.
 time       A client keeps the next one waiting for 10 seconds in all, 9.5 at least and 11 at most: one that sends
@@ -22,78 +22,28 @@ import os
 import pathlib
 import signal
 import socket
-import subprocess
 import sys
-import tempfile
 import threading
 import time
 import traceback
 from typing import Any, Callable, Iterator, NamedTuple, Optional
 
 sys.path.insert(1, str(pathlib.Path(__file__).resolve().parents[1] / "shared"))
-from answers import (
-    BAD, LENGTH_REQUIRED, MEMORY, NO_ROUTE, STORE, TOO_LARGE, UNKNOWN, get_reply, not_allowed, post_reply, reply, shown,
-)
+from answers import BAD, LENGTH_REQUIRED, MEMORY, NO_ROUTE, STORE, TOO_LARGE, UNKNOWN
+from answers import get_reply, not_allowed, post_reply
 from compared_exchanges import ADVANCE, MOST_BODY, MOST_HEAD, with_a_key
 import refusing
-from register_rules import LAST, MOST_CUSTODIANS, STATES, TYPES, Key, Register, Request, line
-from script import expect
-from serving import Served, get, head, post
+from register_rules import LAST, MOST_CUSTODIANS, TYPES, Register, Request, line
+from script import expect, fresh_folder, options, verdict
+from serving import PATIENCE, Served, get, head, post
 
 KEY = get("/keys/1")
 # More than a hundred reads of a connection that is closed, and less than the 1 MiB that is taken off it.
 BEHIND = b"x" * 600_000
 # What a client keeps the next one waiting, in seconds.
 LEAST, MOST = 9.5, 11.0
-PATIENCE = 60
 # The most reads of a request with the longest body: some for each of its pieces of 4096 bytes.
 MOST_READS = 100
-
-# A system whose buffer has room for ROOM bytes of the first reply, and which counts the reads in the file RECEIVES.
-FULL = r"""
-#include <errno.h>
-#include <stdio.h>
-#include <stdlib.h>
-#include <sys/socket.h>
-#include <sys/time.h>
-#include <unistd.h>
-
-static long receives, sends;
-
-ssize_t send(int to, const void *bytes, size_t count, int flags)
-{
-    char *room = getenv("ROOM");
-    struct timeval wait = { 0 };
-    socklen_t size = sizeof wait;
-    if (!room || ++sends > 2)
-        return sendto(to, bytes, count, flags, 0, 0);
-    if (sends == 1 && (size_t)atol(room) < count)
-        return sendto(to, bytes, atol(room), flags, 0, 0);
-    getsockopt(to, SOL_SOCKET, SO_SNDTIMEO, &wait, &size);
-    if (!wait.tv_sec && !wait.tv_usec)
-        pause();
-    sleep(wait.tv_sec);
-    usleep(wait.tv_usec);
-    errno = EAGAIN;
-    return -1;
-}
-
-ssize_t recv(int from, void *bytes, size_t count, int flags)
-{
-    receives++;
-    return recvfrom(from, bytes, count, flags, 0, 0);
-}
-
-__attribute__((destructor)) static void tell(void)
-{
-    char *path = getenv("RECEIVES");
-    FILE *file = path ? fopen(path, "w") : 0;
-    if (file) {
-        fprintf(file, "%ld\n", receives);
-        fclose(file);
-    }
-}
-"""
 
 
 class Tools(NamedTuple):
@@ -104,14 +54,10 @@ class Tools(NamedTuple):
 
     @classmethod
     def made(cls, folder: str) -> "Tools":
-        source, library = os.path.join(folder, "full.c"), os.path.join(folder, "full.so")
-        with open(source, "w", encoding="ascii") as target:
-            target.write(FULL)
-        subprocess.run(["gcc", "-O1", "-shared", "-fPIC", "-o", library, source], check=True)
-        return cls(folder, library, refusing.build(folder))
+        return cls(folder, refusing.built("full_buffer.c", folder), refusing.built("refusing.c", folder))
 
-    def environment(self, **told: str) -> dict[str, str]:
-        return {**os.environ, "LD_PRELOAD": self.full, **told}
+    def environment(self, **values: str) -> dict[str, str]:
+        return {**os.environ, "LD_PRELOAD": self.full, **values}
 
 
 def to_the_end(connection: socket.socket) -> Any:
@@ -125,9 +71,9 @@ def to_the_end(connection: socket.socket) -> Any:
     return b"".join(pieces)
 
 
-def asked(served: Served, given: bytes) -> Any:
-    with served.connected(PATIENCE) as connection:
-        connection.sendall(given)
+def reply_to(served: Served, request: bytes) -> Any:
+    with served.connected() as connection:
+        connection.sendall(request)
         return to_the_end(connection)
 
 
@@ -153,16 +99,6 @@ def with_the_longest_key() -> tuple[Register, list[str]]:
     return register, [line(*request) for request in requests]
 
 
-def longest_reply() -> int:
-    """No reply has more bytes: each text of it is as long as it may be, and each quote in it has a backslash."""
-    texts = frozenset(f"{place:02}".ljust(64, "c") for place in range(MOST_CUSTODIANS[2]))
-    key = Key(max(TYPES, key=len), "o" * 64, '"' * 200, *[LAST] * 7, texts, texts, 5)
-    register = Register()
-    register.keys[4294967295] = key
-    told = {**shown(register, 4294967295), "state": max(STATES, key=len)}
-    return len(reply(200, told))
-
-
 def in_small_pieces(served: Served) -> bytes:
     """The reply to a client whose system has room for little, and which takes some bytes now and then."""
     pieces = []
@@ -179,23 +115,21 @@ def in_small_pieces(served: Served) -> bytes:
 
 def replies(tools: Tools) -> Iterator[str]:
     register, lines = with_the_longest_key()
-    wanted, bound = get_reply(register, 1, False), longest_reply()
-    expect(2048 < len(wanted) <= bound < 8192, f"a reply of {len(wanted)} bytes, where none has more than {bound}")
+    wanted = get_reply(register, 1, False)
+    expect(2048 < len(wanted), f"a reply of {len(wanted)} bytes")
     with Served(exchanges=2, lines=lines) as served:
-        expect(asked(served, KEY) == wanted, "the longest reply")
+        expect(reply_to(served, KEY) == wanted, "the longest reply")
         expect(in_small_pieces(served) == wanted, "the longest reply, taken in small pieces")
-    yield f"a reply of {len(wanted)} bytes came whole, of {bound} that the longest can have"
-    told = os.path.join(tools.folder, "receives")
-    body = ADVANCE + b" " * (MOST_BODY - len(ADVANCE))
-    with Served(exchanges=1, environment=tools.environment(RECEIVES=told)) as served:
+    yield f"a reply of {len(wanted)} bytes came whole"
+    receives = pathlib.Path(tools.folder, "receives")
+    with Served(exchanges=1, environment=tools.environment(RECEIVES=str(receives))) as served:
         begun = int(time.time())
-        found = asked(served, post(body, "Caller: zed", "Request-Number: 1"))
-        expect(found in advanced(Register(), 1, begun), f"a body of {len(body)} bytes: {found}")
+        reply = reply_to(served, post(ADVANCE.ljust(MOST_BODY), "Caller: zed", "Request-Number: 1"))
+        expect(reply in advanced(Register(), 1, begun), f"a body of {MOST_BODY} bytes: {reply}")
         expect(served.ended() is None, "the end after a long body")
-    with open(told, encoding="ascii") as source:
-        reads = int(source.read())
-    expect(0 < reads <= MOST_READS, f"a body of {len(body)} bytes was read in {reads} pieces")
-    yield f"a body of {len(body)} bytes was read in {reads} pieces"
+    reads = int(receives.read_text("ascii"))
+    expect(0 < reads <= MOST_READS, f"a body of {MOST_BODY} bytes was read in {reads} pieces")
+    yield f"a body of {MOST_BODY} bytes was read in {reads} pieces"
 
 
 # ---- behind
@@ -207,29 +141,29 @@ def advanced(register: Register, number: int, begun: int) -> list[bytes]:
     return [post_reply(register.copy(), moment, "zed", number, ("advance",)) for moment in moments]
 
 
-def send_all(connection: socket.socket, given: bytes) -> None:
+def send_all(connection: socket.socket, sent: bytes) -> None:
     with contextlib.suppress(OSError):
-        connection.sendall(given)
+        connection.sendall(sent)
 
 
-def heard(served: Served, given: bytes) -> Any:
+def heard(served: Served, request: bytes) -> Any:
     """What a client hears that has sent these bytes, and all that is behind them, before it is served, and what broke
     its connection, if that was not closed in order. One before it, which sends nothing, is heard until then. One after
     it is heard once it is closed, or the program has ended."""
-    with served.connected(PATIENCE) as first, served.connected(PATIENCE) as second:
-        sends = threading.Thread(target=send_all, args=(second, given + BEHIND), daemon=True)
+    with served.connected() as first, served.connected() as second:
+        sends = threading.Thread(target=send_all, args=(second, request + BEHIND), daemon=True)
         sends.start()
         sends.join(1)
         first.shutdown(socket.SHUT_WR)
         expect(to_the_end(first) == b"", "the client before it")
-        found = to_the_end(second)
+        reply = to_the_end(second)
         sends.join()
-        with contextlib.suppress(OSError), served.connected(PATIENCE) as third:
+        with contextlib.suppress(OSError), served.connected() as third:
             third.shutdown(socket.SHUT_WR)
             to_the_end(third)
         # An end that was read already hides what came after it.
         broken = second.getsockopt(socket.SOL_SOCKET, socket.SO_ERROR)
-        return (found, os.strerror(broken)) if broken else found
+        return (reply, os.strerror(broken)) if broken else reply
 
 
 def behind_replies() -> Iterator[str]:
@@ -244,12 +178,12 @@ def behind_replies() -> Iterator[str]:
         "413 of a body": (post(b"", length=MOST_BODY + 1), TOO_LARGE),
     }
     with Served(exchanges=3 * len(cases) + 3, lines=lines) as served:
-        for name, (given, wanted) in cases.items():
-            found = heard(served, given)
-            expect(found == wanted, f"bytes behind a {name}: {found}")
+        for name, (request, wanted) in cases.items():
+            reply = heard(served, request)
+            expect(reply == wanted, f"bytes behind a {name}: {reply}")
         begun = int(time.time())
-        found = heard(served, post(ADVANCE, "Caller: zed", "Request-Number: 1"))
-        expect(found in advanced(register, 1, begun), f"bytes behind a POST: {found}")
+        reply = heard(served, post(ADVANCE, "Caller: zed", "Request-Number: 1"))
+        expect(reply in advanced(register, 1, begun), f"bytes behind a POST: {reply}")
         expect(served.ended() is None, "the end after bytes behind requests")
     yield f"{len(cases) + 1} replies came whole before {len(BEHIND)} bytes that nobody asked for"
 
@@ -257,8 +191,8 @@ def behind_replies() -> Iterator[str]:
 def behind_500() -> Iterator[str]:
     """The database may not grow, so that the first request that would change it is answered so."""
     with Served(lines=with_a_key()[1], file_limit=4096) as served:
-        found = heard(served, post(ADVANCE, "Caller: zed", "Request-Number: 1"))
-        expect(found == STORE, f"bytes behind a 500: {found}")
+        reply = heard(served, post(ADVANCE, "Caller: zed", "Request-Number: 1"))
+        expect(reply == STORE, f"bytes behind a 500: {reply}")
         expect(served.ended(3, b"keyreg: Store\n") is None, "the end after a 500")
     yield "so did a 500"
 
@@ -270,11 +204,11 @@ def behind_503(tools: Tools) -> Iterator[str]:
     for refused in range(1, 100):
         with Served(exchanges=3, lines=lines, environment=place.environment(refused, on_signal=True)) as served:
             os.kill(served.process.pid, signal.SIGUSR1)
-            found = heard(served, KEY)
-        if found == MEMORY:
+            reply = heard(served, KEY)
+        if reply == MEMORY:
             yield f"so did a 503, at allocation {refused}"
             return
-        expect(found == get_reply(register, 1, False), f"bytes behind a reply at allocation {refused}: {found}")
+        expect(reply == get_reply(register, 1, False), f"bytes behind a reply at allocation {refused}: {reply}")
     expect(False, "no allocation that was refused came to a 503")
 
 
@@ -311,21 +245,20 @@ def for_half_the_time(client: socket.socket) -> None:
     client.sendall(KEY[10:])
 
 
-def waited(
-    name: str, sends: Callable[[socket.socket], None], environment: Optional[dict[str, str]] = None,
-) -> Iterator[str]:
+def waited(name: str, sends: Callable[[socket.socket], None],
+           environment: Optional[dict[str, str]] = None) -> Iterator[str]:
     """How long a client that sends so keeps the next one waiting, which is then served."""
     register, lines = with_a_key()
-    with Served(exchanges=2, lines=lines, environment=environment) as served, served.connected(PATIENCE) as client:
+    with Served(exchanges=2, lines=lines, environment=environment) as served, served.connected() as client:
         begun = time.monotonic()
-        with served.connected(PATIENCE) as following:
+        with served.connected() as following:
             following.sendall(KEY)
             thread = threading.Thread(target=sends, args=(client,), daemon=True)
             thread.start()
-            found = to_the_end(following)
+            reply = to_the_end(following)
             seconds = time.monotonic() - begun
             thread.join()
-        expect(found == get_reply(register, 1, False), f"the client after one that {name}: {found}")
+        expect(reply == get_reply(register, 1, False), f"the client after one that {name}: {reply}")
         expect(LEAST <= seconds <= MOST, f"a client that {name} kept the next one waiting for {seconds:.1f} s")
         expect(served.ended() is None, f"the end after a client that {name}")
     yield f"a client that {name} kept the next one waiting for {seconds:.1f} s"
@@ -344,28 +277,26 @@ def parts(tools: Tools) -> dict[str, Iterator[str]]:
     }
 
 
-def main() -> int:
+def main() -> None:
+    options(__doc__)
     faults = []
 
-    def run(name: str, part: Iterator[str]) -> None:
+    def try_part(name: str, part: Iterator[str]) -> None:
         try:
-            for told in part:
-                print(told, flush=True)
+            for result in part:
+                print(result, flush=True)
         except SystemExit as fault:
             faults.append(f"{name}: {fault}")
         except Exception:
             faults.append(f"{name}: {traceback.format_exc()}")
 
-    with tempfile.TemporaryDirectory(prefix="connections-") as folder:
-        threads = [threading.Thread(target=run, args=part) for part in parts(Tools.made(folder)).items()]
+    with fresh_folder() as folder:
+        threads = [threading.Thread(target=try_part, args=part) for part in parts(Tools.made(str(folder))).items()]
         for thread in threads:
             thread.start()
         for thread in threads:
             thread.join()
-    print(*faults, sep="\n", end="\n" if faults else "")
-    print(f"{len(threads) - len(faults)} of {len(threads)} parts are as they should be")
-    return 1 if faults else 0
+    verdict(f"{len(threads) - len(faults)} of {len(threads)} parts are as they should be", faults)
 
 
-if __name__ == "__main__":
-    sys.exit(main())
+main()

@@ -1,19 +1,23 @@
-"""A disk that loses its power, for checks/program/power_cuts.py: the calls that a program made of its two files, as strace records them, and
-what a disk may hold of these files between any two calls.
+"""A disk that loses its power, for power_cuts.py: the calls that a program made of its two files, as strace records
+them, and what a disk may hold of these files between any two calls.
 
-What a sync of a file was answered for stands. Of each later write each sector is as it was, as written, or noise, each by itself,
-and each later truncation is done or not; bytes beside those of a write are as they were. A file that was made is there once it or its
-folder was synced, and may be there before. A disk that forgets takes every second sync for done that it does not do.
+What a sync of a file was answered for stands. Of each later write each sector is as it was, as written, or noise, each
+by itself, and each later truncation is done or not; bytes beside those of a write are as they were. A file that was
+made is there once it or its folder was synced, and may be there before. A disk that forgets takes every second sync for
+done that it does not do.
 """
 import os
+import pathlib
 import random
 import re
 import subprocess
 from typing import Any, Callable, NamedTuple, Optional
 
+from script import expect
+
 SECTOR = 512
-CALLS = ("open,openat,creat,close,dup,dup2,dup3,write,writev,pwrite64,pwritev,pwritev2,sendto,sendmsg,ftruncate,truncate,fallocate,"
-         "fsync,fdatasync,sync_file_range,msync,unlink,unlinkat,rename,renameat,renameat2,mmap")
+CALLS = ("open,openat,creat,close,dup,dup2,dup3,write,writev,pwrite64,pwritev,pwritev2,sendto,sendmsg,ftruncate,"
+         "truncate,fallocate,fsync,fdatasync,sync_file_range,msync,unlink,unlinkat,rename,renameat,renameat2,mmap")
 LINE = re.compile(r"(?:\d+ +)?(\w+)\((.*)\)\s+= (-?\d+)(?: .*)?$")
 STRING = re.compile(r'"((?:\\x[0-9a-f]{2})*)"')
 # The parts of a register in files, by the ends of their names.
@@ -29,8 +33,8 @@ class Event(NamedTuple):
     data: bytes = b""
 
 
-def text_of(told: str) -> bytes:
-    return bytes.fromhex(told.replace("\\x", ""))
+def text_of(string: str) -> bytes:
+    return bytes.fromhex(string.replace("\\x", ""))
 
 
 class Recording:
@@ -39,8 +43,9 @@ class Recording:
     def __init__(self, file: str) -> None:
         self.file, self.open, self.events = os.path.abspath(file), {}, []
         self.calls: dict[str, Callable[[str, int], None]] = {
-            "openat": self.opened, "open": self.opened, "creat": self.opened, "close": self.closed, "write": self.written,
-            "sendto": self.written, "pwrite64": self.placed, "ftruncate": self.cut, "fsync": self.synced, "fdatasync": self.synced,
+            "openat": self.opened, "open": self.opened, "creat": self.opened, "close": self.closed,
+            "write": self.written, "sendto": self.written, "pwrite64": self.placed, "ftruncate": self.cut,
+            "fsync": self.synced, "fdatasync": self.synced,
         }
 
     def part_of(self, path: str) -> Optional[str]:
@@ -52,63 +57,59 @@ class Recording:
 
     def take(self, line: str) -> None:
         """Takes one line. A call of the files that is not known here is an error, since no cut would see it."""
-        found = LINE.match(line)
-        if not found or int(found[3]) < 0:
+        call = LINE.match(line)
+        if not call or int(call[3]) < 0:
             return
-        name, told, result = found[1], found[2], int(found[3])
+        name, arguments, result = call[1], call[2], int(call[3])
         if name in self.calls:
-            self.calls[name](told, result)
+            self.calls[name](arguments, result)
             return
         if name == "mmap":
-            fields = told.split(", ")
+            fields = arguments.split(", ")
             is_of_file = int(fields[4]) in self.open and "PROT_WRITE" in fields[2] and "MAP_SHARED" in fields[3]
         else:
-            is_of_file = any(self.part_of(os.fsdecode(text_of(path))) for path in STRING.findall(told)) or self.number(told) in self.open
-        if is_of_file:
-            raise SystemExit(f"FAILED: strace: no cut is known for {line[:200]}")
+            names_file = any(self.part_of(os.fsdecode(text_of(path))) for path in STRING.findall(arguments))
+            is_of_file = names_file or self.number(arguments) in self.open
+        expect(not is_of_file, f"strace: no cut is known for {line[:200]}")
 
     @staticmethod
-    def number(told: str) -> int:
+    def number(arguments: str) -> int:
         """The file descriptor that a call is of, which is its first argument."""
-        first = told.split(",")[0]
+        first = arguments.split(",")[0]
         return int(first) if first.isdigit() else -1
 
-    def opened(self, told: str, result: int) -> None:
-        path = STRING.search(told)
+    def opened(self, arguments: str, result: int) -> None:
+        path = STRING.search(arguments)
         part = self.part_of(os.fsdecode(text_of(path[1]))) if path else None
         if part is None:
             return
         self.open[result] = part
-        if "O_TRUNC" in told:
-            raise SystemExit(f"FAILED: strace: a file is emptied as it is opened: {told}")
-        if "O_EXCL" in told:
+        expect("O_TRUNC" not in arguments, f"strace: a file is emptied as it is opened: {arguments}")
+        if "O_EXCL" in arguments:
             self.events.append(Event("made", part))
 
-    def closed(self, told: str, _: int) -> None:
-        self.open.pop(self.number(told), None)
+    def closed(self, arguments: str, _: int) -> None:
+        self.open.pop(self.number(arguments), None)
 
-    def written(self, told: str, result: int) -> None:
+    def written(self, arguments: str, result: int) -> None:
         """What is written in no place of a file of the register is an answer, but for the lines on standard error."""
-        if self.number(told) in self.open:
-            raise SystemExit(f"FAILED: strace: a write without a place: {told[:80]}")
-        if self.number(told) != 2 and (data := STRING.search(told)):
+        expect(self.number(arguments) not in self.open, f"strace: a write without a place: {arguments[:80]}")
+        if self.number(arguments) != 2 and (data := STRING.search(arguments)):
             self.events.append(Event("answered", data=text_of(data[1])[:result]))
 
-    def placed(self, told: str, result: int) -> None:
-        part = self.open.get(self.number(told))
-        if part is not None:
-            data = text_of(STRING.search(told)[1])
-            self.events.append(Event("written", part, int(told.rsplit(", ", 1)[1]), data[:result]))
+    def of_file(self, arguments: str, kind: str, place: int = 0, data: bytes = b"") -> None:
+        if (part := self.open.get(self.number(arguments))) is not None:
+            self.events.append(Event(kind, part, place, data))
 
-    def cut(self, told: str, _: int) -> None:
-        part = self.open.get(self.number(told))
-        if part is not None:
-            self.events.append(Event("cut", part, int(told.split(", ")[1])))
+    def placed(self, arguments: str, result: int) -> None:
+        data = text_of(STRING.search(arguments)[1])
+        self.of_file(arguments, "written", int(arguments.rsplit(", ", 1)[1]), data[:result])
 
-    def synced(self, told: str, _: int) -> None:
-        part = self.open.get(self.number(told))
-        if part is not None:
-            self.events.append(Event("synced", part))
+    def cut(self, arguments: str, _: int) -> None:
+        self.of_file(arguments, "cut", int(arguments.split(", ")[1]))
+
+    def synced(self, arguments: str, _: int) -> None:
+        self.of_file(arguments, "synced")
 
 
 def traced(trace: str, words: list[str]) -> list[str]:
@@ -124,7 +125,7 @@ def events_of(trace: str, file: str) -> list[Event]:
     return recording.events
 
 
-def recorded(words: list[str], file: str, trace: str, given: bytes = b"") -> tuple[list[Event], subprocess.CompletedProcess]:
+def recorded(words: list[str], file: str, trace: str, given: bytes) -> tuple[list[Event], subprocess.CompletedProcess]:
     """What the program of these words does with the file and its log, and how it ended."""
     done = subprocess.run(traced(trace, words), input=given, capture_output=True, check=False)
     return events_of(trace, file), done
@@ -147,14 +148,14 @@ class Choice:
         if way == "any":
             return self.chance.choice(("old", "new", "noise"))
         if way == "torn":
-            return self.chance.choice(("old", "noise", "new", "new", "new", "new", "new", "new", "new", "new", "new", "new"))
+            return self.chance.choice(("old", "noise", *["new"] * 10))
         return way
 
 
 # Each file old, new or noise, or its last write kept and all before it not; then at random.
-EXTREMES = [{"": one, "-wal": other} for one in ("old", "new", "noise") for other in ("old", "new", "noise")]
+EXTREMES = [{"": way, "-wal": other} for way in ("old", "new", "noise") for other in ("old", "new", "noise")]
 EXTREMES += [{"": way, "-wal": way} for way in ("last old", "last noise")]
-AT_RANDOM = [{"": one, "-wal": one} for one in ("any", "torn")]
+AT_RANDOM = [{"": way, "-wal": way} for way in ("any", "torn")]
 
 
 class Disk:
@@ -212,17 +213,11 @@ class Disk:
                 content[place:next_place] = piece
             place = next_place
 
-    def is_settled(self) -> bool:
-        """Whether nothing was done since the last sync, so that every disk has the same."""
-        return not any(self.since.values())
-
 
 def put(files: dict[str, Any], file: str) -> None:
     """Puts the files of a disk in the place of a register's."""
     for part, content in files.items():
         if content is None:
-            if os.path.exists(file + part):
-                os.remove(file + part)
+            pathlib.Path(file + part).unlink(missing_ok=True)
         else:
-            with open(file + part, "wb") as target:
-                target.write(content)
+            pathlib.Path(file + part).write_bytes(content)

@@ -11,8 +11,7 @@
   count from 1. The steps of the database that a test expects of each line are those of the rule that stands there in
   words.
 
-Each difference is told, with what should stand there. Where the program is not built it is not asked, which is a fault
-too: ./keyreg </dev/null builds it.
+Where the program is not built it is not asked, which is a fault too: ./keyreg </dev/null builds it.
 """
 import os
 import pathlib
@@ -22,11 +21,12 @@ from difflib import SequenceMatcher
 from typing import Iterator
 
 sys.path.insert(1, str(pathlib.Path(__file__).resolve().parents[1] / "shared"))
-from places import PROGRAM, TOP
+from places import PROGRAM, read
 from answers import reply_line
 from command_day import DAY, SHORT, Asked, alone
 from registers import keyreg
 from register_rules import COMPROMISES, FORMS, Key, Refused, Register
+from script import options, verdict
 
 HAS_PROGRAM = os.access(PROGRAM, os.X_OK)
 STEPS, TRIALS = (f"crates/test_{name}.rt" for name in ("desk_trials/src/steps", "fault_trials/src/requests"))
@@ -36,11 +36,6 @@ LOOKS = {"assign", "add-custodian", "remove-custodian", "approve", "withdraw", "
 NEEDS = {"destroy"}
 # Those that change one of these lists.
 CHANGES = {"add-custodian", "remove-custodian", "approve", "withdraw"}
-
-
-def read(path: str) -> str:
-    with open(f"{TOP}/{path}", encoding="utf-8") as source:
-        return source.read()
 
 
 def kind_of(asked: Asked) -> str:
@@ -71,8 +66,8 @@ def reply_faults(name: str, day: list[Asked]) -> Iterator[str]:
 
 def kind_faults(name: str, day: list[Asked]) -> Iterator[str]:
     """Which commands the day has not, and what is refused in it."""
-    wanted, found = document_kinds(), {kind_of(asked) for asked in day if asked.reply.startswith("ok ")}
-    yield from (f"{name}: no {kind} is accepted" for kind in sorted(wanted - found))
+    wanted, accepted = document_kinds(), {kind_of(asked) for asked in day if asked.reply.startswith("ok ")}
+    yield from (f"{name}: no {kind} is accepted" for kind in sorted(wanted - accepted))
     yield from (f"{name}: {asked.text}: it is refused" for asked in day if not asked.reply.startswith("ok "))
     if name == "the day":
         yield from (f"office/register_rules.py: {word} is a command there or in the document alone"
@@ -119,7 +114,7 @@ def steps_of(asked: Asked, key: Key | None, latest: int) -> int:
 
 
 def step_faults(day: list[Asked]) -> Iterator[str]:
-    found = dict(re.findall(r'^ +\("([^"]+)", "[^"]+", (\d+)\),$', read(STEPS), re.M))
+    counts = dict(re.findall(r'^ +\("([^"]+)", "[^"]+", (\d+)\),$', read(STEPS), re.M))
     register = Register()
     for asked in day:
         wanted = steps_of(asked, register.keys.get(asked.request.named), register.latest)
@@ -127,11 +122,12 @@ def step_faults(day: list[Asked]) -> Iterator[str]:
             register.answer(asked.request)
         except Refused:
             return
-        if found.get(asked.text) != str(wanted):
-            yield f"{STEPS}: {asked.text}: {found.get(asked.text)} stands there, and by the rule it takes {wanted}"
+        if counts.get(asked.text) != str(wanted):
+            yield f"{STEPS}: {asked.text}: {counts.get(asked.text)} stands there, and by the rule it takes {wanted}"
 
 
-def main() -> int:
+def main() -> None:
+    options(__doc__)
     steps, trials = alone("steps"), alone("requests")
     days = {"the day": DAY, "the short day": SHORT, "steps": steps, "requests": trials}
     faults = [fault for name, day in days.items() for kind in (kind_faults, reply_faults) for fault in kind(name, day)]
@@ -139,11 +135,8 @@ def main() -> int:
         faults += table_faults(path, rows_in(path, "DAY"), [(asked.text, asked.reply) for asked in day])
     faults += step_faults(steps)
     faults += [] if HAS_PROGRAM else [f"no program at {PROGRAM}, so it was not asked: ./keyreg </dev/null builds it"]
-    print(*faults, sep="\n", end="\n" if faults else "")
-    print(f"{len(DAY)} lines with {len(document_kinds())} kinds of request, of which tables of crates have "
-          f"{len(steps)} and {len(trials)}: {len(faults)} faults")
-    return 1 if faults else 0
+    verdict(f"{len(DAY)} lines with {len(document_kinds())} kinds of request, of which tables of crates have "
+            f"{len(steps)} and {len(trials)}: {len(faults)} faults", faults)
 
 
-if __name__ == "__main__":
-    sys.exit(main())
+main()

@@ -1,94 +1,78 @@
 #!/usr/bin/env python3
-"""A register of 1000000 keys, which is full, and of more requests than that: it opens, its export and its report have every
-key, its first and last request are answered again, a further registration is refused 20, and the last key takes a request.
+"""A register of 1000000 keys, which is full, and of more requests than that: it opens, its export and its report have
+every key, its first and last request are answered again, a further registration is refused 20, and the last key takes a
+request.
 
     checks/program/full_register.py [--keys N]
 
 With fewer keys a further registration is accepted. SQLite's own library writes the file, by the formats of
 docs/SPECIFICATION.md. Build the program first: ./keyreg </dev/null
 """
-import argparse
-import os
 import pathlib
-import sqlite3
 import sys
-import tempfile
 
 sys.path.insert(1, str(pathlib.Path(__file__).resolve().parents[1] / "shared"))
-from registers import EXPORT_COLUMNS, INDEXES, TABLES, UNSET, VERSION, export_row, keyreg
-from script import expect, in_memory, show
-
-MAX_KEYS = 1_000_000
+from registers import EXPORT_COLUMNS, INDEXES, TABLES, UNSET, VERSION, database, expect_replies, export_row, keyreg
+from register_rules import MOST_KEYS
+from script import expect, fresh_folder, options, show, verdict
 
 # Advances after the registrations, of another caller.
 MORE = 100
-
 # Every key is a data encryption key with these dates, Active since it was registered at second 100.
 ACTIVATION, PROTECT_STOP, DEACTIVATION, REGISTERED = 0, 5000, 6000, 100
-
+STOPS = "1970-01-01T01:23:20Z"
 COMMAND = f"register data-encryption bob {ACTIVATION} {PROTECT_STOP} {DEACTIVATION} disks"
 
 
-
 def write(file, keys):
-    connection = sqlite3.connect(file)
-    connection.executescript(TABLES + INDEXES)
-    connection.execute("INSERT INTO meta VALUES (1, ?, ?, ?)", (VERSION, REGISTERED, keys))
-    connection.executemany(
-        "INSERT INTO keys VALUES (?, 1, 'bob', 'disks', 2, ?, ?, ?, ?, ?, ?, ?)",
-        ((number, REGISTERED, ACTIVATION, PROTECT_STOP, DEACTIVATION, UNSET, UNSET, UNSET) for number in range(1, keys + 1)))
-    connection.executemany(
-        "INSERT INTO request VALUES ('ann', ?, ?, ?, 2, ?)",
-        ((number, COMMAND, number, REGISTERED) for number in range(1, keys + 1)))
-    connection.executemany(
-        "INSERT INTO request VALUES ('zed', ?, 'advance', 0, 0, ?)",
-        ((number, REGISTERED) for number in range(1, MORE + 1)))
-    connection.commit()
-    connection.close()
+    with database(file) as connection:
+        connection.executescript(TABLES + INDEXES)
+        connection.execute("INSERT INTO meta VALUES (1, ?, ?, ?)", (VERSION, REGISTERED, keys))
+        connection.executemany(
+            "INSERT INTO keys VALUES (?, 1, 'bob', 'disks', 2, ?, ?, ?, ?, ?, ?, ?)",
+            ((number, REGISTERED, ACTIVATION, PROTECT_STOP, DEACTIVATION, UNSET, UNSET, UNSET)
+             for number in range(1, keys + 1)))
+        connection.executemany("INSERT INTO request VALUES ('ann', ?, ?, ?, 2, ?)",
+                               ((number, COMMAND, number, REGISTERED) for number in range(1, keys + 1)))
+        connection.executemany("INSERT INTO request VALUES ('zed', ?, 'advance', 0, 0, ?)",
+                               ((number, REGISTERED) for number in range(1, MORE + 1)))
 
 
-def check_export(file, keys):
+def look_at_export(file, keys):
     lines = keyreg(["export", "--file", file])
     expect(lines[0] == ",".join(EXPORT_COLUMNS), f"header {lines[0]}")
     expect(len(lines) == keys + 1, f"{len(lines)} lines of an export")
-    row = ",".join(export_row(
-        number="{}", type="data-encryption", activation="1970-01-01T00:00:00Z", protect_stop="1970-01-01T01:23:20Z",
-        deactivation="1970-01-01T01:40:00Z", purpose="disks"))
+    row = ",".join(export_row(number="{}", type="data-encryption", activation="1970-01-01T00:00:00Z",
+                              protect_stop=STOPS, deactivation="1970-01-01T01:40:00Z", purpose="disks"))
     for number, line in enumerate(lines[1:], 1):
         expect(line == row.format(number), f"row {line}")
 
 
-def check_report(file, keys):
+def look_at_report(file, keys):
     lines = keyreg(["report", "--file", file, "--days", "1"])
-    expect(len(lines) == keys + 2 and lines[-1] == f"total {keys}", f"{len(lines)} lines of a report, the last {lines[-1]}")
+    is_whole = len(lines) == keys + 2 and lines[-1] == f"total {keys}"
+    expect(is_whole, f"{len(lines)} lines of a report, the last {lines[-1]}")
     for number, line in enumerate(lines[1:-1], 1):
-        expect(line.split() == [str(number), "1970-01-01T01:23:20Z", "due", "data-encryption", "bob", "disks"], f"row {line}")
+        expect(line.split() == [str(number), STOPS, "due", "data-encryption", "bob", "disks"], f"row {line}")
 
 
-def check_run(file, keys):
-    further = "refused 20 Full" if keys == MAX_KEYS else f"ok {keys + 1} Active 100"
-    asked = [
+def look_at_run(file, keys):
+    expect_replies(file, [
         (f"100 ann 1 {COMMAND}", "ok 1 Active 100"),
         (f"100 ann {keys} {COMMAND}", f"ok {keys} Active 100"),
         (f"100 zed {MORE} advance", "ok 0 - 100"),
-        (f"100 eve 1 {COMMAND}", further),
+        (f"100 eve 1 {COMMAND}", "refused 20 Full" if keys == MOST_KEYS else f"ok {keys + 1} Active 100"),
         (f"200 bob 1 assign {keys} fay", f"ok {keys} Active 200"),
-    ]
-    replies = keyreg(["run", "--file", file], [line for line, _ in asked])
-    expect(replies == [reply for _, reply in asked], f"replies {replies}")
+    ])
 
 
 def main():
-    options = argparse.ArgumentParser(description=__doc__.splitlines()[0])
-    options.add_argument("--keys", type=int, default=MAX_KEYS)
-    keys = options.parse_args().keys
-    with tempfile.TemporaryDirectory(dir=in_memory(2**31)) as folder:
-        file = os.path.join(folder, "office.keyreg")
-        for number, step in enumerate((write, check_export, check_report, check_run)):
+    keys = options(__doc__, keys=MOST_KEYS).keys
+    with fresh_folder(memory=2**31) as folder:
+        for number, step in enumerate((write, look_at_export, look_at_report, look_at_run)):
             show(f"step {number + 1} of 4")
-            step(file, keys)
-        show()
-    print(f"a register of {keys} keys opens, is exported and reported whole, and answers")
+            step(folder / "office.keyreg", keys)
+    verdict(f"a register of {keys} keys opens, is exported and reported whole, and answers")
 
 
 main()

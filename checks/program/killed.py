@@ -6,12 +6,12 @@ replies were written, or one more.
 
 Each of the runs over one file is given the requests after those that it holds. Each of the migrations begins with a
 file of version 1, which SQLite's own library writes, and is killed in its opening or in the run after it: the file is
-left as it was, or it is of version 2. Then the file and its log are copied, SQLite reads the copy, and the program opens
-the file. Build the program first: ./keyreg </dev/null
+left as it was, or it is of version 2. Then SQLite reads a copy of the file and its log, and the program opens the file.
+
+Build the program first: ./keyreg </dev/null
 """
 import pathlib
 import random
-import shutil
 import subprocess
 import sys
 import tempfile
@@ -19,7 +19,8 @@ import time
 
 sys.path.insert(1, str(pathlib.Path(__file__).resolve().parents[1] / "shared"))
 from places import PROGRAM
-from registers import FIRST_TABLES, INDEXES, STATES, UNSET, VERSION, are_sound, database, expect_replies, keyreg, new_register
+from registers import FIRST_TABLES, INDEXES, STATES, UNSET, VERSION
+from registers import are_sound, copy_files, database, expect_replies, keyreg, new_register
 from script import expect, fresh_folder, options, show, verdict
 
 # So many requests are given to a life, more than it serves before it is killed.
@@ -64,16 +65,12 @@ def killed_life(file, before, seconds):
 
 def kept(file):
     """The version and the number of requests in a copy of the file and its log, which are the first ones."""
-    copy = file.with_name("copy.keyreg")
-    for end in ("", "-wal"):
-        if pathlib.Path(f"{file}{end}").exists():
-            shutil.copy(f"{file}{end}", f"{copy}{end}")
+    copy = copy_files(file, file.with_name("copy.keyreg"))
     with database(copy) as connection:
         expect(are_sound(connection), "SQLite finds the file unsound")
         texts = connection.execute("SELECT number, command, moment FROM request ORDER BY number").fetchall()
         [(_, version, *counts)] = connection.execute("SELECT * FROM meta")
-    for left in copy.parent.glob("copy.keyreg*"):
-        left.unlink()
+    copy_files(None, copy)
     count = len(texts)
     expect(texts == [(place, request(place)[1], 100 + place) for place in range(1, count + 1)],
            "the requests that are kept are no prefix")

@@ -6,42 +6,36 @@ no contract can refuse an end that comes too early.
     checks/program/large_office.py [--rows N]
 
 An office has 150 keys of all types, 1 to 16 custodians on most of them, needs of 2 to 5, a period set for each type,
-and more than 1600 requests; every tenth key goes through the day on which each command is accepted (checks/shared/command_day.py). Its
-register is made by the program, and once more from a file of version 1 that SQLite's library wrote. Each is opened,
-exported, reported, served, imported into, asked behind its last key, and read by SQLite. Then one of 1100 keys is
-imported at once, and one of so many rows as --rows says, 100000 where nothing is said.
+and more than 1600 requests; every tenth key goes through the day on which each command is accepted. Its register is
+made by the program, and once more from a file of version 1 that SQLite's library wrote. Each is opened, exported,
+reported, served, imported into, asked behind its last key, and read by SQLite. Then so many rows as --rows says, 100000
+where nothing is said, are imported at once, and asked at the first and the last keys. It needs Linux.
 
-It needs Linux. Build the program first: ./keyreg </dev/null
+Build the program first: ./keyreg </dev/null
 """
-import argparse
 import collections
 import itertools
 import json
-import os
 import pathlib
 import shutil
-import sqlite3
-import subprocess
 import sys
-import tempfile
 import time
 from typing import Any, Iterator
 
 sys.path.insert(1, str(pathlib.Path(__file__).resolve().parents[1] / "shared"))
-from places import PROGRAM
-from answers import compact, get_reply, post_reply, reply_line, request_object
+from answers import get_reply, post_reply, reply_line
 from command_day import SHORT
-from registers import FIRST_TABLES, INDEXES, TYPES
-from registers import all_rows, are_sound, keyreg, put_rows
+import first_version
+from registers import INDEXES, all_rows, are_sound, database, keyreg, new_register, run_program
 from register_rules import FORMS, PERIODS, Register, line
 from rules_shown import DAY, export_text, import_table, report_text, tables
-from script import expect, in_memory, show
-from serving import Served
+from script import expect, fresh_folder, in_memory, options, show, verdict
+from serving import Served, get, post_command
 
 KEYS, BEGUN, YEAR = 150, 1_000_000_000, 365 * DAY
 # After every moment of the machine's clock.
 FAR = 4_000_000_000
-Request = tuple[int, str, int, tuple]
+File = pathlib.Path
 
 
 class Office:
@@ -52,13 +46,13 @@ class Office:
         self.lines: list[str] = []
         self.replies: list[str] = []
 
-    def ask(self, caller: str, *command: Any, said: str = "ok ") -> None:
-        """One more request, a minute after the last; its reply begins so."""
+    def ask(self, caller: str, *command: Any, reply_begins: str = "ok ") -> None:
+        """One more request, a minute after the last."""
         self.numbers[caller] += 1
         self.moment += 60
         request = (self.moment, caller, self.numbers[caller], command)
         reply = reply_line(self.register, *request)
-        expect(reply.startswith(said), f"the rules say {reply} to {request}")
+        expect(reply.startswith(reply_begins), f"the rules say {reply} to {request}")
         self.lines.append(line(*request))
         self.replies.append(reply)
 
@@ -110,19 +104,20 @@ def first_requests(office: Office) -> None:
 
 def revoked(office: Office, key: int) -> None:
     office.ask(office.owner(key), "revoke", key, 1 + 3 * (key % 2), None)
-    office.ask(office.owner(key), "revoke", key, 5, None, said="refused 7 ")
+    office.ask(office.owner(key), "revoke", key, 5, None, reply_begins="refused 7 ")
 
 
 def assigned(office: Office, key: int) -> None:
     office.ask(office.owner(key), "assign", key, f"heir-{key}")
-    office.ask(custodian(0), "withdraw", key, said="refused 17 ")
+    office.ask(custodian(0), "withdraw", key, reply_begins="refused 17 ")
 
 
 def changed(office: Office, key: int) -> None:
     """A custodian approves, goes, and comes back without the approval."""
-    for caller, word in ((custodian(1), "approve"), (office.owner(key), "remove-custodian"), (office.owner(key), "add-custodian")):
-        office.ask(caller, word, key, *([] if word == "approve" else [custodian(1)]))
-    office.ask(custodian(1), "withdraw", key, said="refused 17 ")
+    office.ask(custodian(1), "approve", key)
+    for word in ("remove-custodian", "add-custodian"):
+        office.ask(office.owner(key), word, key, custodian(1))
+    office.ask(custodian(1), "withdraw", key, reply_begins="refused 17 ")
     office.ask(office.owner(key), "set", key, office.moment + YEAR, None, "=")
 
 
@@ -137,7 +132,7 @@ def compromised(office: Office, key: int) -> None:
 
 def activated(office: Office, key: int) -> None:
     office.ask(office.owner(key), "set", key, "=", "=", "=")
-    office.ask("zed", "activate", key, said="refused 5 ")
+    office.ask("zed", "activate", key, reply_begins="refused 5 ")
 
 
 def destroyed(office: Office, key: int) -> None:
@@ -145,7 +140,8 @@ def destroyed(office: Office, key: int) -> None:
     wanted = office.register.keys[key].need
     for place in range(wanted):
         if place == wanted - 1:
-            office.ask(office.owner(key), "destroy", key, said=f"refused 18 ApprovalsMissing have={place} need={wanted}")
+            office.ask(office.owner(key), "destroy", key,
+                       reply_begins=f"refused 18 ApprovalsMissing have={place} need={wanted}")
         office.ask(custodian(place), "approve", key)
     office.ask(office.owner(key), "destroy", key)
 
@@ -175,7 +171,7 @@ def later_requests(office: Office) -> None:
     for key in range(10, KEYS + 1, 10):
         for place in range(8, 16):
             office.ask(office.owner(key), "add-custodian", key, custodian(place))
-        office.ask(office.owner(key), "add-custodian", key, custodian(16), said="refused 14 ")
+        office.ask(office.owner(key), "add-custodian", key, custodian(16), reply_begins="refused 14 ")
     for key in range(1, KEYS + 1):
         if key % 10 == 4:
             destroyed(office, key)
@@ -184,67 +180,62 @@ def later_requests(office: Office) -> None:
                 office.ask(custodian(place), "approve", key)
     for key in range(70, KEYS - 20, 10):
         office.ask(office.owner(key), "destroy", key)
-    office.ask("zed", "destroy", KEYS + 1, said="refused 4 ")
+    office.ask("zed", "destroy", KEYS + 1, reply_begins="refused 4 ")
 
 
 # ---- what the program makes of it
 
 
-def in_order(found: list[str], wanted: list[str], name: str) -> None:
-    """Holds lines to those that are wanted, and tells the first that differs."""
-    pairs = itertools.zip_longest(found, wanted)
+def in_order(lines: list, wanted: list, name: str) -> None:
+    """Holds lines, or rows, to those that are wanted; the first that differs is the fault."""
+    pairs = itertools.zip_longest(lines, wanted)
     place, pair = next(((place, pair) for place, pair in enumerate(pairs, 1) if pair[0] != pair[1]), (0, None))
     expect(pair is None, f"{name}, line {place}: {pair}")
 
 
-def look_at_rows(file: str, register: Register, name: str) -> None:
-    connection = sqlite3.connect(file)
-    expect(are_sound(connection), f"{name}: SQLite finds the file unsound")
-    found, wanted = all_rows(connection), tables(register)
+def look_at_rows(file: File, register: Register, name: str) -> None:
+    with database(file) as connection:
+        expect(are_sound(connection), f"{name}: SQLite finds the file unsound")
+        rows, wanted = all_rows(connection), tables(register)
     for table in wanted:
-        in_order(found[table], wanted[table], f"{name}, table {table}")
-    connection.close()
+        in_order(rows[table], wanted[table], f"{name}, table {table}")
 
 
-def look_at_texts(file: str, register: Register, name: str) -> None:
+def look_at_texts(file: File, register: Register, name: str) -> None:
     in_order(keyreg(["export", "--file", file]), export_text(register).splitlines(), f"{name}, export")
     for days in (0, 400, 36500):
-        found = keyreg(["report", "--file", file, "--days", str(days)])
-        in_order(found, report_text(register, days).splitlines(), f"{name}, report for {days} days")
+        lines = keyreg(["report", "--file", file, "--days", str(days)])
+        in_order(lines, report_text(register, days).splitlines(), f"{name}, report for {days} days")
 
 
-def run(file: str, office: Office, first: int, name: str) -> None:
-    """Runs the office's lines from this place on."""
-    in_order(keyreg(["run", "--file", file], office.lines[first:]), office.replies[first:], name)
+def look_at_replies(file: File, lines: list[str], replies: list[str], name: str) -> None:
+    in_order(keyreg(["run", "--file", file], lines), replies, name)
 
 
-def imported(file: str, register: Register, rows: list[tuple], moment: int, name: str) -> None:
+def imported(file: File, register: Register, rows: list[tuple], moment: int, name: str) -> None:
     """Imports the rows, and holds the replies to the rules' own."""
     words = ["import", "--file", file, "--moment", str(moment), "--caller", "importer", "--first", "1"]
     wanted = [reply_line(register, moment, "importer", place, ("register", *row)) for place, row in enumerate(rows, 1)]
-    done = subprocess.run([PROGRAM, *words], input=import_table(rows).encode(), capture_output=True, check=False)
+    done = run_program(words, import_table(rows).encode())
     in_order(done.stdout.decode().splitlines(), wanted, name)
     expect((done.returncode, done.stderr) == (0, b""), f"{name}: status {done.returncode}, {done.stderr}")
 
 
 def asked(served: Served, register: Register, caller: str, number: int, command: tuple) -> None:
-    """One POST: the reply is that of the rules at the moment that it tells, which is within the exchange."""
-    body, begun = compact(request_object(command)), int(time.time())
-    head = f"POST /requests HTTP/1.1\r\nHost: localhost\r\nCaller: {caller}\r\nRequest-Number: {number}\r\nContent-Length: {len(body)}"
-    found = served.raw(f"{head}\r\n\r\n".encode() + body)
-    told = json.loads(found.partition(b"\r\n\r\n")[2] or b"{}")
-    moment = told.get("moment", begun)
+    """One POST: the reply is that of the rules at the moment that it has, which is within the exchange."""
+    begun = int(time.time())
+    reply = served.raw(post_command(caller, number, command))
+    moment = json.loads(reply.partition(b"\r\n\r\n")[2] or b"{}").get("moment", begun)
     expect(begun <= moment <= time.time(), f"{command}: a moment of {moment}")
     wanted = post_reply(register, moment, caller, number, command)
-    expect(found == wanted, f"{caller} {number} {command}: {found}, where {wanted} is wanted")
+    expect(reply == wanted, f"{caller} {number} {command}: {reply}, where {wanted} is wanted")
 
 
 def shown(served: Served, register: Register, key: int) -> None:
     for of_usage in (False, True):
         path = f"/keys/{key}" + "/usage" * of_usage
-        found = served.raw(f"GET {path} HTTP/1.1\r\nHost: localhost\r\n\r\n".encode())
-        wanted = get_reply(register, key, of_usage)
-        expect(found == wanted, f"GET {path}: {found}, where {wanted} is wanted")
+        reply, wanted = served.raw(get(path)), get_reply(register, key, of_usage)
+        expect(reply == wanted, f"GET {path}: {reply}, where {wanted} is wanted")
 
 
 def posts(register: Register) -> Iterator[tuple]:
@@ -258,123 +249,85 @@ def posts(register: Register) -> Iterator[tuple]:
     yield "zed", 9003, ("destroy", last + 2)
 
 
-def look_at_serve(file: str, register: Register, keys: range) -> None:
+def look_at_serve(file: File, register: Register, keys: range) -> None:
     """Each key and its usage, then requests, then these keys anew; the program ends after the last."""
     requests = list(posts(register))
     touched = (10, 20, 30, 40, len(register.keys), len(register.keys) + 1, len(register.keys) + 2)
-    with Served(exchanges=2 * len(keys) + len(requests) + 2 * len(touched), file=file) as served:
+    with Served(exchanges=2 * len(keys) + len(requests) + 2 * len(touched), file=str(file)) as served:
         for key in keys:
             shown(served, register, key)
         for request in requests:
             asked(served, register, *request)
         for key in touched:
             shown(served, register, key)
-        told = served.ended()
-    expect(told is None, f"serve: {told}")
+        expect((fault := served.ended()) is None, f"serve: {fault}")
 
 
-def behind(office: Office, register: Register) -> tuple[list[str], list[str]]:
-    """Lines at the last keys, and behind them."""
-    lines, replies = [], []
+def at_last_keys(register: Register) -> tuple[list[str], list[str]]:
+    """Lines at the last keys, with their replies."""
+    requests = []
     for number, key in enumerate(range(len(register.keys) - 40, len(register.keys) + 1), 20_000):
-        owner = register.keys[key].owner
-        for request in ((FAR, owner, number, ("assign", key, f"late-{key}")), (FAR, "zed", number, ("revoke", key, 2, None))):
-            lines.append(line(*request))
-            replies.append(reply_line(register, *request))
-    return lines, replies
+        requests += [(FAR, register.keys[key].owner, number, ("assign", key, f"late-{key}")),
+                     (FAR, "zed", number, ("revoke", key, 2, None))]
+    return [line(*request) for request in requests], [reply_line(register, *request) for request in requests]
 
 
 ROWS = [(kind, f"owner-{place % 8}", *dates(place), purpose(place)) for place, kind in enumerate([*PERIODS] * 18)]
 
 
-def look_at_office(file: str, office: Office, name: str) -> None:
+def look_at_office(file: File, office: Office, name: str) -> None:
     """Everything there is to ask of the whole office in a file."""
     look_at_rows(file, office.register, name)
-    again = office.accepted()
-    in_order(keyreg(["run", "--file", file], [text for text, _ in again]), [reply for _, reply in again], f"{name}, again")
+    lines, replies = map(list, zip(*office.accepted()))
+    look_at_replies(file, lines, replies, f"{name}, again")
     look_at_texts(file, office.register, name)
     register = office.register.copy()
     look_at_serve(file, register, range(1, KEYS + 1))
     look_at_rows(file, register, f"{name}, served")
     imported(file, register, ROWS, FAR, f"{name}, import")
-    lines, replies = behind(office, register)
-    in_order(keyreg(["run", "--file", file], lines), replies, f"{name}, at the last keys")
+    look_at_replies(file, *at_last_keys(register), f"{name}, at the last keys")
     look_at_rows(file, register, f"{name}, at last")
     look_at_texts(file, register, f"{name}, at last")
 
 
-def write_first(file: str, register: Register) -> None:
-    """The register in a file of version 1."""
-    connection = sqlite3.connect(file)
-    connection.executescript(FIRST_TABLES + INDEXES)
-    rows = tables(register)
-    rows["meta"] = [(1, 1, *rows["meta"][0][2:])]
-    for name in ("meta", "keys", "custodian", "approval", "request"):
-        put_rows(connection, name, rows[name])
-    connection.commit()
-    connection.close()
-
-
-def look_at_versions(folder: str) -> Office:
+def look_at_versions(folder: pathlib.Path) -> Office:
     """The office made by the program, and from a file of version 1, which each command takes to version 2."""
-    office, made, first = Office(), os.path.join(folder, "made"), os.path.join(folder, "first")
+    office, made, first = Office(), folder / "made", folder / "first"
     first_requests(office)
-    write_first(first, office.register)
+    first_version.write(first, INDEXES, tables(office.register))
     before, place = office.register.copy(), len(office.lines)
-    for command in ("run", "export", "report", "import"):
+    for command, words in {"run": [], "export": [], "report": ["--days", "400"],
+                           "import": ["--moment", "1", "--caller", "a", "--first", "1"]}.items():
         shutil.copy(first, made)
-        words = {"report": ["--days", "400"], "import": ["--moment", "1", "--caller", "a", "--first", "1"]}.get(command, [])
         keyreg([command, "--file", made, *words], import_table([]).splitlines() if command == "import" else [])
         look_at_rows(made, before, f"version 1 by {command}")
     look_at_texts(made, before, "version 1")
     shutil.copy(first, made)
     look_at_serve(made, before.copy(), range(KEYS, KEYS + 1))
-    os.remove(made)
+    made.unlink()
     later_requests(office)
-    run(first, office, place, "version 1, run")
+    look_at_replies(first, office.lines[place:], office.replies[place:], "version 1, run")
     look_at_office(first, office, "version 1")
-    keyreg(["init", "--file", made])
-    run(made, office, 0, "version 2, run")
+    in_order(new_register(made, office.lines), office.replies, "version 2, run")
     look_at_office(made, office, "version 2")
     return office
 
 
-def look_at_import(file: str) -> None:
-    """1100 keys in one import, which then comes again; requests and exchanges behind key 500."""
-    register, kinds = Register(), list(TYPES.values())
-    rows = [(kinds[place % 7], f"owner-{place % 8}", *dates(place), purpose(place)) for place in range(1100)]
-    keyreg(["init", "--file", file])
-    for _ in range(2):
-        imported(file, register, rows, BEGUN, "1100 rows")
-    look_at_rows(file, register, "1100 rows")
-    lines, replies = behind(Office(), register)
-    again = 20_000 // len(lines)
-    in_order(keyreg(["run", "--file", file], lines * again), replies + repeated(replies, again - 1), "1100 keys, lines that come again")
-    look_at_serve(file, register, range(490, 512))
-    look_at_rows(file, register, "1100 keys")
-    look_at_texts(file, register, "1100 keys")
-
-
-def repeated(replies: list[str], times: int) -> list[str]:
-    """The replies to lines that come again so often; all were accepted."""
-    expect(all(reply.startswith("ok ") for reply in replies), f"{[reply for reply in replies if not reply.startswith('ok ')][:3]}")
-    return replies * times
-
-
-def look_at_rows_of_import(file: str, count: int, keys: int) -> None:
-    """One import of so many rows, of which so many are keys, the last one among them. Where a sync costs time these are fewer."""
-    keyreg(["init", "--file", file])
+def look_at_rows_of_import(file: File, count: int, keys: int) -> None:
+    """One import of so many rows, of which so many are keys, the last one among them."""
+    new_register(file)
     types = itertools.chain(["master"] * (keys - 1), ["monster"] * (count - keys), ["master"])
     table = import_table([(kind, "bob", None, None, None, f"key {place}") for place, kind in enumerate(types, 1)])
     words = ["import", "--file", file, "--moment", "100", "--caller", "importer", "--first", "1"]
     wanted = [f"ok {place} Pre-Active 100" for place in range(1, keys + 1)]
     wanted[-1:-1] = ["refused 1 BadLine"] * (count - keys)
     in_order(keyreg(words, table.splitlines()), wanted, f"{count} rows")
-    found = keyreg(["export", "--file", file])
-    expect(len(found) == keys + 1 and found[-1].startswith(f"{keys},master,bob,"), f"an export of {len(found)} lines, {found[-1]}")
+    lines = keyreg(["export", "--file", file])
+    is_whole = len(lines) == keys + 1 and lines[-1].startswith(f"{keys},master,bob,")
+    expect(is_whole, f"an export of {len(lines)} lines, {lines[-1]}")
 
 
-def look_at_far_keys(file: str, count: int) -> None:
+def look_at_far_keys(file: File, count: int) -> None:
     """Requests, keys and usages at the first key of an import of so many, at the last ones, and about the 65536th."""
     register, rows = Register(), [("master", "bob", None, None, None, f"key {place}") for place in range(1, count + 1)]
     for place, row in enumerate(rows, 1):
@@ -389,35 +342,29 @@ def look_at_far_keys(file: str, count: int) -> None:
             request = (200 + len(lines), caller, 1 + len(lines), tuple(command))
             lines.append(line(*request))
             replies.append(reply_line(register, *request))
-    told = collections.Counter(reply.split()[0] for reply in replies)
-    expect(told == {"ok": 8 * len(keys) - 8, "refused": 8}, f"the rules say {told}")
-    in_order(keyreg(["run", "--file", file], lines), replies, f"keys {keys}")
-    with Served(exchanges=2 * len(keys), file=file) as served:
+    ends = collections.Counter(reply.split()[0] for reply in replies)
+    expect(ends == {"ok": 8 * len(keys) - 8, "refused": 8}, f"the rules say {ends}")
+    look_at_replies(file, lines, replies, f"keys {keys}")
+    with Served(exchanges=2 * len(keys), file=str(file)) as served:
         for key in keys:
             shown(served, register, key)
-        ended = served.ended()
-    expect(ended is None, f"serve: {ended}")
+        expect((fault := served.ended()) is None, f"serve: {fault}")
 
 
 def main() -> None:
-    words = argparse.ArgumentParser()
-    words.add_argument("--rows", type=int, default=100_000)
-    told = words.parse_args()
-    begun = time.monotonic()
-    memory = in_memory(2**27)
-    with tempfile.TemporaryDirectory(dir=memory) as folder:
+    count = options(__doc__, rows=100_000).rows
+    with fresh_folder(memory=2**27) as folder:
         show("requests over 150 keys, in both versions")
         office = look_at_versions(folder)
         show("imports")
-        look_at_import(os.path.join(folder, "imported"))
-        keys, file = told.rows if memory else min(told.rows, 3000), os.path.join(folder, "rows")
-        look_at_rows_of_import(file, told.rows, keys)
+        # Where a sync costs time fewer rows are keys.
+        keys, file = count if in_memory(2**27) else min(count, 3000), folder / "rows"
+        look_at_rows_of_import(file, count, keys)
         look_at_far_keys(file, keys)
-    show()
-    ends = collections.Counter(key.need for key in office.register.keys.values() if key.destroyed is not None)
-    expect(set(ends) == {2, 3, 4, 5}, f"destroyed keys by need: {ends}")
-    print(f"{len(office.lines)} requests over {KEYS} keys in both versions, imports of {len(ROWS)}, 1100 and {told.rows} rows: all by the rules, "
-          f"in {time.monotonic() - begun:.0f} s")
+    needs = {key.need for key in office.register.keys.values() if key.destroyed is not None}
+    expect(needs == {2, 3, 4, 5}, f"destroyed keys have needs of {needs}")
+    verdict(f"{len(office.lines)} requests over {KEYS} keys in both versions, imports of {len(ROWS)} and {count} rows: "
+            "all by the rules")
 
 
 main()

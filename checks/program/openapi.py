@@ -1,12 +1,10 @@
-"""docs/openapi.yaml as the checks over HTTP use it: what it says of a reply, and whether it takes a
-body for a command.
-
-It needs jsonschema and PyYAML. `pip install openapi-spec-validator` brings both; Debian's
-python3-jsonschema and python3-yaml belong to /usr/bin/python3.
-"""
+"""docs/openapi.yaml as the checks over HTTP use it: what it says of a reply, and whether a body is a command by it."""
+import functools
 import json
+import operator
 import re
 import sys
+from typing import Any, Iterator, Optional
 
 try:
     import jsonschema
@@ -15,7 +13,7 @@ except ImportError as missing:
     sys.exit(f"FAILED: {missing.name} is not installed: pip install openapi-spec-validator; "
              "or Debian's python3-jsonschema and python3-yaml, with /usr/bin/python3")
 
-from places import DOCS
+from places import read
 from answers import MEMBERS, compact
 from register_rules import command_text
 
@@ -49,35 +47,31 @@ def text_of_body(value):
 
 class Interface:
     def __init__(self):
-        self.document = yaml.safe_load((DOCS / "openapi.yaml").read_text(encoding="utf-8"))
-        asked = self.document["paths"]["/requests"]["post"]["requestBody"]
-        self.body = asked["content"]["application/json"]
+        self.document = yaml.safe_load(read("docs/openapi.yaml"))
+        self.body = self.document["paths"]["/requests"]["post"]["requestBody"]["content"]["application/json"]
         self.key = self.document["components"]["parameters"]["Key"]["schema"]
 
-    def found(self, part):
+    def resolved(self, part: Any) -> Any:
         """The part of the document, or the one that it refers to."""
         while "$ref" in part:
-            place = part["$ref"].split("/")[1:]
-            part = self.document
-            for name in place:
-                part = part[name]
+            part = functools.reduce(operator.getitem, part["$ref"].split("/")[1:], self.document)
         return part
 
-    def wrong(self, schema, value):
+    def fault_of(self, schema: Any, value: Any) -> Optional[str]:
         """What is wrong with the value by a schema of the document, or None."""
         faults = Validator({**self.document, **schema}).iter_errors(value)
         return next((fault.message for fault in faults), None)
 
-    def responses(self, method, target):
+    def responses(self, method: str, target: str) -> Any:
         """The replies to this method and target, by their statuses."""
         for path, item in self.document["paths"].items():
             place = re.fullmatch(path.replace("{key}", "([1-9][0-9]*)"), target)
-            if place and not any(self.wrong(self.key, int(number)) for number in place.groups()):
+            if place and not any(self.fault_of(self.key, int(number)) for number in place.groups()):
                 operation = {"GET": item.get("get"), "POST": item.get("post")}.get(method)
                 return operation["responses"] if operation else item["x-other-methods"]
         return self.document["x-other-targets"]
 
-    def unmet(self, method, target, reply):
+    def unmet(self, method: str, target: str, reply: bytes) -> Optional[str]:
         """What of the bytes of a reply is not as the document says, or None."""
         head, _, body = reply.partition(b"\r\n\r\n")
         first, *fields = head.decode("latin-1").split("\r\n")
@@ -85,36 +79,33 @@ class Interface:
         responses = self.responses(method, target)
         if status not in responses:
             return f"no reply of status {status} to {method} {target}"
-        response = self.found(responses[status])
-        given = dict(field.split(": ", 1) for field in fields)
-        kind = given.pop("Content-Type", None)
-        given.pop("Content-Length", None)
+        response = self.resolved(responses[status])
+        headers = dict(field.split(": ", 1) for field in fields)
+        kind = headers.pop("Content-Type", None)
+        headers.pop("Content-Length", None)
         if kind not in response["content"]:
             return f"a content of type {kind}"
         for name, header in response["headers"].items():
-            told = self.wrong(self.found(header)["schema"], given.pop(name, None))
-            if told:
-                return f"the header {name}: {told}"
-        if given:
-            return f"the headers {sorted(given)}"
+            if fault := self.fault_of(self.resolved(header)["schema"], headers.pop(name, None)):
+                return f"the header {name}: {fault}"
+        if headers:
+            return f"the headers {sorted(headers)}"
         if method == "HEAD" and not body:
             return None
-        told = self.wrong(response["content"][kind]["schema"], json.loads(body))
-        return told and f"a body of status {status}: {told}"
+        fault = self.fault_of(response["content"][kind]["schema"], json.loads(body))
+        return fault and f"a body of status {status}: {fault}"
 
-    def is_command(self, body):
-        """Whether the bytes are a command by the schema of requests. Numbers are read as the
-        specification says, and the bytes of a purpose are counted: a schema has its characters."""
+    def is_command(self, body: bytes) -> bool:
+        """Whether the bytes are a command by the schema of requests. Numbers are read as the specification says, and
+        the bytes of a purpose are counted: a schema has its characters."""
         try:
             value = json.loads(body.decode(), parse_float=no_number, parse_int=whole_number)
             compact(value)
         except (ValueError, RecursionError):
             return False
-        if self.wrong(self.body["schema"], value):
-            return False
-        return len(value.get("purpose", "").encode()) <= MOST_PURPOSE
+        return not self.fault_of(self.body["schema"], value) and len(value.get("purpose", "").encode()) <= MOST_PURPOSE
 
-    def media(self, part):
+    def media(self, part: Any) -> Iterator[Any]:
         """Each place of the document that has examples."""
         if isinstance(part, dict):
             if "examples" in part:
@@ -122,19 +113,16 @@ class Interface:
             for inner in part.values():
                 yield from self.media(inner)
 
-    def look_at_examples(self):
-        """What is wrong with the examples, and their number. Each has to meet its schema, and be in
-        the specification: a reply's as a body, a request's as the command of a line."""
-        places = [DOCS / name for name in ("SPECIFICATION.md", "WORKED.md")]
-        texts = "".join(place.read_text(encoding="utf-8") for place in places if place.exists())
-        told, number = [], 0
+    def look_at_examples(self) -> tuple[list[str], int]:
+        """What is wrong with the examples, and their number. Each has to meet its schema, and be in the specification:
+        a reply's as a body, a request's as the command of a line."""
+        texts, faults, number = read("docs/SPECIFICATION.md") + read("docs/WORKED.md"), list[str](), 0
         for media in self.media(self.document):
             for name, example in media["examples"].items():
                 value, number = example["value"], number + 1
-                wrong = self.wrong(media["schema"], value)
-                text = f"`{compact(value).decode()}`"
-                if media is self.body and not wrong:
+                fault, text = self.fault_of(media["schema"], value), f"`{compact(value).decode()}`"
+                if media is self.body and not fault:
                     text = f" {text_of_body(value)}`"
-                if wrong or text not in texts:
-                    told.append(f"the example {name}: {wrong or 'it is not in the specification'}")
-        return told, number
+                if fault or text not in texts:
+                    faults.append(f"the example {name}: {fault or 'it is not in the specification'}")
+        return faults, number

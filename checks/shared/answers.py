@@ -1,12 +1,13 @@
 """What the register of office/register_rules.py answers, by docs/SPECIFICATION.md: reply lines, the JSON of commands
 and keys, and the bytes of replies over HTTP. It shares nothing with the program."""
 import json
+from typing import Any, Optional
 
 from registers import STATES
-from register_rules import REFUSALS, Refused, Request
+from register_rules import REFUSALS, Refused, Register, Request
 
 
-def reply_line(register, *request):
+def reply_line(register: Register, *request: Any) -> str:
     """The reply to a request, which is its moment, caller, number and command."""
     try:
         accepted = register.answer(Request(*request))
@@ -27,14 +28,14 @@ MEMBERS = {
 }
 
 
-def request_object(command):
+def request_object(command: tuple) -> dict[str, Any]:
     """The JSON object of a command."""
     word, *values = command
     values = ["keep" if value == "=" else value for value in values]
     return {"kind": word, **dict(zip(MEMBERS[word], values))}
 
 
-def shown(register, number):
+def shown(register: Register, number: int) -> dict[str, Any]:
     """The JSON object of a key."""
     key = register.keys[number]
     return {
@@ -46,12 +47,12 @@ def shown(register, number):
     }
 
 
-def usage(register, number):
+def usage(register: Register, number: int) -> dict[str, Any]:
     key, latest = register.keys[number], register.latest
     return {"process": key.processes(latest), "protect": key.protects(latest)}
 
 
-def compact(value):
+def compact(value: Any) -> bytes:
     """The compact JSON of a value, members in order of their bytes."""
     return json.dumps(value, sort_keys=True, separators=(",", ":"), ensure_ascii=False).encode()
 
@@ -64,7 +65,7 @@ PHRASES = {
 }
 
 
-def reply(status, value, allow=None):
+def reply(status: int, value: Any, allow: Optional[str] = None) -> bytes:
     """The bytes of a reply."""
     body = compact(value)
     head = [f"HTTP/1.1 {status} {PHRASES[status]}", "Content-Type: application/json", f"Content-Length: {len(body)}"]
@@ -72,9 +73,9 @@ def reply(status, value, allow=None):
     return "\r\n".join([*head, "Connection: close", "", ""]).encode() + body
 
 
-def refusal_reply(number, **told):
+def refusal_reply(number: int, **members: Any) -> bytes:
     status = {1: 400, 4: 404}.get(number, 409)
-    return reply(status, {"name": REFUSALS[number - 1], "refused": number, **told})
+    return reply(status, {"name": REFUSALS[number - 1], "refused": number, **members})
 
 
 BAD, UNKNOWN = refusal_reply(1), refusal_reply(4)
@@ -85,11 +86,11 @@ STORE = reply(500, {"end": 31, "name": "Store"})
 MEMORY = reply(503, {"end": 30, "name": "Memory"})
 
 
-def not_allowed(method):
+def not_allowed(method: str) -> bytes:
     return reply(405, {"name": "MethodNotAllowed"}, method)
 
 
-def post_reply(register, *request):
+def post_reply(register: Register, *request: Any) -> bytes:
     try:
         accepted = register.answer(Request(*request))
     except Refused as refused:
@@ -98,7 +99,7 @@ def post_reply(register, *request):
     return reply(200, {"key": accepted.key_no, "moment": accepted.moment, "state": state})
 
 
-def get_reply(register, number, of_usage):
+def get_reply(register: Register, number: int, of_usage: bool) -> bytes:
     if number not in register.keys:
         return UNKNOWN
     return reply(200, usage(register, number) if of_usage else shown(register, number))

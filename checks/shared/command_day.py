@@ -29,7 +29,7 @@ def read() -> list[Asked]:
     lines = LINES.read_text(encoding="utf-8").splitlines()
     head, *rows = (row.split("\t") for row in BESIDE.read_text(encoding="utf-8").splitlines())
     expect(head == ["reply", "table"] and len(rows) == len(lines),
-                     f"{len(lines)} lines of the day, and {len(rows)} rows beside them, of {head}")
+           f"{len(lines)} lines of the day, and {len(rows)} rows beside them, of {head}")
     return [Asked(request_of(text), *row) for text, row in zip(lines, rows)]
 
 
@@ -39,17 +39,17 @@ SHORT = [asked for asked in DAY if asked.table != "requests"]
 
 def alone(table: str) -> list[Asked]:
     """The lines of a table as they are without the others: keys, and the requests of each caller, count from 1."""
-    keys, numbers, found = dict[int, int](), collections.Counter[str](), list[Asked]()
+    keys, numbers, lines = dict[int, int](), collections.Counter[str](), list[Asked]()
     for request, reply, of_table in DAY:
         if of_table != table:
             continue
         numbers[request.caller] += 1
-        key_no, command = int(reply.split(" ")[1]), request.command
+        words, command = reply.split(" "), request.command
+        key_no = int(words[1])
         if request.word == "register":
             keys[key_no] = len(keys) + 1
         elif request.named:
             command = (request.word, keys.get(key_no, key_no), *request.values)
-        words = reply.split(" ")
         words[1] = str(keys.get(key_no, 0))
-        found.append(Asked(request._replace(number=numbers[request.caller], command=command), " ".join(words), table))
-    return found
+        lines.append(Asked(request._replace(number=numbers[request.caller], command=command), " ".join(words), table))
+    return lines

@@ -3,9 +3,12 @@ another program makes, and purposes that trip up whoever reads or writes them.""
 import contextlib
 import os
 import pathlib
+import random
 import sqlite3
+from typing import Iterable, Iterator, Sequence
 
-from registers import APPROVED_ANEW, FIRST_TABLES, INDEXES, keyreg, put_rows
+from first_version import write
+from registers import APPROVED_ANEW, INDEXES, File, copy_files, database, new_register
 from script import expect
 
 DAY = 86400
@@ -36,7 +39,7 @@ HOSTILE = [
 ]
 
 
-def rows_of(file):
+def rows_of(file: File) -> dict[str, list[tuple]]:
     """The rows of each table of a file, by the tables' names, in the order in which they were put there."""
     place = pathlib.Path(file).absolute().as_uri()
     with contextlib.closing(sqlite3.connect(f"{place}?mode=ro", uri=True)) as connection:
@@ -44,33 +47,22 @@ def rows_of(file):
         return {name: connection.execute(f"SELECT * FROM {name} ORDER BY rowid").fetchall() for name in names}
 
 
-def first_version(file):
+def first_version(file: str) -> str:
     """A file of version 1 with the rows of one of version 2 in which no request is of version 2 alone."""
-    first, rows = f"{file}.first", rows_of(file)
-    with contextlib.closing(sqlite3.connect(first)) as connection:
-        connection.executescript(FIRST_TABLES + INDEXES)
-        rows["meta"] = [(1, 1, *rows["meta"][0][2:])]
-        for name in ("meta", "keys", "custodian", "approval", "request"):
-            put_rows(connection, name, rows[name])
-        connection.commit()
-    return first
+    first_file = f"{file}.first"
+    rows = {name: rows[::-1] for name, rows in rows_of(file).items()}
+    write(first_file, INDEXES, rows)
+    return first_file
 
 
-def changed(file, *statements):
+def changed(file: str, *statements: tuple) -> str:
     """A copy of the file in which another program made these changes."""
-    other = f"{file}.changed"
-    for end in ("", "-wal"):
-        if os.path.exists(other + end):
-            os.remove(other + end)
-    source, target = sqlite3.connect(file), sqlite3.connect(other)
-    source.backup(target)
-    source.close()
-    target.execute("PRAGMA foreign_keys = OFF")
-    for statement in statements:
-        rows = target.execute(*statement).rowcount
-        expect(rows != 0, f"{statement} changed nothing")
-    target.commit()
-    target.close()
+    other = copy_files(None, f"{file}.changed")
+    with database(file) as source, database(other) as target:
+        source.backup(target)
+        target.execute("PRAGMA foreign_keys = OFF")
+        for statement in statements:
+            expect(target.execute(*statement).rowcount != 0, f"{statement} changed nothing")
     return other
 
 
@@ -80,7 +72,8 @@ KINDS = ("data-encryption", "private-signature", "master")
 PEOPLE = ("ann", "bob", "cat", "dan", "eve", "office")
 
 
-def drawn(chance, count, steps, purposes=()):
+def drawn(chance: random.Random, count: int, steps: Sequence[int],
+          purposes: Sequence[str] = ()) -> Iterator[str]:
     """Lines of all commands; many are refused. The moments go on by one of the steps."""
     moment, date = 1_700_000_000, lambda: chance.choice(["-", "-", moment + chance.randrange(-9, 900) * DAY])
     for number in range(1, count + 1):
@@ -101,7 +94,7 @@ def drawn(chance, count, steps, purposes=()):
         yield f"{moment} {'office' if text.startswith('set-period') else who} {number} {text}"
 
 
-def at_one_moment(keys, people=("cat", "dan", "eve")):
+def at_one_moment(keys: int, people: Sequence[str] = ("cat", "dan", "eve")) -> list[str]:
     """Lines of one moment alone: keys that are made, get custodians and approvals, and are destroyed."""
     lines = []
     for key in range(1, keys + 1):
@@ -112,9 +105,7 @@ def at_one_moment(keys, people=("cat", "dan", "eve")):
     return [f"1700000000 {line}" for line in lines]
 
 
-def made(folder, name, lines):
+def made(folder: File, name: str, lines: Iterable[str]) -> tuple[str, int]:
     """The file of a register that keyreg made, which accepted something of each."""
     file = os.path.join(folder, f"{name}.keyreg")
-    keyreg(["init", "--file", file])
-    replies = keyreg(["run", "--file", file], lines)
-    return file, sum(reply.startswith("ok ") for reply in replies)
+    return file, sum(reply.startswith("ok ") for reply in new_register(file, lines))

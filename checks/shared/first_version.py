@@ -1,22 +1,23 @@
-"""Files of version 1 that SQLite's own library writes, with the rows of *approved anew*, and what it reads in them."""
+"""Files of version 1 that SQLite's own library writes, and what it reads in them."""
 import sqlite3
-from typing import Any
+from typing import Any, Mapping, Sequence
 
 from registers import APPROVED_ANEW_ROWS, FIRST_TABLES, VERSION, File, are_sound, database, put_rows
 from script import expect
 
 # The tables that version 2 added.
 ADDED = ("period", "quorum")
+# The rows of *approved anew*, by the tables of version 1.
 ROWS = {name: rows for name, rows in APPROVED_ANEW_ROWS.items() if name not in ADDED}
-ROWS["meta"] = [(1, 1, 109, 1)]
 
 
-def write(file: File, more: str = "") -> None:
-    """A file of version 1, with what an office has beside it."""
+def write(file: File, more: str = "", tables: Mapping[str, Sequence[tuple]] = ROWS) -> None:
+    """A file of version 1 with the rows of these tables, those of version 2 aside, and with what an office has."""
     with database(file) as connection:
         connection.executescript(FIRST_TABLES)
-        for name, rows in ROWS.items():
-            put_rows(connection, name, reversed(rows))
+        for name in ROWS:
+            rows = tables[name] if name != "meta" else [(row[0], 1, *row[2:]) for row in tables[name]]
+            put_rows(connection, name, rows[::-1])
         connection.commit()
         connection.executescript(more)
 

@@ -17,29 +17,23 @@ CONF = UNITS / "nginx-keyreg.conf"
 HOST, USERS = "keyreg.example", {"alice.meyer": "wonder", "office": "desk"}
 MAIN = """daemon off; pid {folder}/pid; error_log {folder}/error.log; {user}
 events {{ worker_connections 64; }}
-http {{ access_log off; client_body_temp_path {folder}/body; proxy_temp_path {folder}/proxy; fastcgi_temp_path {folder}/f;
-uwsgi_temp_path {folder}/u; scgi_temp_path {folder}/s; include {folder}/keyreg.conf; }}
+http {{ access_log off; client_body_temp_path {folder}/body; proxy_temp_path {folder}/proxy;
+fastcgi_temp_path {folder}/f; uwsgi_temp_path {folder}/u; scgi_temp_path {folder}/s; include {folder}/keyreg.conf; }}
 """
 
 
 def program():
-    """Debian's nginx, which is installed where it is not there and may be."""
-    found = shutil.which("nginx") or shutil.which("nginx", path="/usr/sbin")
-    if not found and os.geteuid() == 0 and shutil.which("apt-get"):
-        # Without a service that starts.
-        told = {**os.environ, "RUNLEVEL": "1", "DEBIAN_FRONTEND": "noninteractive"}
-        subprocess.run(["apt-get", "install", "-y", "--no-install-recommends", "nginx-light"], env=told, check=False,
-                       stdout=subprocess.DEVNULL)
-        found = shutil.which("nginx", path="/usr/sbin")
-    expect(found, "nginx is not installed: apt-get install nginx-light")
-    return found
+    """Debian's nginx, which stands where not everybody's PATH leads."""
+    path = shutil.which("nginx") or shutil.which("nginx", path="/usr/sbin")
+    expect(path, "nginx is not installed: apt-get install nginx-light")
+    return path
 
 
 def certified(folder):
     """A certificate for the host and its key, in the folder."""
-    done = subprocess.run(["openssl", "req", "-x509", "-newkey", "rsa:2048", "-nodes", "-days", "2", "-subj", f"/CN={HOST}",
-                           "-addext", f"subjectAltName=DNS:{HOST}", "-keyout", f"{folder}/key.pem", "-out",
-                           f"{folder}/certificate.pem"], capture_output=True, text=True, check=False)
+    words = ["openssl", "req", "-x509", "-newkey", "rsa:2048", "-nodes", "-days", "2", "-subj", f"/CN={HOST}",
+             "-addext", f"subjectAltName=DNS:{HOST}", "-keyout", f"{folder}/key.pem", "-out", f"{folder}/certificate.pem"]
+    done = subprocess.run(words, capture_output=True, text=True, check=False)
     expect(done.returncode == 0, f"openssl: {done.stderr}")
 
 

@@ -6,9 +6,11 @@ import pathlib
 import sys
 
 TOP = pathlib.Path(__file__).resolve().parents[2]
-OFFICE, UNITS, SAMPLES, DESK, DOCS = TOP / "office", TOP / "office" / "units", TOP / "samples", TOP / "desk", TOP / "docs"
+OFFICE, SAMPLES, DESK, DOCS = TOP / "office", TOP / "samples", TOP / "desk", TOP / "docs"
+UNITS = OFFICE / "units"
 VERSION_1 = TOP / "checks" / "sqlite" / "version_1.sql"
-PROGRAM = os.environ.get("KEYREG") or str(TOP / "crates" / "keyreg" / "out" / "keyreg")
+BUILT = TOP / "crates" / "keyreg" / "out" / "keyreg"
+PROGRAM = os.environ.get("KEYREG") or str(BUILT)
 
 
 def use(folder: str) -> None:

@@ -1,10 +1,10 @@
-"""What the checks over files share: runs of the program, the tables of docs/SPECIFICATION.md, and the texts of the rules,
-which stand in office/register_rules.py alone."""
+"""What the checks over files share: runs of the program, and the tables of docs/SPECIFICATION.md."""
 import contextlib
 import os
+import shutil
 import sqlite3
 import subprocess
-from typing import Any, Iterable, Iterator, Sequence, Union
+from typing import Any, Iterable, Iterator, Optional, Sequence, Union
 
 from places import PROGRAM
 import register_rules
@@ -98,7 +98,7 @@ APPROVED_ANEW_ROWS = {
 }
 
 
-def export_row(**cells):
+def export_row(**cells: Any) -> list[str]:
     """The row of a key in an export that has these cells, by the names of their columns, and else the usual ones."""
     return [str(cell) for cell in {**EXPORT_COLUMNS, **cells}.values()]
 
@@ -129,6 +129,26 @@ def expect_replies(file: File, exchanges: Iterable[tuple[str, str]]) -> None:
     expect(replies == list(wanted), f"{file}: replies {replies}, not {list(wanted)}")
 
 
+def answered_and_killed(file: File, lines: Sequence[str]) -> None:
+    """Runs the lines over the file, and kills the program once it has answered them: they stand in the log."""
+    with subprocess.Popen([PROGRAM, "run", "--file", file], stdin=subprocess.PIPE, stdout=subprocess.PIPE) as process:
+        process.stdin.write("".join(line + "\n" for line in lines).encode())
+        process.stdin.flush()
+        for _ in lines:
+            process.stdout.readline()
+        process.kill()
+
+
+def copy_files(file: Optional[File], other: File) -> File:
+    """Copies a file with its log, if there is one; nothing else is left by these names."""
+    for end in ("", "-wal"):
+        if file and os.path.exists(f"{file}{end}"):
+            shutil.copyfile(f"{file}{end}", f"{other}{end}")
+        elif os.path.exists(f"{other}{end}"):
+            os.remove(f"{other}{end}")
+    return other
+
+
 @contextlib.contextmanager
 def database(file: File) -> Iterator[sqlite3.Connection]:
     """A file in SQLite's own library; what is written is committed in the end."""
@@ -136,25 +156,25 @@ def database(file: File) -> Iterator[sqlite3.Connection]:
         yield connection
 
 
-def all_rows(connection):
+def all_rows(connection: sqlite3.Connection) -> dict[str, list[tuple]]:
     """The rows of each table, in order."""
     return {name: sorted(connection.execute(f"SELECT * FROM {name}")) for name in APPROVED_ANEW_ROWS}
 
 
-def columns_of(name):
+def columns_of(name: str) -> list[str]:
     """The names of a table's columns, in its order."""
     with contextlib.closing(sqlite3.connect(":memory:")) as connection:
         connection.executescript(TABLES)
         return [row[1] for row in connection.execute(f"PRAGMA table_info({name})")]
 
 
-def are_sound(connection):
+def are_sound(connection: sqlite3.Connection) -> bool:
     """Whether SQLite's own library finds nothing wrong in the file."""
     return (connection.execute("PRAGMA integrity_check").fetchall() == [("ok",)]
             and not connection.execute("PRAGMA foreign_key_check").fetchall())
 
 
-def put_rows(connection, name, rows):
+def put_rows(connection: sqlite3.Connection, name: str, rows: Iterable[tuple]) -> None:
     """Puts the rows into the table, which may be none."""
     for row in rows:
         connection.execute(f"INSERT INTO {name} VALUES ({', '.join('?' * len(row))})", row)

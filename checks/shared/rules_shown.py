@@ -18,11 +18,11 @@ def tables(register: Register) -> Rows:
     """The rows of each table, in order."""
     rows: Rows = {name: [] for name in ("keys", "custodian", "approval", "quorum")} | other_rows(register)
     for number, key in register.keys.items():
-        for name, found in key_rows(number, key, register.latest).items():
-            rows[name] += found
+        for name, of_key in key_rows(number, key, register.latest).items():
+            rows[name] += of_key
     rows["request"] = [(kept.caller, kept.number, command_text(kept.command), kept.key_no, kept.state, kept.moment)
                        for kept in register.kept.values()]
-    return {name: sorted(found) for name, found in rows.items()}
+    return {name: sorted(of_table) for name, of_table in rows.items()}
 
 
 # ---- texts
@@ -54,10 +54,10 @@ def report_text(register: Register, days: int) -> str:
             continue
         if key.stop <= horizon or is_long((key.activation, key.stop, key.end), register.period(key.kind)):
             mark = "overdue" if key.stop <= latest else "due" if key.stop <= horizon else "long"
-            told = f"{number:7}  {moment_text(key.stop)}  {mark:7}  {key.kind:22}  {key.owner}  {key.purpose}"
-            lines.append((key.stop, number, told))
-    told = [line for _, _, line in sorted(lines)]
-    return "".join(f"{line}\n" for line in (f"Keys due for rotation by {moment_text(horizon)}", *told, f"total {len(told)}"))
+            line = f"{number:7}  {moment_text(key.stop)}  {mark:7}  {key.kind:22}  {key.owner}  {key.purpose}"
+            lines.append((key.stop, number, line))
+    due = "".join(f"{line}\n" for _, _, line in sorted(lines))
+    return f"Keys due for rotation by {moment_text(horizon)}\n{due}total {len(lines)}\n"
 
 
 def import_table(rows: list[tuple]) -> str:

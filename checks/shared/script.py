@@ -6,15 +6,17 @@ import pathlib
 import shutil
 import sys
 import tempfile
-from typing import Any, Iterable, Iterator, NoReturn, Optional, Sequence
+from typing import Any, Iterable, Iterator, NoReturn, Optional, Sequence, Union
 
 # Where files in memory may stand: the folder that whoever runs the checks clears away, or the system's.
 MEMORY_FOLDER = os.environ.get("KEYREG_IN_MEMORY") or "/dev/shm"
 
 
-def options(text: Optional[str], parts: Sequence[str] = (), **defaults: Any) -> argparse.Namespace:
-    """The options of a script, whose docstring tells them. Each takes a value of its default's type, an integer where
-    that is None, and none where that is False. Behind them may stand names of parts; no name stands for all."""
+def options(text: Optional[str], parts: Sequence[str] = (), usual: Sequence[str] = (),
+            **defaults: Any) -> argparse.Namespace:
+    """The options of a script, whose docstring has them. Each takes a value of its default's type, an integer where
+    that is None, and none where that is False. Behind them may stand names of parts; without a name the usual ones are
+    meant, or all."""
     parser = argparse.ArgumentParser(description=text, formatter_class=argparse.RawDescriptionHelpFormatter)
     for name, default in defaults.items():
         if default is False:
@@ -27,7 +29,7 @@ def options(text: Optional[str], parts: Sequence[str] = (), **defaults: Any) -> 
     if parts:
         if unknown := [name for name in given.parts if name not in parts]:
             parser.error(f"no part {', '.join(unknown)}; there are {', '.join(parts)}")
-        given.parts = given.parts or list(parts)
+        given.parts = given.parts or list(usual or parts)
     return given
 
 
@@ -57,9 +59,10 @@ def show(progress: str = "") -> None:
         print(f"\r\033[K{progress}", end="", file=sys.stderr, flush=True)
 
 
-def verdict(line: str, faults: Iterable[str] = ()) -> NoReturn:
-    """Ends the script by its faults and its line of verdict; the status is 1 where there is a fault."""
+def verdict(line: str, faults: Union[int, Iterable[str]] = ()) -> NoReturn:
+    """Ends the script by its line of verdict. The status is 1 where there are faults, which are printed before it, or a
+    count of such as were printed already."""
     show()
-    faults = list(faults)
-    print(*faults, line, sep="\n", flush=True)
-    sys.exit(1 if faults else 0)
+    lines = [] if isinstance(faults, int) else list(faults)
+    print(*lines, line, sep="\n", flush=True)
+    sys.exit(1 if lines or isinstance(faults, int) and faults else 0)

@@ -5,8 +5,10 @@ A function is told by its lines: from `fn` to the line that opens its body or en
 semicolon.
 """
 import os
+import pathlib
 import re
 from dataclasses import dataclass, field
+from typing import Optional
 
 from places import listed, read
 
@@ -30,41 +32,46 @@ class Function:
     contract: str = ""
 
 
-def stands_on():
+def code_of(path: pathlib.Path) -> list[str]:
+    """The lines of a file of code, without what stands behind //."""
+    return [line.split("//")[0].rstrip() for line in path.read_text(encoding="utf-8").split("\n")]
+
+
+def stands_on() -> dict[str, list[str]]:
     """Each crate of crates.txt with those that it stands on."""
     lines = (line.split("#")[0].split(":") for line in read("crates.txt").splitlines())
     return {parts[0].strip(): parts[1].split() for parts in lines if len(parts) == 2}
 
 
-def reached(left):
+def reached(left: list[str]) -> set[str]:
     """These of our crates, and those that they stand on."""
-    uses, found = stands_on(), set()
+    uses, crates = stands_on(), set[str]()
     while left:
         name = left.pop()
-        if name in uses and name not in found:
-            found.add(name)
+        if name in uses and name not in crates:
+            crates.add(name)
             left += uses[name]
-    return found
+    return crates
 
 
-def below(crate):
+def below(crate: str) -> set[str]:
     """The crates of ours that one stands on, by way of others too."""
     return reached(stands_on()[crate])
 
 
-def parts(text):
+def parts(text: str) -> list[str]:
     """The parts of a list, at the commas that stand in no bracket."""
-    found, depth, begun = [], 0, 0
+    texts, depth, begun = [], 0, 0
     for at, letter in enumerate(text):
         is_end = letter in ")]}" or letter == ">" and text[at - 1] not in "-="
         depth += (letter in "([{<") - is_end
         if letter == "," and depth == 0:
-            found.append(text[begun:at])
+            texts.append(text[begun:at])
             begun = at + 1
-    return [part.strip() for part in found + [text[begun:]] if part.strip()]
+    return [part.strip() for part in texts + [text[begun:]] if part.strip()]
 
 
-def between_brackets(text, begin):
+def between_brackets(text: str, begin: int) -> str:
     """What stands between the bracket at this place and the one that closes it."""
     depth = 0
     for at in range(begin, len(text)):
@@ -74,7 +81,7 @@ def between_brackets(text, begin):
     return text[begin + 1:]
 
 
-def owner_of(line):
+def owner_of(line: str) -> Optional[str]:
     """The type or trait whose functions the line begins, if it begins any."""
     match = OWNER.match(line)
     if not match:
@@ -83,7 +90,7 @@ def owner_of(line):
     return re.match(r"[\w:]*", named).group().split("::")[-1]
 
 
-def head_of(lines, at):
+def head_of(lines: list[str], at: int) -> list[str]:
     """The lines of a function up to its body."""
     head = []
     for line in lines[at:]:
@@ -94,8 +101,8 @@ def head_of(lines, at):
     return head
 
 
-def functions_of(path):
-    lines, owner, found = read(path).split("\n"), "", []
+def functions_of(path: str) -> list[Function]:
+    lines, owner, all_functions = read(path).split("\n"), "", []
     for at, line in enumerate(lines):
         owner = owner_of(line) or ("" if line.startswith("}") else owner)
         match = FUNCTION.match(line)
@@ -109,16 +116,16 @@ def functions_of(path):
                             match.group(1) == "pub ", is_self, len(taken) - is_self)
         function.contract = text[cut.start():] if cut else ""
         function.clauses = {name for name in CLAUSE.findall(text) if name}
-        found.append(function)
-    return found
+        all_functions.append(function)
+    return all_functions
 
 
-def functions():
+def functions() -> list[Function]:
     return [function for path in listed("crates/*/src/**/*.rt")
             for function in functions_of(path)]
 
 
-def definitions(crates):
+def definitions(crates: set[str]) -> tuple[set[tuple[str, str, str]], set[str]]:
     """Each definition of the specs of these crates: crate, file, name; and all names of fields."""
     defined, fields = set(), set()
     for path in listed("crates/*/specs/**/*.antt"):

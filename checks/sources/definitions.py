@@ -8,7 +8,7 @@ import functools
 import itertools
 import os
 import re
-from typing import NamedTuple
+from typing import Iterable, Iterator, NamedTuple, Optional
 
 from places import TOP, read
 import declared
@@ -42,17 +42,17 @@ class Definition(NamedTuple):
 
 
 @functools.lru_cache
-def ours():
+def ours() -> frozenset[str]:
     return frozenset(contracts.stands_on())
 
 
-def paragraph(lines, mark):
+def paragraph(lines: list[str], mark: str) -> str:
     """The words of lines of comment, without the links of code."""
     text = " ".join(" ".join(line.strip().removeprefix(mark) for line in lines).split())
     return re.sub(r"\[(`[^`]*`)\](?:\([^)]*\))?", r"\1", text)
 
 
-def code_lines(definition):
+def code_lines(definition: Definition) -> int:
     """How many lines of its text are no comment."""
     return sum(1 for line in definition.text if not line.strip().startswith(("--", "//")))
 
@@ -85,12 +85,12 @@ class Imports:
         return self.words[self.signs[first]] if first in self.signs else None
 
 
-def is_spec(path):
+def is_spec(path: str) -> bool:
     """Whether an import's path leads to a file of specs/: others lead to code, or to proofs."""
     return path.split(".")[0] not in ("declared", "contracts", "proofs")
 
 
-def key_of(crate, path, name):
+def key_of(crate: str, path: str, name: str) -> Key:
     """The definition that an import names."""
     if crate not in ours():
         return Key(crate, path, name)
@@ -208,11 +208,11 @@ class SpecFile:
 
 
 @functools.lru_cache(maxsize=None)
-def spec_file(crate, place):
+def spec_file(crate: str, place: str) -> SpecFile:
     return SpecFile(crate, place)
 
 
-def files_in(folder, suffix):
+def files_in(folder: str, suffix: str) -> Iterator[tuple[str, str]]:
     """The files of this kind in this folder of each crate, however deep, by their crate and their path in it."""
     for crate in sorted(contracts.stands_on()):
         top = os.path.join(TOP, "crates", crate)
@@ -222,7 +222,7 @@ def files_in(folder, suffix):
 
 
 @functools.lru_cache(maxsize=None)
-def spec_keys():
+def spec_keys() -> list[Key]:
     """Each definition of the crates' specs/."""
     places = [(crate, path[6:-5].replace("/", ".")) for crate, path in files_in("specs", ".antt")]
     return [Key(crate, place, name) for crate, place in places if place != "Lib"
@@ -233,21 +233,21 @@ def spec_keys():
 
 
 @functools.lru_cache(maxsize=None)
-def rust_file(crate, place):
+def rust_file(crate: str, place: str) -> declared.RustFile:
     return declared.RustFile(crate, place)
 
 
 @functools.lru_cache(maxsize=None)
-def rust_places(crate):
+def rust_places(crate: str) -> dict[str, set[str]]:
     """The files of a crate's src/ in which there is an item of each name."""
-    found = {}
+    places: dict[str, set[str]] = {}
     for place in (place for owner, place in files_in("src", ".rt") if owner == crate):
         for name in rust_file(crate, place).items:
-            found.setdefault(name, set()).add(place)
-    return found
+            places.setdefault(name, set()).add(place)
+    return places
 
 
-def rust_key(file, word):
+def rust_key(file: declared.RustFile, word: str) -> Optional[Key]:
     """The item of code that a word of a file stands for: none where it is of the language itself."""
     if word in file.items:
         return Key(file.crate, file.place, word)
@@ -290,14 +290,14 @@ class Code:
         return walk.named
 
 
-def names_of_terms(file, begun, end):
+def names_of_terms(file: declared.RustFile, begun: int, end: int) -> list[Key]:
     """What the terms in these lines of code name."""
     text = "\n".join(file.lines[begun:end])
     places = [(begun + text.count("\n", 0, place), term) for place, term in declared.terms_of(text)]
     return [key for at, term in places for key in Code(file, at).names(term, file.scope_at(at))]
 
 
-def impl_definition(key):
+def impl_definition(key: Key) -> Definition:
     """The ghosts of a trait for a type, which contracts name by both."""
     file = rust_file(key.crate, key.place)
     at = next(place for place, trait, name in file.impls if name + trait == key.name)
@@ -308,7 +308,7 @@ def impl_definition(key):
     return Definition(key, paragraph(file.words_of(at) or file.words_of(of_type), "///"), tuple(text), "", names)
 
 
-def on_one_line(lines):
+def on_one_line(lines: list[str]) -> list[str]:
     """The lines, with each variant of an enum on one where that has the room and no comment stands within."""
     text = "\n".join(lines)
     for variant in re.findall(r"^    \w+ \{\n(?:        \w+: [^\n]*,\n)+    \},$", text, re.M):
@@ -317,12 +317,12 @@ def on_one_line(lines):
     return text.split("\n")
 
 
-def without_inverse(lines):
+def without_inverse(lines: list[str]) -> list[str]:
     """What `impl Model` has, but for the way back from the value, of which no contract speaks."""
     return [line for line in lines if not line.startswith("    ghost inverse ")]
 
 
-def rust_definition(key):
+def rust_definition(key: Key) -> Definition:
     """An item of code; of a type that contracts see as a value, also what that value is."""
     file = rust_file(key.crate, key.place)
     if key.name not in file.items:
@@ -340,7 +340,7 @@ def rust_definition(key):
     return Definition(key, paragraph(file.words_of(at), "///"), tuple(on_one_line(text)), "", names)
 
 
-def law(path, name):
+def law(path: str, name: str) -> Definition:
     """A public function, of which the contract is what is said."""
     crate, place = path.split("/")[1], path.split("/", 2)[2]
     file = rust_file(crate, place)
@@ -354,7 +354,7 @@ def law(path, name):
 
 
 @functools.lru_cache(maxsize=None)
-def definition(key):
+def definition(key: Key) -> Definition:
     if key.place.startswith("src/"):
         return rust_definition(key)
     return spec_file(key.crate, key.place).definition(key.name)
@@ -363,24 +363,24 @@ def definition(key):
 # ---- the walk
 
 
-def is_ours(key):
+def is_ours(key: Key) -> bool:
     return key.crate in ours()
 
 
-def in_order(names):
+def in_order(names: Iterable[Key]) -> tuple[list[Definition], list[Key]]:
     """These definitions and those that they stand on, crate by crate from the top, each with those of its crate that it
     names first right below it; and the kit's."""
-    named, found, kit = {}, {}, {}
+    named, defined, kit = {}, {}, {}
 
     def mention(key):
         of = named.setdefault(key.crate, {}) if is_ours(key) else kit
         of.setdefault(key)
 
     def stand(key):
-        if key in found:
+        if key in defined:
             return
-        found[key] = definition(key)
-        for name in found[key].names:
+        defined[key] = definition(key)
+        for name in defined[key].names:
             if name.crate == key.crate:
                 stand(name)
             else:
@@ -391,15 +391,15 @@ def in_order(names):
     for crate in reversed(list(contracts.stands_on())):
         for key in named.get(crate, ()):
             stand(key)
-    if any(key not in found for keys in named.values() for key in keys):
+    if any(key not in defined for keys in named.values() for key in keys):
         raise ValueError("a definition names one of a crate above its own")
-    return list(found.values()), list(kit)
+    return list(defined.values()), list(kit)
 
 
 # ---- what no public contract reaches
 
 
-def contract_names(has_private=False):
+def contract_names(has_private: bool = False) -> Iterator[Key]:
     """What each public contract of all crates names: clauses of public functions and of traits, and ghosts; or each
     contract."""
     for file in itertools.starmap(rust_file, files_in("src", ".rt")):
@@ -409,7 +409,7 @@ def contract_names(has_private=False):
                 yield from Code(file, at).names(term, file.scope_at(at))
 
 
-def reached(names):
+def reached(names: Iterable[Key]) -> set[Key]:
     """These definitions of ours, and those on which they stand."""
     left, seen = [key for key in names if is_ours(key)], set()
     while left:
@@ -420,22 +420,22 @@ def reached(names):
     return seen
 
 
-def named_anywhere():
+def named_anywhere() -> set[Key]:
     """The definitions that some text of the crates names: another definition, a contract, or a proof."""
-    found = {name for key in spec_keys() for name in definition(key).names} | set(contract_names(has_private=True))
+    names = {name for key in spec_keys() for name in definition(key).names} | set(contract_names(has_private=True))
     lemmas = [key for key in spec_keys() if re.match(r"pub \S+ :", definition(key).text[0])]
     for key in lemmas:
         file, text = spec_file(key.crate, key.place), "\n".join(definition(key).text)
-        found |= {file.key(word) for word in terms.tokens_of(text) if word in file.names() and word != key.name}
+        names |= {file.key(word) for word in terms.tokens_of(text) if word in file.names() and word != key.name}
     for crate, path in files_in("proofs", ".antt"):
         lines = read(f"crates/{crate}/{path}").split("\n")
         imports, text = Imports(lines), "\n".join(line for line in lines if not USE.match(line))
         meant = {imports.meaning(word) for word in terms.tokens_of(text) if word not in terms.NOTATION} - {None}
-        found |= {key_of(*name) for name in meant if name[0] in ours() and is_spec(name[1])}
-    return found
+        names |= {key_of(*name) for name in meant if name[0] in ours() and is_spec(name[1])}
+    return names
 
 
-def unreached():
+def unreached() -> Iterator[tuple[str, list[tuple[Key, bool]], int]]:
     """Of each crate with specs/: those of its definitions that no public contract reaches, each with whether any text
     names it, and how many it has."""
     seen, named, every = reached(set(contract_names())), named_anywhere(), {}

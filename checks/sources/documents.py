@@ -3,31 +3,25 @@
 
     checks/sources/documents.py [PART..]
 
-A line for each fault, and a last line that counts them; the status is 1 where there is one. The
-parts, all but the last where none is named:
+The parts, all but the last where none is named:
 
-    promises   each name in docs/PROMISES.md is one of the code; each function that it or a table of
-               README.md names with clauses has these; each law stands there with each of its
-               clauses; no cell there has more than 25 words
-    paths      each path and link of a document leads to a file, and an anchor to a heading; what it
-               has installed of office/ comes with what that imports from beside it
-    calls      each call in the example of a crate's src/lib.rt is that of a function of ours with
-               as many arguments
-    commands   the commands of README.md, docs/OPERATING.md and docs/AUDIT.md, one after the other
-               in one folder, print what stands after them (checks/shared/document_commands.py)
-    stale      no document has another number of tables or commands, another bound on steps, a
-               table, an index, a refusal or an end of another name, or another program logic than
-               the kit's
-    pictures   README's picture of the states has the transitions of docs/SPECIFICATION.md,
-               docs/costs.svg the figures of docs/COSTS.md, and the graph of docs/ARCHITECTURE.md
-               the arrows of crates.txt; what its pictures name is a function or a crate
-    theorem    docs/THEOREM.md and docs/DEFINITIONS.md have the theorem and each definition on which it stands, as
-               the sources have them; each document that says how many there are has that figure; and no
-               definition on which a public contract stands is without words of its own (checks/sources/theorem.py)
-    reached    a public contract stands on each definition of a crate's specs/, and on none of those
-               of its folder Within/
-    look       README's first look, which `rt try` answers without a proof, in a copy of the sources; it takes
-               minutes
+    promises   each name in docs/PROMISES.md is one of the code; each function that it or a table of README.md names
+               with clauses has these; each law stands there with each of its clauses; no cell has more than 25 words
+    paths      each path and link of a document leads to a file, and an anchor to a heading; what it has installed of
+               office/ comes with what that imports from beside it
+    calls      each call in the example of a crate's src/lib.rt is that of a function of ours with as many arguments
+    commands   the commands of README.md, docs/OPERATING.md and docs/AUDIT.md, one after the other in one folder, print
+               what stands after them (checks/shared/document_commands.py)
+    stale      no document has another number of tables or commands, another bound on steps, a table, an index, a
+               refusal or an end of another name, or another program logic than the kit's
+    pictures   README's picture of the states has the transitions of docs/SPECIFICATION.md, docs/costs.svg the figures
+               of docs/COSTS.md, and the graph of docs/ARCHITECTURE.md the arrows of crates.txt; what its pictures name
+               is a function or a crate
+    theorem    docs/THEOREM.md and docs/DEFINITIONS.md have the theorem and each definition on which it stands, as the
+               sources have them; each document that says how many there are has that figure; and no definition on
+               which a public contract stands is without words of its own (checks/sources/theorem.py)
+    reached    a public contract stands on each definition of a crate's specs/, and on none of its folder Within/
+    look       README's first look, which `rt try` answers without a proof, in a copy of the sources, in minutes
 
 The program is the one that ./keyreg builds, or that KEYREG names. Of the crates' specs those count
 that the program stands on.
@@ -39,18 +33,20 @@ import re
 import shutil
 import subprocess
 import sys
+from typing import Iterator, Optional
 
 sys.path.insert(1, str(pathlib.Path(__file__).resolve().parents[1] / "shared"))
 from places import TOP, listed, read
-import document_commands
-import definitions
 import contracts
+import definitions
+import document_commands
 import theorem
+from contracts import Function
+from script import options, verdict
 
 QUOTED = re.compile(r"`([^`\n]+)`")
-WORDS = """no one two three four five six seven eight nine ten eleven twelve thirteen fourteen
-    fifteen sixteen""".split()
-NUMBERS = {word: number for number, word in enumerate(WORDS)}
+NUMBERS = {word: number for number, word in enumerate(
+    "no one two three four five six seven eight nine ten eleven twelve thirteen fourteen fifteen sixteen".split())}
 # Calls in examples that are none of ours: of std, and of the kit.
 OTHER_CALLS = {"write_all", "as_bytes", "map", "assert_eq", "open_files"}
 FILE = re.compile(r"[\w.<>/-]*\w\.(?:rt|antt|py|md|sql|sh|csv|txt|yaml|edit|svg|service|timer|cron|conf)\b")
@@ -59,13 +55,15 @@ FOLDER = re.compile(r"(crates|checks|bench|docs|office|samples|\.ci)/")
 MOST_WORDS = 25
 # Names in PROMISES that are none of ours: types of the standard library and words of the field.
 OTHERS = {"None", "Some", "UTF", "src", "main"}
+# The faults of a part, and what it looked at.
+Faults = tuple[list[str], str]
 
 
-def documents():
-    return [path for path in listed("*.md") + listed("docs/*.md")]
+def documents() -> list[str]:
+    return listed("*.md") + listed("docs/*.md")
 
 
-def numbered(path):
+def numbered(path: str) -> Iterator[tuple[int, str]]:
     """The lines of a document outside its fenced blocks, with their numbers."""
     inside = False
     for number, line in enumerate(read(path).split("\n"), 1):
@@ -75,29 +73,27 @@ def numbered(path):
             yield number, line
 
 
-def cells(line):
-    if not line.startswith("|"):
-        return []
-    return [cell.strip() for cell in line.strip().strip("|").split("|")]
+def cells(line: str) -> list[str]:
+    return [cell.strip() for cell in line.strip().strip("|").split("|")] if line.startswith("|") else []
 
 
 # ---- promises
 
 
 @functools.lru_cache
-def sources_functions():
+def all_functions() -> list[Function]:
     return contracts.functions()
 
 
 @functools.lru_cache
-def by_name():
-    found = {}
-    for function in sources_functions():
-        found.setdefault(function.name, []).append(function)
-    return found
+def by_name() -> dict[str, list[Function]]:
+    functions: dict[str, list[Function]] = {}
+    for function in all_functions():
+        functions.setdefault(function.name, []).append(function)
+    return functions
 
 
-def functions_named(text, owner=""):
+def functions_named(text: str, owner: str = "") -> list[Function]:
     """The functions that `Desk::apply` or `run` names; without a type it may be of this one."""
     path = text.split("::")
     named = by_name().get(path[-1], [])
@@ -107,18 +103,17 @@ def functions_named(text, owner=""):
     if len(path) > 1:
         return [function for function in named if function.owner == path[-2]]
     of_owner = [function for function in named if owner and function.owner == owner]
-    of_type = [function for function in sources_functions() if function.owner == text]
+    of_type = [function for function in all_functions() if function.owner == text]
     return of_owner or of_type or named
 
 
 @functools.lru_cache
-def code_names():
+def code_names() -> set[str]:
     """Each name that the code or its contracts define."""
     defined, fields = contracts.definitions(set(contracts.stands_on()))
     names = {name for _, _, name in defined} | fields | set(by_name()) | set(contracts.stands_on())
     names |= {crate for uses in contracts.stands_on().values() for crate in uses}
-    for functions in by_name().values():
-        names |= {clause for function in functions for clause in function.clauses}
+    names |= {clause for function in all_functions() for clause in function.clauses}
     for path in listed("crates/*/src/*.rt"):
         names |= set(re.findall(r"\b(?:struct|enum|trait|type|const) (\w+)", read(path)))
         names |= set(re.findall(r"^ {4}([A-Z]\w*)(?:\(|,| \{)", read(path), re.M))
@@ -129,11 +124,11 @@ def code_names():
     return names | OTHERS | {"laws"}
 
 
-def without_brackets(text):
+def without_brackets(text: str) -> str:
     return re.sub(r"\([^()]*\)", "", re.sub(r"\([^()]*\)", "", text))
 
 
-def clause_lists(segment):
+def clause_lists(segment: str) -> Iterator[tuple[list[str], list[str]]]:
     """The functions and the clauses of each list in one part of a cell, where it names clauses."""
     segment = re.sub(r",? (?:their |its )?parts? .*? of (?:its|their) clauses?", "", segment)
     segment = re.sub(r" of (?:their|its|`\w+`)", "", segment)
@@ -146,7 +141,7 @@ def clause_lists(segment):
         functions = names[count:]
 
 
-def has_clause(text, clause, owner, functions):
+def has_clause(text: str, clause: str, owner: str, functions: list[str]) -> bool:
     """Whether the function has the clause, or another of the list does, whose name it bears."""
     stem = clause.removesuffix("s")
     bearers = [other for other in functions if other.split("::")[-1].startswith(stem)]
@@ -155,7 +150,7 @@ def has_clause(text, clause, owner, functions):
     return any(clause in function.clauses for function in functions_named(text, owner))
 
 
-def cell_faults(cell):
+def cell_faults(cell: str) -> list[str]:
     """The functions of a cell that are not there, and their clauses that they have not."""
     faults, owner = [], ""
     for segment in without_brackets(cell).split(";"):
@@ -170,64 +165,61 @@ def cell_faults(cell):
     return faults
 
 
-def is_known(text):
+def is_known(text: str) -> bool:
     is_call = "::" in text and text.split("::")[-1][0].islower() and not text.endswith("::laws")
     return bool(functions_named(text)) if is_call else text.split("::")[-1] in code_names()
 
 
-def unknown_names(line):
+def unknown_names(line: str) -> list[str]:
     texts = [text for text in QUOTED.findall(line) if re.fullmatch(r"\w+(::\w+)*", text)]
     return [text for text in texts if not is_known(text)]
 
 
-def law_faults():
+def law_faults() -> Iterator[str]:
     """The laws that PROMISES does not name, with each of their clauses."""
     rows = [cells(line)[-1] for _, line in numbered("docs/PROMISES.md") if cells(line)]
-    faults = []
-    for law in sources_functions():
+    for law in all_functions():
         if not law.path.endswith("/laws.rt") or not law.is_public:
             continue
-        told = [set(QUOTED.findall(row)) for row in rows
-                if re.search(rf"`(?:\w+::)*{law.name}`", row)]
-        if not told:
-            faults.append(f"docs/PROMISES.md: no law `{law.name}` ({law.crate})")
-        faults += [f"docs/PROMISES.md: `{law.name}` without its clause `{clause}`"
-                   for clause in sorted(law.clauses) if told and not any(clause in row for row in told)]
-    return faults
+        names = [set(QUOTED.findall(row)) for row in rows if re.search(rf"`(?:\w+::)*{law.name}`", row)]
+        if not names:
+            yield f"docs/PROMISES.md: no law `{law.name}` ({law.crate})"
+        yield from (f"docs/PROMISES.md: `{law.name}` without its clause `{clause}`"
+                    for clause in sorted(law.clauses) if names and not any(clause in row for row in names))
 
 
-def promise_faults():
-    faults, lists = law_faults(), 0
+def promise_faults() -> Faults:
+    faults, lists = list(law_faults()), 0
     for document in ("README.md", "docs/PROMISES.md"):
         for number, line in numbered(document):
             cell = cells(line)[-1] if cells(line) else ""
-            told = cell_faults(cell)
+            of_line = cell_faults(cell)
             lists += cell.count(" clause")
             if document == "docs/PROMISES.md" or " clause" in cell:
-                told += [f"nothing is named `{text}`" for text in unknown_names(line)]
+                of_line += [f"nothing is named `{text}`" for text in unknown_names(line)]
             if document == "docs/PROMISES.md":
-                told += [f"a cell of {len(text.split())} words" for text in cells(line)
-                         if len(text.split()) > MOST_WORDS]
-            faults += [f"{document}:{number}: {fault}" for fault in told]
+                of_line += [f"a cell of {len(text.split())} words" for text in cells(line)
+                            if len(text.split()) > MOST_WORDS]
+            faults += [f"{document}:{number}: {fault}" for fault in of_line]
     return faults, f"{lists} lists of clauses in README and PROMISES"
 
 
 # ---- paths
 
 
-def slug(heading):
+def slug(heading: str) -> str:
     text = re.sub(r"[`*]", "", re.sub(r"\[([^\]]*)\]\([^)]*\)", r"\1", heading)).strip().lower()
     return re.sub(r"[^\w\- ]", "", text).replace(" ", "-")
 
 
-def headings(path):
+def headings(path: str) -> set[str]:
     return {slug(line.lstrip("#")) for _, line in numbered(path) if line.startswith("#")}
 
 
-def link_fault(document, target):
+def link_fault(document: str, target: str) -> Optional[str]:
     path, _, anchor = target.partition("#")
     whole = os.path.normpath(os.path.join(os.path.dirname(document), path)) if path else document
-    if not os.path.exists(os.path.join(TOP, whole)):
+    if not (TOP / whole).exists():
         return f"the link {target} leads nowhere"
     if anchor and whole.endswith(".md") and anchor not in headings(whole):
         return f"{whole} has no heading {anchor}"
@@ -235,22 +227,20 @@ def link_fault(document, target):
 
 
 @functools.lru_cache
-def all_files():
-    found = []
+def all_files() -> list[str]:
+    paths: list[str] = []
     for folder, folders, files in os.walk(TOP):
         folders[:] = [name for name in folders if name not in (".git", "out", "__pycache__")]
-        found += [os.path.relpath(os.path.join(folder, name), TOP) for name in files]
-    return found
+        paths += [os.path.join(folder, name) for name in files]
+    return paths
 
 
-def is_there(path):
+def is_there(path: str) -> bool:
     """Whether a file ends in these parts of a path, or a folder of the top is named so."""
-    if os.path.exists(os.path.join(TOP, path)) or path == "README.md":
-        return True
-    return any(file == path or file.endswith("/" + path) for file in all_files())
+    return (TOP / path).exists() or any(file.endswith("/" + path) for file in all_files())
 
 
-def install_faults():
+def install_faults() -> Iterator[str]:
     """Programs of office/ that are to be installed without what they import from beside them."""
     for path in [*documents(), *listed("office/units/*.service")]:
         for command in re.findall(r"\binstall (?:[^\n\\]|\\\n)*office/(?:[^\n\\]|\\\n)*", read(path)):
@@ -261,42 +251,37 @@ def install_faults():
                             if module not in given and (TOP / f"office/{module}.py").exists())
 
 
-def path_faults():
+def path_faults() -> Faults:
     faults, count = list(install_faults()), 0
     for document in documents():
         for number, line in numbered(document):
-            links = re.findall(r"\]\(([^)\s]+)\)|^\[[^\]]+\]: (\S+)", line)
-            targets = [link or reference for link, reference in links
-                       if not (link or reference).startswith("http")]
+            links = [link or reference for link, reference in
+                     re.findall(r"\]\(([^)\s]+)\)|^\[[^\]]+\]: (\S+)", line)]
+            targets = [link for link in links if not link.startswith("http")]
             plain = re.sub(r"\[[^]]*\]\([^)]*\)|^\[.*\]: .*", "", line)
-            named = re.findall(FILE, plain)
-            named += [text.split()[0] for text in QUOTED.findall(line) if FOLDER.match(text)]
+            paths = FILE.findall(plain) + [text.split()[0] for text in QUOTED.findall(line) if FOLDER.match(text)]
             # A whole path is the machine's.
-            named = [text for text in named if "<" not in text and ">" not in text and not text.startswith("/")]
-            count += len(targets) + len(named)
-            told = [link_fault(document, target) for target in targets]
-            told += [f"no file {text}" for text in dict.fromkeys(named)
-                     if not is_there(text.strip("/").removeprefix("../").removeprefix("./"))]
-            faults += [f"{document}:{number}: {fault}" for fault in told if fault]
+            paths = [path for path in paths if "<" not in path and ">" not in path and not path.startswith("/")]
+            count += len(targets) + len(paths)
+            of_line = [link_fault(document, target) for target in targets]
+            of_line += [f"no file {path}" for path in dict.fromkeys(paths)
+                        if not is_there(path.strip("/").removeprefix("../").removeprefix("./"))]
+            faults += [f"{document}:{number}: {fault}" for fault in of_line if fault]
     return faults, f"{count} paths and links"
 
 
 # ---- calls
 
 
-def example_of(path):
+def example_of(path: str) -> str:
     """The example in a crate's own words, without its comments."""
-    told = [line[3:].removeprefix(" ") for line in read(path).split("\n") if line.startswith("//!")]
-    text, inside = [], False
-    for line in told:
-        inside = inside != line.startswith("```")
-        if inside and not line.startswith("```"):
-            text.append(re.sub(r"/\*.*?\*/|//.*", "", line))
-    return "\n".join(text)
+    words = "\n".join(line[3:].removeprefix(" ") for line in read(path).split("\n") if line.startswith("//!"))
+    blocks = re.findall(r"(?ms)^```[^\n]*\n(.*?)^```$", words)
+    return re.sub(r"/\*.*?\*/|//[^\n]*", "", "".join(blocks))
 
 
-def call_faults():
-    faults, count = [], 0
+def call_faults() -> Faults:
+    faults, count = list[str](), 0
     owners = {function.owner for functions in by_name().values() for function in functions}
     for path in listed("crates/*/src/lib.rt"):
         text = example_of(path)
@@ -322,7 +307,7 @@ def call_faults():
 # ---- stale
 
 
-def counts_of_code():
+def counts_of_code() -> tuple[int, int, int]:
     tables = re.search(r"TABLES: \[TableName; (\d+)\]", read("crates/register_store/src/table.rt"))
     kind = read("crates/register_requests/src/command_fields.rt")
     kinds = re.search(r"ALL: &'static \[CommandKind\] = &\[(.*?)\];", kind, re.S)
@@ -330,7 +315,7 @@ def counts_of_code():
     return int(tables.group(1)), kinds.group(1).count("CommandKind::"), int(steps.group(1))
 
 
-def names_of_code():
+def names_of_code() -> tuple[set[str], set[str], dict[str, str], set[str]]:
     """The tables, the indexes and the refusals with their numbers, as the code has them."""
     tables = set(re.findall(r"CREATE TABLE (\w+)", read("crates/register_store/src/table.rt")))
     indexes = set(re.findall(r"keys_by_\w+", "".join(
@@ -341,11 +326,7 @@ def names_of_code():
     return tables, indexes, pairs, names | {"BadValue"}
 
 
-def number_of(text):
-    return int(text) if text.isdigit() else NUMBERS.get(text.lower())
-
-
-def count_faults(line, tables, kinds, steps):
+def count_faults(line: str, tables: int, kinds: int, steps: int) -> Iterator[str]:
     rules = [(r"\b(\w+) tables of a (?:database|register)", tables),
              (r"\b(?:the|all) (\w+) tables\b", tables),
              (r"\b(\w+) commands\b", kinds),
@@ -353,44 +334,42 @@ def count_faults(line, tables, kinds, steps):
              (r"bound on steps is (\w+)", steps)]
     for rule, wanted in rules:
         for text in re.findall(rule, line):
-            if number_of(text) not in (None, wanted, 2, 1):
+            if (int(text) if text.isdigit() else NUMBERS.get(text.lower())) not in (None, wanted, 2, 1):
                 yield f"{text} where the code has {wanted}: {rule}"
 
 
-def name_faults(line, tables, indexes, refusals, ends):
+def name_faults(line: str, tables: set[str], indexes: set[str], refusals: dict[str, str],
+                ends: set[str]) -> Iterator[str]:
     for listing in re.findall(r"\btables? ((?:`\w+`(?:, | and | or )?)+)", line):
         yield from (f"no table `{name}`" for name in QUOTED.findall(listing) if name not in tables)
-    named = re.findall(r"keys_by_\w+", line)
-    yield from (f"no index {name}" for name in named if name not in indexes)
+    yield from (f"no index {name}" for name in re.findall(r"keys_by_\w+", line) if name not in indexes)
     for number, name in re.findall(r"refused (\d+) ([A-Z]\w+)", line):
         if refusals.get(name) != number:
             yield f"no refusal {number} {name}"
-    named = re.findall(r"`keyreg: (\w+)`", line)
-    yield from (f"no end {name}" for name in named if name not in ends)
+    yield from (f"no end {name}" for name in re.findall(r"`keyreg: (\w+)`", line) if name not in ends)
 
 
-def kit_faults():
-    """That README names the program logic of the kit that is here, where one is. The name of the
-    kit itself is not compared: what is proved rests on its logic."""
+def kit_faults() -> list[str]:
+    """That README names the program logic of the kit that is here, where one is. The name of the kit itself is not
+    compared: what is proved rests on its logic."""
     if not shutil.which("rt"):
         return []
-    told = subprocess.run(["rt", "version"], capture_output=True, text=True, check=False)
-    logic = re.search(r"\blogic \w+", told.stdout)
+    version = subprocess.run(["rt", "version"], capture_output=True, text=True, check=False).stdout
+    logic = re.search(r"\blogic \w+", version)
     has_logic = logic and re.search(rf"\b{logic[0]}\b", read("README.md"))
-    return [] if has_logic else [f"README.md: the kit here is {told.stdout.strip()}"]
+    return [] if has_logic else [f"README.md: the kit here is {version.strip()}"]
 
 
-def stale_faults():
-    counts, names = counts_of_code(), names_of_code()
-    faults = kit_faults()
+def stale_faults() -> Faults:
+    counts, names, faults = counts_of_code(), names_of_code(), kit_faults()
     for document in documents():
         for number, line in enumerate(read(document).split("\n"), 1):
-            told = [*count_faults(line, *counts), *name_faults(line, *names)]
-            faults += [f"{document}:{number}: {fault}" for fault in told]
+            faults += [f"{document}:{number}: {fault}"
+                       for fault in (*count_faults(line, *counts), *name_faults(line, *names))]
     return faults, f"{len(documents())} documents"
 
 
-def output_faults():
+def output_faults() -> Faults:
     faults, count = document_commands.wrong_outputs(["README.md", "docs/OPERATING.md", "docs/AUDIT.md"])
     return faults, f"{count} blocks of commands"
 
@@ -398,12 +377,11 @@ def output_faults():
 # ---- pictures
 
 
-def state_faults():
+def state_faults() -> tuple[list[str], int]:
     """That README's states have the transitions of SPECIFICATION."""
     rows = [cells(line) for _, line in numbered("docs/SPECIFICATION.md")]
-    states = "|".join(re.search(r"The states are ([^.]*)\.", read("docs/SPECIFICATION.md"))[1]
-                      .replace("`", "").replace("\n", " ").split(" (")[0].replace(" and ", ", ")
-                      .split(", "))
+    listed_states = re.search(r"The states are ([^.]*)\.", read("docs/SPECIFICATION.md"))[1].split(" (")[0]
+    states = "|".join(listed_states.replace("`", "").replace("\n", " ").replace(" and ", ", ").split(", "))
     wanted = {(row[0], row[1], row[2]) for row in rows if len(row) == 4
               and re.fullmatch(rf"{states}|none", row[1]) and re.fullmatch(states, row[2])}
     text = read("README.md")
@@ -416,7 +394,7 @@ def state_faults():
     return faults, len(wanted)
 
 
-def arrows_of_crates():
+def arrows_of_crates() -> set[tuple[str, str]]:
     """Each of our crates with each of ours that it stands on, and not by way of another."""
     uses = contracts.stands_on()
     ours = {crate: {other for other in others if other in uses} for crate, others in uses.items()}
@@ -424,7 +402,7 @@ def arrows_of_crates():
             if not any(other in contracts.below(between) for between in others)}
 
 
-def flow_faults():
+def flow_faults() -> tuple[list[str], int]:
     """That the graph of crates in ARCHITECTURE has these arrows, and its pictures names of ours."""
     path = "docs/ARCHITECTURE.md"
     text = "\n".join(re.findall(r"```mermaid\n(.*?)```", read(path), re.S))
@@ -438,17 +416,15 @@ def flow_faults():
     return faults, len(wanted)
 
 
-def picture_faults():
-    faults, transitions = state_faults()
-    told, arrows = flow_faults()
-    faults += told
-    script = os.path.join(TOP, "bench", "costs_svg.py")
-    if subprocess.run([script, "--check"], stdout=subprocess.DEVNULL, check=False).returncode:
+def picture_faults() -> Faults:
+    (faults, transitions), (others, arrows) = state_faults(), flow_faults()
+    faults += others
+    if subprocess.run([TOP / "bench" / "costs_svg.py", "--check"], stdout=subprocess.DEVNULL, check=False).returncode:
         faults.append("docs/costs.svg: not that of docs/COSTS.md: bench/costs_svg.py draws it")
     return faults, f"{transitions} transitions, {arrows} arrows between crates, a picture of costs"
 
 
-def reached_faults():
+def reached_faults() -> Faults:
     """Of specs/ what no public contract reaches, and of specs/Within/ what one does."""
     unreached = {key for _, keys, _ in definitions.unreached() for key, _ in keys}
     every = definitions.spec_keys()
@@ -460,7 +436,7 @@ def reached_faults():
     return faults, f"{len(every)} definitions, {sum(is_within.values())} of them within"
 
 
-def look_faults():
+def look_faults() -> Faults:
     faults, seconds = document_commands.first_look()
     return faults, f"answered in {seconds} seconds"
 
@@ -468,23 +444,16 @@ def look_faults():
 PARTS = {"promises": promise_faults, "paths": path_faults,
          "calls": call_faults, "commands": output_faults, "stale": stale_faults,
          "pictures": picture_faults, "theorem": theorem.faults, "reached": reached_faults, "look": look_faults}
-# Those that are run where none is named: the others take minutes.
-SHORT = [part for part in PARTS if part != "look"]
 
 
-def main():
-    chosen = sys.argv[1:] or SHORT
-    if not set(chosen) <= set(PARTS):
-        sys.exit(f"the parts are {', '.join(PARTS)}")
-    total = 0
-    for part in chosen:
-        faults, looked_at = PARTS[part]()
-        print(*faults, sep="\n", end="\n" if faults else "")
-        print(f"{part}: {looked_at}, {len(faults)} faults", flush=True)
-        total += len(faults)
-    print(f"documents: {total} faults" if total else "documents: all as they say")
-    return 1 if total else 0
+def main() -> None:
+    names = options(__doc__, tuple(PARTS), usual=[part for part in PARTS if part != "look"]).parts
+    all_faults: list[str] = []
+    for name in names:
+        faults, looked_at = PARTS[name]()
+        all_faults += faults
+        print(f"{name}: {looked_at}, {len(faults)} faults", flush=True)
+    verdict(f"documents: {len(all_faults)} faults" if all_faults else "documents: all as they say", all_faults)
 
 
-if __name__ == "__main__":
-    sys.exit(main())
+main()

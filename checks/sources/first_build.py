@@ -1,15 +1,14 @@
 #!/usr/bin/env python3
-"""What ./keyreg says while it builds, what makes it build, and what a failure, an interrupt and a
-second call leave: in a copy of the sources, with an `rt` that proves nothing.
+"""What ./keyreg says while it builds, what makes it build, and what a failure, an interrupt and a second call leave: in
+a copy of the sources, with an `rt` that proves nothing.
 
-    checks/sources/first_build.py [PRESSES]
+    checks/sources/first_build.py [--presses N]
 
-PRESSES is how often Ctrl-C is pressed at a drawn moment besides, 3 if left out: what is to be seen comes of a few
+N is how often Ctrl-C is pressed at a drawn moment besides, 3 if left out: what is to be seen comes of a few
 milliseconds in each second, so 500 beside other work say more.
 
-That `rt` is this file under another name. It prints what the kit's prints, waits, fails where it is
-told to, and puts a shell script in the place of the program. So no proof is run, and neither cores
-nor a built program are needed.
+That `rt` is this file under another name. It prints what the kit's prints, waits, fails where it is asked to, and puts
+a shell script in the place of the program. So no proof is run, and no built program is needed.
 """
 import contextlib
 import fcntl
@@ -24,12 +23,12 @@ import signal
 import struct
 import subprocess
 import sys
-import tempfile
 import termios
 import time
 
 sys.path.insert(1, str(pathlib.Path(__file__).resolve().parents[1] / "shared"))
 from places import TOP
+from script import fresh_folder, options, verdict
 
 # Gives back its words and its input, or lives on as `serve` does.
 PROGRAM = """#!/bin/sh
@@ -45,8 +44,7 @@ WANTED = "words: run --file x\na line\n"
 FUNCTIONS = 3
 # How many looks at the dates of all sources a call may take that builds nothing.
 TIMES = 20
-LINE = re.compile(
-    r"keyreg: (\d+)(?:-(\d+))? of (\d+): ([\w, ]+), (\d+) functions, (\d+ min \d+ s) *")
+LINE = re.compile(r"keyreg: (\d+)(?:-(\d+))? of (\d+): ([\w, ]+), (\d+) functions, (\d+ min \d+ s) *")
 ENDED = re.compile(r"^keyreg: (\w+) is proved \((\d+) of (\d+)\)$", re.M)
 
 
@@ -58,19 +56,26 @@ def write_program(text):
     program.chmod(0o755)
 
 
-def tell(told, *words):
-    """Adds a line to what the calls of `rt` tell."""
-    with open(told / "journal", "a", encoding="utf-8") as file:
+def note(orders, *words):
+    """Adds a line to the journal of the calls of `rt`."""
+    with open(orders / "journal", "a", encoding="utf-8") as file:
         print(*words, file=file)
 
 
-def wait_alone(told, crate, seconds):
-    """Until no other crate has been in hand for so long, however busy the machine is."""
-    since = time.monotonic()
+def entries_of(orders):
+    """The journal of the calls of `rt`, in order: of each line the kind, the crate and the rest."""
+    with contextlib.suppress(FileNotFoundError):
+        lines = (orders / "journal").read_text(encoding="utf-8").splitlines()
+        return [(kind, crate, rest) for kind, crate, *rest in map(str.split, lines)]
+    return []
+
+
+def wait_alone(orders, seconds):
+    """Until nothing was begun or ended for so long, however busy the machine is."""
+    last, since = None, time.monotonic()
     while time.monotonic() < since + seconds:
-        words = [line.split()[:2] for line in (told / "journal").read_text(encoding="utf-8").splitlines()]
-        if {name for kind, name in words if kind == "begun"} - {name for kind, name in words if kind == "ended"} != {crate}:
-            since = time.monotonic()
+        if (entries := entries_of(orders)) != last:
+            last, since = entries, time.monotonic()
         time.sleep(0.05)
 
 
@@ -91,16 +96,16 @@ def rt():
     if sys.argv[1:] == ["version"]:
         print(f"another-kit logic {os.environ['LOGIC']}")
         return
-    crate, told = os.path.basename(os.getcwd()), pathlib.Path(os.environ["TOLD"])
+    crate, orders = os.path.basename(os.getcwd()), pathlib.Path(os.environ["ORDERS"])
     if crate == "keyreg":
         write_program(HALF)
-    tell(told, "begun", crate, os.getpid(), *sys.argv[1:])
+    note(orders, "begun", crate, os.getpid(), *sys.argv[1:])
     held = hold_folders(crate)
     with contextlib.suppress(FileNotFoundError):
-        time.sleep(float((told / f"wait-{crate}").read_text(encoding="utf-8")))
+        time.sleep(float((orders / f"wait-{crate}").read_text(encoding="utf-8")))
     with contextlib.suppress(FileNotFoundError):
-        wait_alone(told, crate, float((told / f"alone-{crate}").read_text(encoding="utf-8")))
-    if (told / f"fail-{crate}").exists():
+        wait_alone(orders, float((orders / f"alone-{crate}").read_text(encoding="utf-8")))
+    if (orders / f"fail-{crate}").exists():
         sys.exit(f"fn {crate}::module::planted: no proof")
     for at in range(FUNCTIONS):
         print(f"fn {crate}::module::function_{at}: proved")
@@ -109,7 +114,7 @@ def rt():
     if crate == "keyreg":
         write_program(PROGRAM)
         subprocess.run(["out/keyreg"], check=True)
-    tell(told, "ended", crate)
+    note(orders, "ended", crate)
     for folder in held:
         os.close(folder)
 
@@ -119,17 +124,17 @@ def crates_below(top=TOP, crate="keyreg"):
     lines = (top / "crates.txt").read_text(encoding="utf-8").splitlines()
     texts = [line.split("#")[0].strip() for line in lines]
     rows = dict(text.split(":") for text in texts if text)
-    found, ahead = {}, [crate]
+    uses, ahead = {}, [crate]
     while ahead:
         name = ahead.pop()
-        found[name] = [below for below in rows[name].split() if below in rows]
-        ahead += [below for below in found[name] if below not in found]
-    return found
+        uses[name] = [below for below in rows[name].split() if below in rows]
+        ahead += [below for below in uses[name] if below not in uses]
+    return uses
 
 
 CRATES = crates_below()
 TOTAL = len(CRATES)
-# The program logic that is told to the script, and that the copy has.
+# The program logic that the copy has.
 LOGIC = re.search(r"logic ([0-9a-f]{16})", (TOP / "crates/register_words/src/words.rt").read_text("utf-8"))[1]
 CORES = len(os.sched_getaffinity(0))
 
@@ -160,8 +165,8 @@ class Copy:
 
     def __init__(self, folder, presses):
         self.presses = presses
-        self.top, self.told, self.rest = folder / "top", folder / "told", folder / "rest"
-        for made in (self.top, self.told, self.rest, folder / "bin"):
+        self.top, self.orders, self.rest = folder / "top", folder / "orders", folder / "rest"
+        for made in (self.top, self.orders, self.rest, folder / "bin"):
             made.mkdir()
         (folder / "bin" / "rt").symlink_to(pathlib.Path(__file__).resolve())
         for name in ("keyreg", "crates.txt", "HANDLES", "README.md"):
@@ -171,28 +176,24 @@ class Copy:
             leaving = shutil.ignore_patterns("out", "__pycache__", "proofs")
             shutil.copytree(TOP / name, self.top / name, ignore=leaving)
         self.words = [self.top / "keyreg", *WORDS]
-        path = f"{folder / 'bin'}:{os.environ['PATH']}"
-        more = {"PATH": path, "TOLD": self.told, "TMPDIR": self.rest, "LOGIC": LOGIC}
-        self.environ = {**os.environ, **more}
+        self.environ = {**os.environ, "PATH": f"{folder / 'bin'}:{os.environ['PATH']}", "ORDERS": self.orders,
+                        "TMPDIR": self.rest, "LOGIC": LOGIC}
 
-    def start(self, *words):
+    def start(self, *words, before=()):
         """A call without a terminal, at the head of a group of processes."""
-        ends = {"stdin": subprocess.PIPE, "stdout": subprocess.PIPE, "stderr": subprocess.PIPE}
         words = [self.top / "keyreg", *words] if words else self.words
-        return subprocess.Popen(
-            words, env=self.environ, text=True, start_new_session=True, **ends)
+        return subprocess.Popen([*before, *words], env=self.environ, text=True, start_new_session=True,
+                                stdin=subprocess.PIPE, stdout=subprocess.PIPE, stderr=subprocess.PIPE)
 
     def call(self, *before):
         """The status of such a call, what it wrote, and what it said."""
-        words, self.words = self.words, [*before, *self.words]
-        begun = self.start()
-        self.words = words
+        begun = self.start(before=before)
         wrote, said = begun.communicate(GIVEN, timeout=120)
         return begun.returncode, wrote, said
 
     def on_terminal(self, columns, at=None):
         """The same of a call on a terminal; Ctrl-C is pressed once `at` holds and a line tells how far it is."""
-        given, written = self.told / "given", self.told / "written"
+        given, written = self.orders / "given", self.orders / "written"
         given.write_text(GIVEN, encoding="utf-8")
         process, terminal = pty.fork()
         if process == 0:
@@ -215,42 +216,28 @@ class Copy:
         os.close(terminal)
         return status, written.read_text(encoding="utf-8"), said.decode()
 
-    def journal(self, kind):
-        """The lines of one kind that the calls of `rt` told, as words."""
-        with contextlib.suppress(FileNotFoundError):
-            lines = (self.told / "journal").read_text(encoding="utf-8").splitlines()
-            return [line.split()[1:] for line in lines if line.startswith(kind)]
-        return []
+    def crates(self, kind):
+        """The crates that were begun, or ended."""
+        return [crate for of_entry, crate, _ in entries_of(self.orders) if of_entry == kind]
 
-    def tells(self, *parts):
-        """Tells the calls of `rt` what to do from here on, and forgets what they told."""
-        for old in self.told.iterdir():
+    def order(self, *orders, renewed="crates/moment_core/src/lib.rt"):
+        """Has the calls of `rt` do this from here on, with a journal anew, and gives a source the time of now."""
+        for old in self.orders.iterdir():
             old.unlink()
-        for part in parts:
-            name, _, text = part.partition("=")
-            (self.told / name).write_text(text, encoding="utf-8")
-
-    def events(self):
-        """What the calls of `rt` told, in order: the kind, the crate and the rest."""
-        with contextlib.suppress(FileNotFoundError):
-            lines = (self.told / "journal").read_text(encoding="utf-8").splitlines()
-            return [(line.split()[0], line.split()[1], line.split()[2:]) for line in lines]
-        return []
-
-    def begin(self, crate):
-        """Whether the crate is in hand."""
-        return any(words[0] == crate for words in self.journal("begun"))
+        for name, _, text in (order.partition("=") for order in orders):
+            (self.orders / name).write_text(text, encoding="utf-8")
+        self.renew(renewed)
 
     def renew(self, path="crates/moment_core/src/lib.rt"):
-        """Gives a file the time of now."""
-        os.utime(self.top / path)
+        if path:
+            os.utime(self.top / path)
 
     def built(self, called, what):
         """Faults of a call that was to build all crates once, and to run the program."""
         if called[:2] != (0, WANTED):
             yield f"{what}: {called[:2]}"
-        if sorted(words[0] for words in self.journal("begun")) != sorted(CRATES):
-            yield f"{what}: begun {self.journal('begun')}"
+        if sorted(self.crates("begun")) != sorted(CRATES):
+            yield f"{what}: begun {self.crates('begun')}"
         if self.left():
             yield f"{what}: a folder is left"
 
@@ -260,13 +247,13 @@ class Copy:
 
     def goes_on(self):
         """The crates whose proofs go on."""
-        return [words[0] for words in self.journal("begun") if lives(words[1])]
+        return [crate for kind, crate, rest in entries_of(self.orders) if kind == "begun" and lives(rest[0])]
 
 
 def in_order(copy, cores):
     """Faults of what was begun when, and with how many jobs, on so many cores."""
     proved, jobs = set(), {}
-    for kind, crate, rest in copy.events():
+    for kind, crate, rest in entries_of(copy.orders):
         if kind == "ended":
             proved.add(crate)
             jobs.pop(crate, None)
@@ -283,8 +270,7 @@ def in_order(copy, cores):
 
 def one_core(copy):
     """On one core one crate is in hand, with one job."""
-    copy.tells()
-    copy.renew()
+    copy.order()
     called = copy.call("taskset", "-c", str(min(os.sched_getaffinity(0))))
     yield from copy.built(called, "on one core")
     yield from in_order(copy, 1)
@@ -292,27 +278,26 @@ def one_core(copy):
 
 def without_the_kit(copy):
     """Where `rt` is not there, or has another program logic, one line says so, and nothing is begun."""
-    environ, folder = copy.environ, copy.told.parent / "no-rt"
+    environ, folder = copy.environ, copy.orders.parent / "no-rt"
     folder.mkdir()
     for name in ("bash", "sed", "tac", "dirname", "readlink", "find", "head", "cut", "flock", "touch", "mkdir", "cat"):
         (folder / name).symlink_to(shutil.which(name))
     cases = {"there is no rt": {"PATH": str(folder)}, f"another program logic than {LOGIC}": {"LOGIC": "0" * 16}}
     for said, changed in cases.items():
-        copy.tells()
-        copy.renew()
+        copy.order()
         copy.environ = {**environ, **changed}
         called = copy.call()
         copy.environ = environ
         is_one = called[2].count("\n") == 1 and said in called[2] and "README.md" in called[2]
-        if called[:2] != (69, "") or not is_one or copy.journal("begun"):
+        if called[:2] != (69, "") or not is_one or copy.crates("begun"):
             yield f"{said}: {called}"
-    copy.tells()
+    copy.order(renewed=None)
     yield from copy.built(copy.call(), "with the kit again")
 
 
 def silent(copy):
     """Without a terminal: a line for each crate as it ends, after the announcement."""
-    copy.tells("wait-moment_core=1.5")
+    copy.order("wait-moment_core=1.5", renewed=None)
     called = copy.call()
     yield from copy.built(called, "without a terminal")
     ended = ENDED.findall(called[2])
@@ -327,8 +312,7 @@ def silent(copy):
 
 def terminal(copy):
     """On a terminal: one line that is written over, with what is in hand, functions and a clock."""
-    copy.tells("alone-sql_steps=2.5")
-    copy.renew()
+    copy.order("alone-sql_steps=2.5")
     # Four long names and the clock are more than 80.
     columns = 140
     called = copy.on_terminal(columns)
@@ -371,14 +355,13 @@ def used_at_once(copy):
     edit = next((copy.top / "crates/register_store/must-fail").iterdir())
     tested = copy.top / "crates/test_program/src/lib.rt"
     for path in ("README.md", "docs/GATE.md", "checks/sources/first_build.py", "keyreg", edit, tested):
-        copy.tells()
-        copy.renew(path)
+        copy.order(renewed=path)
         seconds = []
         for _ in range(5):
             start = time.monotonic()
             called = copy.call()
             seconds.append(time.monotonic() - start)
-            if called != (0, WANTED, "") or copy.journal("begun"):
+            if called != (0, WANTED, "") or copy.crates("begun"):
                 yield f"{path} changed: {called}"
         if min(seconds) >= TIMES * looked(copy.top):
             yield f"{path} changed: {min(seconds):.2f} s until a program that stands has ended"
@@ -390,23 +373,20 @@ def built_again(copy):
     """Where one changed it is built, also where that was during the build before."""
     law = next((copy.top / "crates/register_store").glob("specs/**/*.antt"))
     for path in ("crates/streams/src/lib.rt", law, "crates/keyreg/src/main.rt", "crates.txt"):
-        copy.tells()
-        copy.renew(path)
+        copy.order(renewed=path)
         yield from copy.built(copy.call(), f"{path} changed")
-    copy.tells("wait-keyreg=1")
-    copy.renew()
+    copy.order("wait-keyreg=1")
     begun = copy.start()
-    until(lambda: copy.begin("keyreg"))
+    until(lambda: "keyreg" in copy.crates("begun"))
     copy.renew()
     begun.communicate(GIVEN, timeout=120)
-    copy.tells()
+    copy.order(renewed=None)
     yield from copy.built(copy.call(), "a source that changed during a build")
 
 
 def failed(copy):
     """A failed proof: its log, status 70, and nothing that goes on or was begun after it."""
-    copy.tells("fail-register_store", "wait-key_rows=20")
-    copy.renew()
+    copy.order("fail-register_store", "wait-key_rows=20")
     start = time.monotonic()
     status, wrote, said = copy.call()
     if (status, wrote) != (70, ""):
@@ -416,19 +396,18 @@ def failed(copy):
         yield f"a failed proof: {said}"
     if time.monotonic() - start > 15 or copy.goes_on():
         yield f"a failed proof: after it went on {copy.goes_on() or 'a proof beside it'}"
-    if copy.begin("register_desk") or copy.left():
+    if "register_desk" in copy.crates("begun") or copy.left():
         yield "a failed proof: more was begun, or a folder is left"
-    copy.tells()
+    copy.order(renewed=None)
     yield from copy.built(copy.call(), "after a failed proof")
 
 
 def stopped(copy, crate, number, whole):
     """Faults of a call that gets a signal, alone or with all its group, at a crate."""
     what = f"{signal.Signals(number).name} at {crate}{', to all' if whole else ''}"
-    copy.tells(f"wait-{crate}=20")
-    copy.renew()
+    copy.order(f"wait-{crate}=20")
     begun = copy.start()
-    until(lambda: copy.begin(crate))
+    until(lambda: crate in copy.crates("begun"))
     start = time.monotonic()
     (os.killpg if whole else os.kill)(begun.pid, number)
     wrote, _ = begun.communicate(timeout=60)
@@ -441,17 +420,16 @@ def stopped(copy, crate, number, whole):
             shutil.rmtree(left)
     elif copy.left():
         yield f"{what}: a folder is left"
-    copy.tells()
+    copy.order(renewed=None)
     yield from copy.built(copy.call(), f"after {what}")
 
 
 def interrupted(copy):
     """An interrupt ends all that was begun, and the next call builds."""
     for crate in ("streams", "keyreg"):
-        copy.tells(f"wait-{crate}=20")
-        copy.renew()
+        copy.order(f"wait-{crate}=20")
         start = time.monotonic()
-        status, wrote, said = copy.on_terminal(30, lambda crate=crate: copy.begin(crate))
+        status, wrote, said = copy.on_terminal(30, lambda crate=crate: crate in copy.crates("begun"))
         if (status, wrote) != (130, "") or copy.left():
             yield f"Ctrl-C at {crate}: status {status}, {wrote}, or a folder is left"
         if copy.goes_on() or time.monotonic() - start > 15:
@@ -459,7 +437,7 @@ def interrupted(copy):
         lines = re.findall(r"keyreg: \d[^\r\n]*", said)
         if not lines or any(len(piece) != 29 for piece in lines):
             yield f"a narrow terminal: {lines}"
-        copy.tells()
+        copy.order(renewed=None)
         yield from copy.built(copy.call(), f"after Ctrl-C at {crate}")
     yield from stopped(copy, "streams", signal.SIGINT, True)
     yield from stopped(copy, "streams", signal.SIGTERM, False)
@@ -471,13 +449,12 @@ def pressed(copy):
     """Wherever an interrupt comes, the status is that of one, nothing goes on and nothing is left."""
     drawn = random.Random(5)
     for number in range(copy.presses):
-        copy.tells("wait-streams=20")
-        copy.renew()
+        copy.order("wait-streams=20")
         # Half of them within a twentieth of a second of a line, where processes begin and end.
         delay, begun = drawn.random() * (0.05, 1)[number % 2], []
 
         def is_due(delay=delay, begun=begun):
-            begun += [time.monotonic()] if copy.begin("streams") and not begun else []
+            begun += [time.monotonic()] if "streams" in copy.crates("begun") and not begun else []
             return begun and time.monotonic() - begun[0] >= delay
 
         status, wrote, _ = copy.on_terminal(80, is_due)
@@ -487,8 +464,7 @@ def pressed(copy):
 
 def together(copy):
     """Two calls at once build once; and a program that goes on keeps no build from beginning."""
-    copy.tells("wait-streams=1")
-    copy.renew()
+    copy.order("wait-streams=1")
     ends = [begun.communicate(GIVEN, timeout=120) for begun in (copy.start(), copy.start())]
     for wrote, _ in ends:
         yield from copy.built((0, wrote), "two calls at once")
@@ -498,10 +474,9 @@ def together(copy):
     copy.renew()
     lasting = copy.start("linger")
     lasting.stdout.readline()
-    copy.tells()
-    copy.renew()
+    copy.order()
     begun = copy.start()
-    if not until(lambda: len(copy.journal("ended")) == TOTAL):
+    if not until(lambda: len(copy.crates("ended")) == TOTAL):
         yield "a program that goes on keeps the next call from building"
         lasting.kill()
     yield from copy.built((0, begun.communicate(GIVEN, timeout=120)[0]), "beside a program")
@@ -509,26 +484,22 @@ def together(copy):
     lasting.communicate()
 
 
+TESTS = (silent, one_core, without_the_kit, terminal, used_at_once, built_again, failed, interrupted, pressed, together)
+
+
 def main():
     # A shell that was begun where an interrupt is ignored, as after nohup and &, cannot heed it.
     signal.signal(signal.SIGINT, signal.default_int_handler)
-    found = []
-    with tempfile.TemporaryDirectory() as folder:
-        copy = Copy(pathlib.Path(folder), int(sys.argv[1]) if len(sys.argv) > 1 else 3)
-        tests = (silent, one_core, without_the_kit, terminal, used_at_once, built_again, failed, interrupted,
-                 pressed, together)
-        for test in tests:
+    presses, faults = options(__doc__, presses=3).presses, []
+    with fresh_folder() as folder:
+        copy = Copy(folder, presses)
+        for test in TESTS:
             try:
-                found += test(copy)
+                faults += test(copy)
             except subprocess.TimeoutExpired as late:
-                found.append(f"{test.__name__}: {late}")
-    print(*found, sep="\n", end="\n" if found else "")
-    print(f"./keyreg: {len(found)} faults")
-    sys.exit(1 if found else 0)
+                faults.append(f"{test.__name__}: {late}")
+    verdict(f"./keyreg: {len(faults)} faults", faults)
 
 
 if __name__ == "__main__":
-    if os.path.basename(sys.argv[0]) == "rt":
-        rt()
-    else:
-        main()
+    rt() if os.path.basename(sys.argv[0]) == "rt" else main()

@@ -18,7 +18,8 @@ import sys
 from typing import Iterator, NamedTuple
 
 sys.path.insert(1, str(pathlib.Path(__file__).resolve().parents[1] / "shared"))
-from places import TOP
+from places import TOP, read
+from script import options, verdict
 
 CRATES = {path.name: path for path in (TOP / "crates").iterdir()}
 QUOTED = re.compile(r"`([^`]+)`")
@@ -46,14 +47,14 @@ ALWAYS = {
     "the recipes": "docs/RECIPES.md checks/sources/recipes.py",
     "the page that checks/sources/theorem.py makes": "docs/DEFINITIONS.md",
     "proofs, of which a red one leads there": "crates/*/proofs/*",
-    "wrong bodies, of which rt and checks/sources/wrong_bodies.py tell those whose lines changed": "crates/*/*must-fail/*",
+    "wrong bodies, of which rt and wrong_bodies.py name those whose lines changed": "crates/*/*must-fail/*",
 }
 KINDS = (
     Kind("Add a command", r"\b[Ww]ithdraw\b", {
         "its refusal NoApproval": "*/CustodyRefusal.antt crates/register_core/src/decision.rt",
         "a day or a year of an office": "docs/AUDIT.md samples/year.txt checks/sqlite/version_1.sql",
-        "what they look at beside the day": "checks/program/power_cuts.py checks/program/want_of_memory.py checks/program/large_office.py "
-                                            "checks/program/exchanges_by_curl.py",
+        "what they look at beside the day": "checks/program/power_cuts.py checks/program/want_of_memory.py "
+                                            "checks/program/large_office.py checks/program/exchanges_by_curl.py",
     }),
     Kind("Add a command", r"\b(Activate|Assign|AddCustodian|Approve)\b", {
         "they stand for their shapes": "*/Within/Fields.antt",
@@ -83,8 +84,8 @@ KINDS = (
         "what a period means for keys": "*/register_core/src/laws.rt */exports.rt */test_desk_trials/src/desks.rt "
                                         "bench/tables.py checks/program/rules_tried.py",
         "who the office is": "checks/office/behind_nginx.py checks/office/client_tried.py",
-        "what they look at beside the day": "checks/program/want_of_memory.py checks/program/large_office.py checks/program/mutated.py "
-                                            "checks/program/exchanges_by_curl.py",
+        "what they look at beside the day": "checks/program/want_of_memory.py checks/program/large_office.py "
+                                            "checks/program/mutated.py checks/program/exchanges_by_curl.py",
         "it stands for its shape": "*/Within/Fields.antt",
         "what comes of one that is left out": "docs/OPERATING.md",
         "what version 1 has not": "checks/office/rebuild_tried.py",
@@ -92,10 +93,10 @@ KINDS = (
     }, ("Add a command", "Add a shape of fields", "Add a table")),
     Kind("Add a command of the program", r"Task::Report|\breport_file\b|keyreg report|\[\"report\"|\"report\":|"
                                          r"\n +report\)|from report'", {
-        "they ask for a report": "checks/office/audit_views.py checks/sqlite/copied_while_served.py checks/office/advance_tried.py "
-                                 "checks/package/in_systemd.sh checks/program/full_register.py checks/office/replay_tried.py docs/CHECKS.md "
-                                 "office/units/keyreg.service "
-                                 "bench/tables.py",
+        "they ask for a report": "checks/office/audit_views.py checks/sqlite/copied_while_served.py "
+                                 "checks/office/advance_tried.py checks/package/in_systemd.sh "
+                                 "checks/program/full_register.py checks/office/replay_tried.py docs/CHECKS.md "
+                                 "office/units/keyreg.service bench/tables.py",
     }),
     Kind("Add a crate", r"\bregister_report\b", {
         "its own": "crates/register_report/*",
@@ -206,15 +207,13 @@ def other_way(all_recipes: Recipes) -> tuple[list[str], int]:
     return faults, count
 
 
-def main() -> int:
-    all_recipes = dict(recipes((TOP / "docs" / "RECIPES.md").read_text()))
+def main() -> None:
+    options(__doc__)
+    all_recipes = dict(recipes(read("docs/RECIPES.md")))
     gone, paths, items = one_way(all_recipes)
     faults, count = other_way(all_recipes)
-    print(*gone, *faults, sep="\n", end="\n" if gone or faults else "")
-    print(f"{paths} files and {items} items named, {len(gone)} gone; {count} mentions of {len(KINDS)} things, "
-          f"{len(faults)} faults")
-    return 1 if gone or faults else 0
+    verdict(f"{paths} files and {items} items named, {len(gone)} gone; {count} mentions of {len(KINDS)} things, "
+            f"{len(faults)} faults", gone + faults)
 
 
-if __name__ == "__main__":
-    sys.exit(main())
+main()

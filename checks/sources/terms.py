@@ -13,17 +13,17 @@ OPEN, CLOSE = "([{", ")]}"
 NOTATION = set("λ let in then else do elim record Type Unit × → ← ⊥ ¬ ∥ ₁ ∥₁ : ; , . = | ↦ _".split())
 
 
-def tokens_of(text):
+def tokens_of(text: str) -> list[str]:
     """The tokens of a text without its comments."""
-    found = (match.group() for match in TOKEN.finditer(text))
-    return [token for token in found if token.strip() and not token.startswith("--")]
+    tokens = (match.group() for match in TOKEN.finditer(text))
+    return [token for token in tokens if token.strip() and not token.startswith("--")]
 
 
-def is_word(token):
+def is_word(token: str) -> bool:
     return token[0].isalpha() and token not in NOTATION or token[0] == "_" and token != "_"
 
 
-def closing(tokens, at):
+def closing(tokens: list[str], at: int) -> int:
     """The place of the bracket that closes the one at this place."""
     depth = 0
     for place in range(at, len(tokens)):
@@ -33,7 +33,7 @@ def closing(tokens, at):
     return len(tokens) - 1
 
 
-def split_at(tokens, mark):
+def split_at(tokens: list[str], mark: str) -> list[list[str]]:
     """The parts of a list of tokens, at each mark that stands in no bracket."""
     parts, depth, begun = [], 0, 0
     for at, token in enumerate(tokens):
@@ -44,7 +44,7 @@ def split_at(tokens, mark):
     return parts + [tokens[begun:]]
 
 
-def bound_in(inside):
+def bound_in(inside: list[str]) -> tuple[list[str], list[str]]:
     """The names that a bracket binds by a colon, and what stands after it; none where it binds nothing."""
     if ":" not in inside:
         return [], []
@@ -169,22 +169,22 @@ class Terms:
         self.walk(tokens[len(sides[0]) + 1:], own)
 
 
-def sections(lines, indent):
+def sections(lines: list[str], indent: int) -> list[str]:
     """The lines in groups, each of which begins at this indent, and not with a bracket that closes."""
-    found = []
+    groups: list[list[str]] = []
     for line in lines:
         is_begin = len(line) - len(line.lstrip()) == indent and line.strip()[0] not in CLOSE
-        if is_begin or not found:
-            found.append([])
-        found[-1].append(line)
-    return ["\n".join(group) for group in found]
+        if is_begin or not groups:
+            groups.append([])
+        groups[-1].append(line)
+    return ["\n".join(group) for group in groups]
 
 
-def without_comments(lines):
+def without_comments(lines: list[str]) -> list[str]:
     return [line for line in lines if line.strip() and not line.strip().startswith("--")]
 
 
-def definition_names(walk, name, lines, parameters):
+def definition_names(walk: Terms, name: str, lines: list[str], parameters: str) -> None:
     """Adds what a definition names: its block's parameters, its type, its equations or fields."""
     scope, lines = set(), without_comments(lines)
     binders(walk, tokens_of(parameters), scope)
@@ -199,7 +199,7 @@ def definition_names(walk, name, lines, parameters):
         walk.equation(text, name, scope)
 
 
-def binders(walk, tokens, scope):
+def binders(walk: Terms, tokens: list[str], scope: set[str]) -> int:
     """Adds what brackets with parameters name, which the scope grows by. Gives the place after them."""
     at = 0
     while at < len(tokens) and tokens[at] in OPEN:
@@ -207,7 +207,7 @@ def binders(walk, tokens, scope):
     return at
 
 
-def record_names(walk, name, lines, scope, has_fields):
+def record_names(walk: Terms, name: str, lines: list[str], scope: set[str], has_fields: bool) -> None:
     """Adds what the head and each field, or each constructor, of a type names."""
     end = next(place for place, line in enumerate(lines) if line.split()[-1] == "where") + 1
     head = tokens_of(" ".join(lines[:end]).removesuffix("where"))

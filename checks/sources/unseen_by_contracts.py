@@ -20,9 +20,12 @@ import collections
 import pathlib
 import re
 import sys
+from typing import Iterator
 
 sys.path.insert(1, str(pathlib.Path(__file__).resolve().parents[1] / "shared"))
 from places import TOP
+from contracts import code_of
+from script import options, verdict
 
 CRATES = TOP / "crates"
 STREAMS = CRATES / "streams" / "src"
@@ -113,95 +116,85 @@ CALL = re.compile(r"(?:\.|::|(?<!fn )\b)"
                   r"(execute|query|query_row|query_all|transaction|run|run_in_transaction|commit|rollback)\(")
 
 
-def code(path: pathlib.Path) -> list[str]:
-    """The lines of a file, without what stands behind //."""
-    return [line.split("//")[0].rstrip() for line in path.read_text(encoding="utf-8").split("\n")]
-
-
 def bodies(path: pathlib.Path) -> dict[str, list[str]]:
     """The lines of the body of each function, as `rt fmt` sets them."""
-    found: dict[str, list[str]] = {}
+    lines: dict[str, list[str]] = {}
     name, indent, begun = "", "", False
-    for line in code(path):
+    for line in code_of(path):
         head = re.match(r"( *)(?:pub(?:\(\w+\))? )?fn (\w+)", line)
         if head:
             indent, name, begun = head[1], head[2], line.endswith("{")
             if begun:
-                found[name] = []
+                lines[name] = []
         elif name and not begun and re.fullmatch(re.escape(indent) + r"(\).*)?\{", line):
-            found[name], begun = [], True
+            lines[name], begun = [], True
         elif name and line == indent + "}":
             name, begun = "", False
         elif begun:
-            found[name].append(line)
-    return found
+            lines[name].append(line)
+    return lines
 
 
-def mark_faults() -> list[str]:
+def mark_faults() -> Iterator[str]:
     """Where a mark of a stream is named that should not be."""
-    faults = []
+    names = set()
     for path in sorted(STREAMS.rglob("*.rt")):
-        found = bodies(path)
-        for name, body in found.items():
-            named = [line.strip() for line in body if MARKS.search(line)]
-            if named != (MARKED.get(name, []) if path in (TURNS, WATCHED) else []):
-                faults.append(f"{path.name}: {name} names marks in {named}")
-        if path == TURNS:
-            lengths = {name: len(body) for name, body in found.items()}
-            faults += [f"turns.rt: {name} has {lines} lines" for name, lines in lengths.items() if lines > MOST_LINES]
-    have = bodies(TURNS).keys() | bodies(WATCHED).keys()
-    return faults + [f"no function {name} of a stream" for name in MARKED if name not in have]
+        for name, body in bodies(path).items():
+            marked = [line.strip() for line in body if MARKS.search(line)]
+            names |= {name} if path in (TURNS, WATCHED) else set()
+            if marked != (MARKED.get(name, []) if path in (TURNS, WATCHED) else []):
+                yield f"{path.name}: {name} names marks in {marked}"
+            if path == TURNS and len(body) > MOST_LINES:
+                yield f"turns.rt: {name} has {len(body)} lines"
+    yield from (f"no function {name} of a stream" for name in MARKED if name not in names)
 
 
-def attended_faults() -> list[str]:
+def attended_faults() -> Iterator[str]:
     """Where what came of the network or the clock is marked otherwise."""
-    found = {name: [line.strip() for line in body if re.search(r"\b(?:failed|accepted)\b", line)]
-             for name, body in bodies(ATTENDANCE).items()}
-    return [f"attendance.rt: {name} names marks in {found.get(name)}"
-            for name in sorted(found.keys() | ATTENDED.keys()) if found.get(name) != ATTENDED.get(name)]
+    marked = {name: [line.strip() for line in body if re.search(r"\b(?:failed|accepted)\b", line)]
+              for name, body in bodies(ATTENDANCE).items()}
+    yield from (f"attendance.rt: {name} names marks in {marked.get(name)}"
+                for name in sorted(marked.keys() | ATTENDED.keys()) if marked.get(name) != ATTENDED.get(name))
 
 
-def told_faults(what: str, told: re.Pattern, table: dict[str, int]) -> list[str]:
-    """Where this is told in more places than it should be, or in fewer."""
-    found = {name: sum(len(told.findall(line)) for line in lines) for name, lines in bodies_of_crates()}
-    return [f"{name} tells {what} in {found.get(name, 0)} places, and not in {table.get(name, 0)}"
-            for name in sorted(found.keys() | table.keys()) if found.get(name, 0) != table.get(name, 0)]
-
-
-def bodies_of_crates() -> list[tuple[str, list[str]]]:
+def lines_of_crates() -> dict[str, list[str]]:
     """The files of crates that are no tests, with their lines but for imports and clauses."""
-    found = [(str(path.relative_to(CRATES)), code(path)) for path in sorted(CRATES.glob("*/src/**/*.rt"))]
-    return [(name, [line for line in lines if "use " not in line and "ensures" not in line])
-            for name, lines in found if not name.startswith("test_")]
+    files = {str(path.relative_to(CRATES)): path for path in sorted(CRATES.glob("*/src/**/*.rt"))}
+    return {name: [line for line in code_of(path) if "use " not in line and "ensures" not in line]
+            for name, path in files.items() if not name.startswith("test_")}
 
 
-def room_faults() -> list[str]:
+def count_faults(what: str, word: re.Pattern, table: dict[str, int]) -> Iterator[str]:
+    """Where this is made in more places than it should be, or in fewer."""
+    counts = {name: sum(len(word.findall(line)) for line in lines) for name, lines in lines_of_crates().items()}
+    yield from (f"{name} makes {what} in {counts.get(name, 0)} places, and not in {table.get(name, 0)}"
+                for name in sorted(counts.keys() | table.keys()) if counts.get(name, 0) != table.get(name, 0))
+
+
+def room_faults() -> Iterator[str]:
     """Where room is asked for beforehand."""
-    return [f"{name} asks for room: {line.strip()}"
-            for name, lines in bodies_of_crates() for line in lines if ROOM.search(line)]
+    yield from (f"{name} asks for room: {line.strip()}"
+                for name, lines in lines_of_crates().items() for line in lines if ROOM.search(line))
 
 
-def call_faults() -> list[str]:
+def call_faults() -> Iterator[str]:
     """Which functions of a counted connection call it otherwise, or in a loop."""
-    found = bodies(COUNTED)
-    faults = [f"counted.rt: no {name}" for name in CALLS if name not in found]
-    for name, body in found.items():
+    counted = bodies(COUNTED)
+    yield from (f"counted.rt: no {name}" for name in CALLS if name not in counted)
+    for name, body in counted.items():
         calls = dict(collections.Counter(CALL.findall("\n".join(body))))
         if calls != CALLS.get(name, {}):
-            faults.append(f"counted.rt: {name} calls {calls}, and not {CALLS.get(name, {})}")
+            yield f"counted.rt: {name} calls {calls}, and not {CALLS.get(name, {})}"
         if re.search(r"\b(for|while|loop)\b", "\n".join(body)):
-            faults.append(f"counted.rt: {name} has a loop")
-    return faults
+            yield f"counted.rt: {name} has a loop"
 
 
-def main() -> int:
-    faults = mark_faults() + attended_faults() + room_faults() + call_faults()
-    faults += told_faults("want of memory", MEMORY, TOLD) + told_faults("a refused call", REFUSAL, REFUSED)
-    print(*faults, sep="\n", end="\n" if faults else "")
-    print(f"marks of streams, {sum(TOLD.values())} places that tell want of memory, "
-          f"{sum(REFUSED.values())} a refused call, {len(CALLS)} functions that call a connection: {len(faults)} faults")
-    return 1 if faults else 0
+def main() -> None:
+    options(__doc__)
+    faults = [*mark_faults(), *attended_faults(), *room_faults(), *call_faults(),
+              *count_faults("want of memory", MEMORY, TOLD), *count_faults("a refused call", REFUSAL, REFUSED)]
+    verdict(f"marks of streams, {sum(TOLD.values())} places that make want of memory, {sum(REFUSED.values())} a "
+            f"refused call, {len(CALLS)} functions that call a connection: {len(faults)} faults", faults)
 
 
-if __name__ == "__main__":
-    sys.exit(main())
+main()

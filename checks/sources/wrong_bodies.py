@@ -6,40 +6,39 @@
 
 Puts the edits of crates/*/more-must-fail, or of the crates that are named, into a copy of the repository, in the place
 of those that the gate tries, and lets `rt must-fail` try them there: a check of each crate, and some 10 to 60 seconds
-for each edit, but for what this machine has tried before. Whoever changes a contract tries those of its crate.
+for each edit, but for what this machine has tried before. Whoever changes a contract tries those of its crate. What
+`rt` prints is passed on, but that an edit is refused.
 
-What `rt` says is passed on, but of those that are refused it says that they are. The last line counts them; the status
-is 1 where one is not refused, or cannot be tried. It wants `rt`.
-
---texts  tries none: it tells the edits whose old text is gone or stands twice, as `rt fmt` does of those in must-fail,
+--texts  tries none: it names the edits whose old text is gone or stands twice, as `rt fmt` does of those in must-fail,
          and those of a name that stands there too
 """
-import argparse
 import collections
 import pathlib
 import re
 import shutil
 import subprocess
 import sys
-import tempfile
 from typing import Iterator
 
 sys.path.insert(1, str(pathlib.Path(__file__).resolve().parents[1] / "shared"))
 from places import TOP
+from script import fresh_folder, options, verdict
 
 FOLDER = "more-must-fail"
 # What a build, a package and Python make, and what git keeps.
 LEFT_OUT = ("out", "packages", "__pycache__", ".git")
-TRIED = re.compile(r"(?:rt: )?must-fail [\w-]+/[\w.-]+\.edit: (refused, as it must be|NOT REFUSED|BAD EDIT|NOT TRIED)\b")
+TRIED = re.compile(r"(?:rt: )?must-fail [\w-]+/[\w.-]+\.edit: "
+                   r"(refused, as it must be|NOT REFUSED|BAD EDIT|NOT TRIED)\b")
 REFUSED = "refused, as it must be"
+Edits = dict[str, list[pathlib.Path]]
 
 
-def edits_by_crate() -> dict[str, list[pathlib.Path]]:
+def edits_by_crate() -> Edits:
     """The edits that the gate leaves out, of each crate that has some."""
-    found = collections.defaultdict(list)
+    edits = collections.defaultdict(list)
     for edit in sorted(TOP.glob(f"crates/*/{FOLDER}/*.edit")):
-        found[edit.parent.parent.name].append(edit)
-    return found
+        edits[edit.parent.parent.name].append(edit)
+    return edits
 
 
 # ---- their texts
@@ -77,11 +76,10 @@ def text_faults(crate: str, edit: pathlib.Path) -> Iterator[str]:
         yield f"{name}: it has no change"
 
 
-def look_at_texts(edits: dict[str, list[pathlib.Path]]) -> int:
+def look_at_texts(edits: Edits) -> None:
     faults = [fault for crate, own in edits.items() for edit in own for fault in text_faults(crate, edit)]
-    print(*faults, sep="\n", end="\n" if faults else "")
-    print(f"{sum(map(len, edits.values()))} wrong bodies of {len(edits)} crates looked at: {len(faults)} faults")
-    return 1 if faults else 0
+    number = sum(map(len, edits.values()))
+    verdict(f"{number} wrong bodies of {len(edits)} crates looked at: {len(faults)} faults", faults)
 
 
 # ---- what the prover says of them
@@ -102,36 +100,27 @@ def counted(copy: pathlib.Path, crates: list[str]) -> collections.Counter[str]:
     with subprocess.Popen(words, cwd=copy, stdout=subprocess.PIPE, stderr=subprocess.STDOUT, text=True,
                           errors="replace", stdin=subprocess.DEVNULL) as child:
         for line in child.stdout:
-            came = TRIED.match(line)
-            if came:
-                counts[came[1]] += 1
-            if not came or came[1] != REFUSED:
+            end = TRIED.match(line)
+            if end:
+                counts[end[1]] += 1
+            if not end or end[1] != REFUSED:
                 print(line, end="", flush=True)
     return counts
 
 
-def try_all(edits: dict[str, list[pathlib.Path]]) -> int:
-    crates = list(edits)
-    with tempfile.TemporaryDirectory(prefix="wrong-bodies-") as copy:
-        put_into(pathlib.Path(copy), crates)
-        counts = counted(pathlib.Path(copy), crates)
-    wanted = sum(map(len, edits.values()))
-    print(f"{wanted} wrong bodies of {len(crates)} crates tried: {counts[REFUSED]} refused, "
-          f"{wanted - counts[REFUSED]} not")
-    return 0 if counts[REFUSED] == wanted else 1
+def try_all(edits: Edits) -> None:
+    with fresh_folder() as copy:
+        put_into(copy, list(edits))
+        counts = counted(copy, list(edits))
+    number = sum(map(len, edits.values()))
+    verdict(f"{number} wrong bodies of {len(edits)} crates tried: {counts[REFUSED]} refused", number - counts[REFUSED])
 
 
-def main() -> int:
-    options = argparse.ArgumentParser(usage="\n".join(__doc__.splitlines()[2:4]).strip())
-    options.add_argument("crates", nargs="*", metavar="CRATE")
-    options.add_argument("--texts", action="store_true")
-    given = options.parse_args()
+def main() -> None:
     edits = edits_by_crate()
-    if unknown := [crate for crate in given.crates if crate not in edits]:
-        options.error(f"no crate of that name has a folder {FOLDER}: {', '.join(unknown)}")
-    chosen = {crate: own for crate, own in edits.items() if not given.crates or crate in given.crates}
-    return look_at_texts(chosen) if given.texts else try_all(chosen)
+    asked = options(__doc__, tuple(edits), texts=False)
+    edits = {crate: edits[crate] for crate in asked.parts}
+    look_at_texts(edits) if asked.texts else try_all(edits)
 
 
-if __name__ == "__main__":
-    sys.exit(main())
+main()

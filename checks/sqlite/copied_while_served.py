@@ -1,15 +1,14 @@
 #!/usr/bin/env python3
-"""Copies a register while it is served and written to, as docs/AUDIT.md says: the database, then
-its log, then `cmp`. Each copy in which `cmp` finds no difference is a sound database and a register
-with every request that was answered before it was begun, and with the first requests alone, and
-`keyreg export` and `keyreg report` have all its keys. Every other copy waits between the two until the program has copied its log into the database: `cmp` tells
-these.
+"""Copies a register while it is served and written to, as docs/AUDIT.md says: the database, then its log, then `cmp`.
 
     checks/sqlite/copied_while_served.py [--seconds N]
 
+Each copy in which `cmp` finds no difference is a sound database and a register with every request that was answered
+before it was begun, and with the first requests alone, and `keyreg export` and `keyreg report` have all its keys. Every
+other copy waits between the two until the program has copied its log into the database: `cmp` finds these.
+
 It needs SQLite's shell. Build the program first: ./keyreg </dev/null
 """
-import argparse
 import itertools
 import os
 import pathlib
@@ -19,10 +18,9 @@ import threading
 import time
 
 sys.path.insert(1, str(pathlib.Path(__file__).resolve().parents[1] / "shared"))
-from answers import compact, request_object
 from registers import keyreg
-from script import expect, show
-from serving import Served
+from script import expect, options, show, verdict
+from serving import Served, post_command
 
 # A key that is Active, and is so to the end of the check: a report of this many days lists it.
 COMMAND = ("register", "master", "bob", int(time.time()) - 86400, None, None, "spare")
@@ -41,23 +39,19 @@ class Load(threading.Thread):
         self.served, self.answered, self.ends = served, 0, False
 
     def run(self):
-        body = compact(request_object(COMMAND))
         for number in itertools.count(1):
-            head = ["POST /requests HTTP/1.1", "Host: localhost", "Caller: ann",
-                    f"Request-Number: {number}", f"Content-Length: {len(body)}", "", ""]
-            reply = self.served.raw("\r\n".join(head).encode() + body)
+            reply = self.served.raw(post_command("ann", number, COMMAND))
             if self.ends or not reply.startswith(b"HTTP/1.1 200 "):
                 return
             self.answered = number
 
 
 def copy(file, other, waits):
-    """Copies the two files, and tells whether the database is still what was copied."""
+    """Copies the two files, and gives whether the database is still what was copied."""
     changed = os.stat(file).st_mtime_ns
     late = time.monotonic() + PATIENCE * waits
     for end in ("", "-wal", "-shm"):
-        if os.path.exists(other + end):
-            os.remove(other + end)
+        pathlib.Path(other + end).unlink(missing_ok=True)
     subprocess.run(["cp", file, other], check=True)
     while time.monotonic() < late and os.stat(file).st_mtime_ns == changed:
         time.sleep(0.01)
@@ -70,16 +64,26 @@ def copy(file, other, waits):
 def requests_of(other):
     """How many requests a copy has, where it is sound and they are the first ones; else None."""
     words = ["sqlite3", "-readonly", other, QUESTION]
-    told = subprocess.run(words, capture_output=True, text=True, check=False).stdout.split()
-    numbers = {number for row in told[1:] for number in row.split("|")}
-    is_sound = told[:1] == ["ok"] and len(told) == 4 and len(numbers) == 1
+    rows = subprocess.run(words, capture_output=True, text=True, check=False).stdout.split()
+    numbers = {number for row in rows[1:] for number in row.split("|")}
+    is_sound = rows[:1] == ["ok"] and len(rows) == 4 and len(numbers) == 1
     return int(numbers.pop()) if is_sound else None
 
 
+def look_at_copy(other, before, after):
+    """Holds a copy to the requests that were answered before it was begun, and after it."""
+    count = requests_of(other)
+    expect(count is not None and before <= count <= after + 1,
+           f"a copy of {count} requests, {before} answered before it, {after} after it")
+    rows = keyreg(["export", "--file", other])
+    expect(len(rows) == count + 1, f"an export of {len(rows)} rows of {count} requests")
+    rows = keyreg(["report", "--file", other, "--days", str(DAYS)])
+    is_whole = len(rows) == count + 2 and rows[-1] == f"total {count}"
+    expect(is_whole, f"a report of {len(rows)} lines, of {count} requests: {rows[-1]}")
+
+
 def main():
-    words = argparse.ArgumentParser()
-    words.add_argument("--seconds", type=float, default=60)
-    late = time.monotonic() + words.parse_args().seconds
+    late = time.monotonic() + options(__doc__, seconds=60.0).seconds
     whole = changed = 0
     with Served() as served:
         load, other = Load(served), served.file + ".copy"
@@ -91,26 +95,14 @@ def main():
             before, waits = load.answered, whole > changed
             is_same = copy(served.file, other, waits)
             expect(not (waits and is_same), "cmp finds no difference after the log was copied")
-            if not is_same:
-                changed += 1
-                continue
-            found = requests_of(other)
-            after = load.answered
-            expect(found is not None and before <= found <= after + 1,
-                   f"a copy of {found} requests, {before} answered before it, {after} after it")
-            rows = keyreg(["export", "--file", other])
-            expect(len(rows) == found + 1, f"an export of {len(rows)} rows of {found} requests")
-            rows = keyreg(["report", "--file", other, "--days", str(DAYS)])
-            is_whole = len(rows) == found + 2 and rows[-1] == f"total {found}"
-            expect(is_whole, f"a report of {len(rows)} lines, of {found} requests: {rows[-1]}")
-            whole += 1
-        show()
+            if is_same:
+                look_at_copy(other, before, load.answered)
+            whole, changed = whole + is_same, changed + (not is_same)
         expect(load.is_alive(), "a registration was not accepted")
         load.ends = True
         load.join()
     expect(whole and changed, f"{whole} copies without a difference, {changed} with one")
-    print(f"{load.answered} requests were served; {whole} copies without a difference are "
-          f"registers; {changed} had one")
+    verdict(f"{load.answered} requests served; {whole} copies without a difference are registers; {changed} had one")
 
 
 main()

@@ -7,35 +7,29 @@ A register is backed up as one file. It goes on, and at each of 40 lengths, ten 
 are N apart, its two files are taken as a killed service leaves them; the last life is killed indeed, and has left just
 these bytes. Then
 
-    the trap     the backup is copied over the database, beside the log that is there. What `keyreg run` says of it is
-                 told, and where it takes it, which requests are there: those of the backup, those that were restored
-                 away, or others
-    the way      both files are moved aside, and the backup is copied to where no log is: it is the register of the
-    backup
+    the trap     the backup is copied over the database, beside the log that is there. Where the program says nothing,
+                 the rows of all tables are those that office/register_rules.py gives for the requests that are there,
+                 or office/replay.py finds it. How often it comes to what is printed
+    the way      both files are moved aside, and the backup is copied to where no log is: its rows are there
 
-What a trap comes to is told, and not held to anything but this: where the program says nothing, the rows of all tables
-are those that office/register_rules.py gives for the requests that are there, or office/replay.py finds it. The
-right way has to lead to the backup's rows at each length. Build the program first: ./keyreg </dev/null
+Build the program first: ./keyreg </dev/null
 """
-import argparse
 import collections
 import contextlib
 import filecmp
-import os
 import pathlib
 import shutil
 import sqlite3
 import subprocess
 import sys
-import tempfile
 
 sys.path.insert(1, str(pathlib.Path(__file__).resolve().parents[1] / "shared"))
 from places import OFFICE, PROGRAM
 from drawn_registers import rows_of
-from registers import keyreg
+from registers import copy_files, database, keyreg, new_register, run_program
 from register_rules import Register, request_of
 from rules_shown import tables
-from script import expect, show
+from script import expect, fresh_folder, options, show, verdict
 
 BEFORE = 40
 
@@ -71,10 +65,7 @@ class Killed:
             self.program.stdin.flush()
             reply = self.program.stdout.readline()
             expect(reply.startswith(b"ok "), f"request {self.place}: {reply}")
-        other = os.path.join(self.folder, f"killed_{length}.keyreg")
-        for end in ("", "-wal"):
-            shutil.copy(self.file + end, other + end)
-        return other
+        return copy_files(self.file, f"{self.folder}/killed_{length}.keyreg")
 
     def kill(self, other):
         """Ends the life. What it leaves is what was taken last."""
@@ -87,13 +78,8 @@ class Killed:
 
 def as_taken(file):
     """The rows of a file and its log, as SQLite reads copies of them; none where it cannot."""
-    with tempfile.TemporaryDirectory() as folder:
-        other = os.path.join(folder, "copy")
-        for end in ("", "-wal"):
-            if os.path.exists(file + end):
-                shutil.copy(file + end, other + end)
-        with contextlib.suppress(sqlite3.Error):
-            return {name: sorted(rows) for name, rows in rows_of(other).items()}
+    with fresh_folder() as folder, contextlib.suppress(sqlite3.Error):
+        return {name: sorted(rows) for name, rows in rows_of(copy_files(file, folder / "copy")).items()}
     return {}
 
 
@@ -102,7 +88,7 @@ def trapped(backup, killed, length):
     file = f"{killed}.trap"
     shutil.copy(killed + "-wal", file + "-wal")
     shutil.copy(backup, file)
-    done = subprocess.run([PROGRAM, "run", "--file", file], input=b"", capture_output=True, check=False)
+    done = run_program(["run", "--file", file])
     if done.returncode:
         return f"refused, {done.stderr.decode().strip()}"
     rows = as_taken(file)
@@ -118,8 +104,8 @@ def trapped(backup, killed, length):
 
 def restored(backup, killed, wanted):
     """The right way, from the same files."""
-    aside = f"{killed}.aside"
-    os.mkdir(aside)
+    aside = pathlib.Path(f"{killed}.aside")
+    aside.mkdir()
     for end in ("", "-wal"):
         shutil.move(killed + end, aside)
     shutil.copy(backup, killed)
@@ -129,18 +115,14 @@ def restored(backup, killed, wanted):
 
 
 def main():
-    words = argparse.ArgumentParser()
-    words.add_argument("--step", type=int, default=20)
-    step = words.parse_args().step
+    step = options(__doc__, step=20).step
     lengths = [*range(1, 11), *range(10 + step, 11 + 30 * step, step)]
     ends = collections.defaultdict(list)
-    with tempfile.TemporaryDirectory() as folder:
-        file, backup = os.path.join(folder, "office.keyreg"), os.path.join(folder, "backup.keyreg")
-        keyreg(["init", "--file", file])
-        keyreg(["run", "--file", file], map(line_at, range(1, BEFORE + 1)))
-        source, target = sqlite3.connect(file), sqlite3.connect(backup)
-        source.backup(target)
-        source.close(), target.close()
+    with fresh_folder() as folder:
+        file, backup = str(folder / "office.keyreg"), folder / "backup.keyreg"
+        new_register(file, [line_at(place) for place in range(1, BEFORE + 1)])
+        with database(file) as source, database(backup) as target:
+            source.backup(target)
         wanted, life = rows_after(BEFORE), Killed(file, folder)
         expect(as_taken(backup) == wanted, "the backup is another register")
         for length in lengths:
@@ -148,17 +130,15 @@ def main():
             killed = life.goes_on(length)
             if length == lengths[-1]:
                 life.kill(killed)
-            ends[trapped(backup, killed, length)].append((length, os.path.getsize(killed + "-wal") // 4120))
+            ends[trapped(backup, killed, length)].append(length)
             restored(backup, killed, wanted)
-        show()
-    for end, there in sorted(ends.items()):
-        told = ", ".join(str(length) for length, _ in there)
-        print(f"{len(there)} of {len(lengths)} lengths: {end}: after {told} requests")
-    silent = sum(len(there) for end, there in ends.items() if end.startswith("without a word"))
-    refused = sum(len(there) for end, there in ends.items() if end.startswith("refused"))
+    for end, of_end in sorted(ends.items()):
+        print(f"{len(of_end)} of {len(lengths)} lengths: {end}: after {', '.join(map(str, of_end))} requests")
+    silent, refused = (sum(len(of_end) for end, of_end in ends.items() if end.startswith(begin))
+                       for begin in ("without a word", "refused"))
     expect(silent and refused, "all lengths came to one end: too few to tell")
-    print(f"{len(lengths)} logs beside a restored backup: {silent} were taken without a word and {refused} refused; "
-          f"by the right way each of {len(lengths)} is the backup")
+    verdict(f"{len(lengths)} logs beside a restored backup: {silent} were taken without a word and {refused} refused; "
+            f"by the right way each of {len(lengths)} is the backup")
 
 
 main()
