@@ -95,7 +95,8 @@ KINDS = (
                                          r"\n +report\)|from report'", {
         "they ask for a report": "checks/office/audit_views.py checks/sqlite/copied_while_served.py "
                                  "checks/office/advance_tried.py checks/package/in_systemd.sh "
-                                 "checks/program/full_register.py checks/office/replay_tried.py docs/CHECKS.md "
+                                 "checks/program/full_register.py checks/office/replay_tried.py "
+                                 "checks/office/rebuild_tried.py docs/CHECKS.md "
                                  "office/units/keyreg.service bench/tables.py",
     }),
     Kind("Add a crate", r"\bregister_report\b", {
