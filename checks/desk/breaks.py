@@ -176,7 +176,7 @@ def hostile_list(reader):
     reader.forget_all()
     reader.open("find")
     is_text(reader, owner)
-    reader.desk.list()
+    reader.desk.make_list()
     reader.forget_all()
 
 
@@ -206,6 +206,6 @@ def all_breaks(ann, bob, second):
     killed(ann, key)
     two_pages(ann, second, key)
     hostile_texts(bob)
-    ann.desk.list()
+    ann.desk.make_list()
     hostile_list(bob)
     without_a_list(bob, key)

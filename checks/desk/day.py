@@ -53,7 +53,7 @@ def custody(ann, bob, cat):
     ann.adds(key, "bob", "cat", "dan")
     ann.does(f"remove-custodian {key} dan", [("Custodian", "dan")])
     ann.does(f"set-quorum {key} 3", [("Approvals needed", "3")])
-    ann.desk.list()
+    ann.desk.make_list()
     bob.reload()
     bob.open("waits")
     bob.one(f"section.guarded a[href='#key/{key}']").click()
@@ -106,7 +106,7 @@ def dates(ann, cat):
 
 def periods(ann, office):
     """The office sets a period. A page with an older list foretells otherwise, and shows what the register said."""
-    ann.desk.list()
+    ann.desk.make_list()
     ann.reload()
     office.open("periods")
     office.does("set-period master 6 0", [
@@ -122,7 +122,7 @@ def periods(ann, office):
     expect("Would be accepted" in foretold, foretold)
     # Six months from the last of August is the last of February, in UTC and in the reader's time.
     ann.refused("PeriodTooLong", "2027-02-28 12:00:00 UTC", "Feb 28, 2027, 08:30:00 AM")
-    ann.desk.list()
+    ann.desk.make_list()
     ann.reload()
     ann.open("register")
     foretold = ann.submit("register", fields)

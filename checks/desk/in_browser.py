@@ -143,7 +143,7 @@ def listed(desk: Desk, ann: Reader) -> None:
     for turn in range(3):
         day.finds(ann, desk.copy())
         if turn == 1:
-            desk.list()
+            desk.make_list()
         ann.reload()
 
 

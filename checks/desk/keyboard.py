@@ -140,7 +140,7 @@ def life(ann, bob, cat):
     hands.press(Keys.SPACE)
     hands.send("Revoke", f"revoke {key} 5 -")
     expect("Deactivated" in ann.text("h1"), ann.text("h1"))
-    ann.desk.list()
+    ann.desk.make_list()
     others[0].key(key)
     others[0].open("Approve the destruction")
     others[0].send("Approve the destruction", f"approve {key}")

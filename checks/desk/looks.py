@@ -194,7 +194,7 @@ def taken(desk, reader, folder, count):
     """What a list of so many keys takes. keyreg serves its own register."""
     file = os.path.join(folder, f"large_{count}.keyreg")
     many(file, count)
-    line = desk.list(file)
+    line = desk.make_list(file)
     reader.open("find")
     reader.forget_all()
     reader.says(f"{count} of {count} keys", patience=60)

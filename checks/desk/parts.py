@@ -134,7 +134,7 @@ class Desk:
         self.process = self.start()
         self.guard = Guard(self.port, PASSWORDS)
         self.line = Line(self.guard.port)
-        self.list()
+        self.make_list()
 
     def start(self) -> subprocess.Popen:
         words = [PROGRAM, "serve", "--file", self.file, "--port", str(self.port), "--exchanges", "1000000"]
@@ -149,7 +149,7 @@ class Desk:
         self.process.kill()
         self.process.wait()
 
-    def list(self, file: Optional[File] = None) -> str:
+    def make_list(self, file: Optional[File] = None) -> str:
         """Makes the list anew, of the register or of another file."""
         words = [sys.executable, "-B", LIST, file or self.file, os.path.join(self.guard.list_folder, "list.json")]
         done = subprocess.run(words, capture_output=True, text=True, check=False)

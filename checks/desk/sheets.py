@@ -78,7 +78,7 @@ def alone(reader, folder):
 def with_list(reader, file=None):
     """The page with the list of another register, or of its own. No key is asked for meanwhile."""
     reader.open("find")
-    reader.desk.list(file)
+    reader.desk.make_list(file)
     reader.forget_all()
 
 

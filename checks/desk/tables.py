@@ -46,7 +46,7 @@ def taken_twice(reader, folder):
     put_away(reader)
     for turn in ("at once", "after a reload", "with a newer list"):
         if turn == "with a newer list":
-            reader.desk.list()
+            reader.desk.make_list()
         if turn != "at once":
             reader.reload()
         chosen(reader, folder, text)

@@ -101,7 +101,7 @@ def wrong_values(reader):
 def names_offered(reader, key):
     """Names that are known are offered. An unknown one is said, and not sent until it is confirmed."""
     register(reader, "master", "bob", "a key of another owner")
-    reader.desk.list()
+    reader.desk.make_list()
     reader.reload()
     reader.key(key)
     form = reader.form("assign")
@@ -183,7 +183,7 @@ def overdue_seen(reader):
     expect("overdue" in reader.text("h1"), f"its page says {reader.text('h1')}")
     kinds = [part.get_attribute("class") for part in reader.find(".line rect")]
     expect(kinds == ["protect", "process"], f"its line has {kinds}")
-    reader.desk.list()
+    reader.desk.make_list()
     reader.reload()
     reader.open(f"find?text={LONG.split(',', maxsplit=1)[0].replace(' ', '+')}")
     rows = {row.find_element(By.TAG_NAME, "a").text: row.text for row in reader.find("table.cards tbody tr")}
@@ -219,7 +219,7 @@ def order_kept(reader, other):
     keys = [register(other, "key-wrapping", other.user, f"keys that wait {place}") for place in range(3)]
     for key in keys:
         other.key(key).adds(key, reader.user)
-    other.desk.list()
+    other.desk.make_list()
     reader.reload()
     reader.open("waits")
     numbers = [link.text for link in reader.find("section.guarded tbody a")]
@@ -227,7 +227,7 @@ def order_kept(reader, other):
     reader.run("arguments[0].focus()", third)
     other.key(keys[2]).adds(keys[2], "cat")
     time.sleep(1.1)
-    other.desk.list()
+    other.desk.make_list()
     reader.run("dispatchEvent(new Event('visibilitychange'))")
     reader.says("A newer list is there", "#newer")
     expect([link.text for link in reader.find("section.guarded tbody a")] == numbers, "what waits moved")

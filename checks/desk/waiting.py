@@ -19,7 +19,7 @@ def waiting(ann, bob, cat):
     for reader in (ann, cat):
         bob.key(own).adds(own, reader.user)
         reader.key(own).does(f"approve {own}")
-    ann.desk.list()
+    ann.desk.make_list()
     bob.reload()
     bob.open("waits")
     for part, key in (("begun", keys[0]), ("guarded", keys[1]), ("destroyable", own)):

@@ -24,11 +24,11 @@ import time
 from typing import Any, Callable, Iterator, Optional
 
 sys.path.insert(1, str(pathlib.Path(__file__).resolve().parents[1] / "shared"))
-import client as client_module
 from registers import File, database, new_register
 from script import expect, fresh_folder, options, verdict
 from serving import PATIENCE, Served, free_port, received
 from tools import words_of
+import client as client_module
 
 Client, Refused, NoAnswer = client_module.Client, client_module.Refused, client_module.NoAnswer
 SEED = 68
