@@ -248,7 +248,7 @@ def taken_in(reader, folder, good=40):
     """A table is judged row by row, sent, stopped, gone on with after a reload, and its other rows are given back."""
     wrong_files(reader, folder)
     text, wanted, bad = table_text(good)
-    reader.driver.execute_cdp_cmd("Browser.setDownloadBehavior", {"behavior": "allow", "downloadPath": folder})
+    reader.downloads_to(folder)
     chosen(reader, folder, text)
     reader.says(f"{good + 7} rows, judged before they are sent: {good} would be accepted, 1 refused, "
                 "6 of another form, 0 there already, 0 repeated, 0 changed by a spreadsheet")

@@ -170,7 +170,7 @@ def long_table(reader, folder, count):
 
 def all_taken(reader, other, folder, count):
     """All of it, the long table by another browser; what is said of that."""
-    reader.driver.execute_cdp_cmd("Browser.setDownloadBehavior", {"behavior": "allow", "downloadPath": folder})
+    reader.downloads_to(folder)
     both_of_spreadsheets(reader, folder)
     taken_twice(reader, folder)
     all_reached(reader, folder)
