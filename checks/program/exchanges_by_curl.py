@@ -21,6 +21,7 @@ import socket
 import sys
 import threading
 import time
+from typing import NamedTuple
 
 sys.path.insert(1, str(pathlib.Path(__file__).resolve().parents[1] / "shared"))
 from answers import BAD, LENGTH_REQUIRED, MEMBERS, NO_ROUTE, TOO_LARGE
@@ -55,74 +56,82 @@ def day_of_every_command():
             both.get(request.named or 1)
 
 
-def requests_of(now):
-    """Each refusal but 1, 3 and 20, which other parts and full_register.py have, each type, and dates that are given,
-    filled and trimmed; with the number of the refusal."""
-    purpose = 'payroll disks, "site A" \\ \u03b2\u2028\U0001f511'
-    first = ("register", "data-encryption", "bob", now - DAY, None, None, purpose)
-    return [
-        ("ann", 1, first, None),
-        ("ann", 1, first, None),
-        ("ann", 1, ("register", "data-encryption", "bob", now - DAY, None, None, "other"), 2),
-        ("ann", 1, ("advance",), 2),
-        ("ann", 2, ("register", "master", "bob", None, None, None, "spare"), None),
-        ("ann", 3, ("register", "data-encryption", "bob", now - 900 * DAY, None, None, "x" * 200), None),
-        ("ann", 4, ("register", "private-signature", "eve", 0, 500, 500, "\u00e9" * 100), None),
-        ("ann", 5, ("register", "private-authentication", "b" * 64, now + 10 * YEAR, None, None, "later"), None),
-        ("ann", 6, ("register", "key-wrapping", "bob", None, now + 20 * YEAR, now + 22 * YEAR, "trimmed"), None),
-        ("ann", 7, ("register", "private-transport", "bob", now, None, None, "today"), None),
-        ("ann", 8, ("register", "authentication", "A.-_@9", LAST - DAY, LAST, LAST, "end of days"), None),
-        ("ann", GREATEST_NUMBER, ("register", "master", "bob", now, None, now + DAY, "a day"), None),
-        ("ann", 9, ("register", "master", "bob", 500, 400, 600, "x"), 9),
-        ("ann", 9, ("register", "data-encryption", "bob", 0, 63072001, None, "x"), 10),
-        ("ann", 9, ("register", "data-encryption", "bob", LAST, None, None, "x"), 11),
-        ("bob", 2, ("activate", 4294967295), 4),
-        ("zed", 1, ("set", 6, "=", "=", "="), 5),
-        ("zed", 1, ("approve", 2), 6),
-        # The key that is trimmed as it is activated.
-        ("bob", 2, ("activate", 6), None),
-        ("bob", 3, ("activate", 6), 7),
-        ("bob", 3, ("set", 6, now, "=", "="), 8),
-        ("bob", 3, ("set", 6, "=", None, None), None),
-        ("bob", 4, ("set", 6, "=", now + DAY, None), None),
-        ("b" * 64, 1, ("set", 5, None, None, None), None),
-        ("bob", 5, ("add-custodian", 2, "cat"), None),
-        ("bob", 6, ("add-custodian", 2, "cat"), 12),
-        ("bob", 6, ("add-custodian", 2, "bob"), 15),
-        ("bob", 6, ("remove-custodian", 2, "dan"), 13),
-        ("bob", 6, ("destroy", 2), 18),
-        ("cat", 1, ("withdraw", 2), 17),
-        ("cat", 1, ("approve", 2), None),
-        ("cat", 2, ("approve", 2), 16),
-        ("bob", 6, ("add-custodian", 2, "dan"), None),
-        ("dan", 1, ("approve", 2), None),
-        ("dan", 2, ("withdraw", 2), None),
-        ("bob", 7, ("remove-custodian", 2, "dan"), None),
-        ("bob", 8, ("add-custodian", 2, "dan"), None),
-        ("bob", 9, ("destroy", 2), 18),
-        ("dan", 3, ("approve", 2), None),
-        ("bob", 9, ("set-quorum", 2, 3), None),
-        ("bob", 10, ("destroy", 2), 18),
-        ("bob", 10, ("set-quorum", 2, 2), None),
-        ("bob", 11, ("assign", 2, "eve"), None),
-        ("eve", 1, ("destroy", 2), None),
-        ("eve", 1, ("destroy", 2), None),
-        ("zed", 1, ("revoke", 2, 3, LAST), 19),
-        ("zed", 1, ("revoke", 2, 3, 17), None),
-        *(("eve", 10 + n, ("add-custodian", 4, f"c{n}"), None) for n in range(16)),
-        ("eve", 30, ("add-custodian", 4, "c16"), 14),
-        ("zed", 2, ("revoke", 5, 2, now), None),
-        *(("bob", 20 + reason, ("revoke", key, reason, None), None)
-          for key, reason in ((1, 1), (3, 4), (6, 5), (7, 6), (9, 7))),
-        # The period of a type: what comes after it goes by it, and the dates that keys have stay.
-        ("zed", 4, ("set-period", "master", 24, 12), 21),
-        ("office", 1, ("set-period", "master", 24, 12), None),
-        ("office", 1, ("set-period", "master", 24, 13), 2),
-        ("ann", 31, ("register", "master", "bob", now, now + 600 * DAY, None, "two years"), None),
-        ("ann", 32, ("register", "master", "bob", now, now + 800 * DAY, None, "x"), 10),
-        ("ann", 30, ("advance",), None),
-        ("ann", 30, ("advance",), None),
-    ]
+class FromNow(NamedTuple):
+    """A date so many seconds from now."""
+    seconds: int
+
+
+FIRST_KEY = ("register", "data-encryption", "bob", FromNow(-DAY), None, None,
+             'payroll disks, "site A" \\ \u03b2\u2028\U0001f511')
+# Each refusal but 1, 3 and 20, which other parts and full_register.py have, each type, and dates that are given, filled
+# and trimmed; with the number of the refusal.
+REQUESTS = [
+    ("ann", 1, FIRST_KEY, None),
+    ("ann", 1, FIRST_KEY, None),
+    ("ann", 1, ("register", "data-encryption", "bob", FromNow(-DAY), None, None, "other"), 2),
+    ("ann", 1, ("advance",), 2),
+    ("ann", 2, ("register", "master", "bob", None, None, None, "spare"), None),
+    ("ann", 3, ("register", "data-encryption", "bob", FromNow(-900 * DAY), None, None, "x" * 200), None),
+    ("ann", 4, ("register", "private-signature", "eve", 0, 500, 500, "\u00e9" * 100), None),
+    ("ann", 5, ("register", "private-authentication", "b" * 64, FromNow(10 * YEAR), None, None, "later"), None),
+    ("ann", 6, ("register", "key-wrapping", "bob", None, FromNow(20 * YEAR), FromNow(22 * YEAR), "trimmed"), None),
+    ("ann", 7, ("register", "private-transport", "bob", FromNow(0), None, None, "today"), None),
+    ("ann", 8, ("register", "authentication", "A.-_@9", LAST - DAY, LAST, LAST, "end of days"), None),
+    ("ann", GREATEST_NUMBER, ("register", "master", "bob", FromNow(0), None, FromNow(DAY), "a day"), None),
+    ("ann", 9, ("register", "master", "bob", 500, 400, 600, "x"), 9),
+    ("ann", 9, ("register", "data-encryption", "bob", 0, 63072001, None, "x"), 10),
+    ("ann", 9, ("register", "data-encryption", "bob", LAST, None, None, "x"), 11),
+    ("bob", 2, ("activate", 4294967295), 4),
+    ("zed", 1, ("set", 6, "=", "=", "="), 5),
+    ("zed", 1, ("approve", 2), 6),
+    # The key that is trimmed as it is activated.
+    ("bob", 2, ("activate", 6), None),
+    ("bob", 3, ("activate", 6), 7),
+    ("bob", 3, ("set", 6, FromNow(0), "=", "="), 8),
+    ("bob", 3, ("set", 6, "=", None, None), None),
+    ("bob", 4, ("set", 6, "=", FromNow(DAY), None), None),
+    ("b" * 64, 1, ("set", 5, None, None, None), None),
+    ("bob", 5, ("add-custodian", 2, "cat"), None),
+    ("bob", 6, ("add-custodian", 2, "cat"), 12),
+    ("bob", 6, ("add-custodian", 2, "bob"), 15),
+    ("bob", 6, ("remove-custodian", 2, "dan"), 13),
+    ("bob", 6, ("destroy", 2), 18),
+    ("cat", 1, ("withdraw", 2), 17),
+    ("cat", 1, ("approve", 2), None),
+    ("cat", 2, ("approve", 2), 16),
+    ("bob", 6, ("add-custodian", 2, "dan"), None),
+    ("dan", 1, ("approve", 2), None),
+    ("dan", 2, ("withdraw", 2), None),
+    ("bob", 7, ("remove-custodian", 2, "dan"), None),
+    ("bob", 8, ("add-custodian", 2, "dan"), None),
+    ("bob", 9, ("destroy", 2), 18),
+    ("dan", 3, ("approve", 2), None),
+    ("bob", 9, ("set-quorum", 2, 3), None),
+    ("bob", 10, ("destroy", 2), 18),
+    ("bob", 10, ("set-quorum", 2, 2), None),
+    ("bob", 11, ("assign", 2, "eve"), None),
+    ("eve", 1, ("destroy", 2), None),
+    ("eve", 1, ("destroy", 2), None),
+    ("zed", 1, ("revoke", 2, 3, LAST), 19),
+    ("zed", 1, ("revoke", 2, 3, 17), None),
+    *(("eve", 10 + n, ("add-custodian", 4, f"c{n}"), None) for n in range(16)),
+    ("eve", 30, ("add-custodian", 4, "c16"), 14),
+    ("zed", 2, ("revoke", 5, 2, FromNow(0)), None),
+    *(("bob", 20 + reason, ("revoke", key, reason, None), None)
+      for key, reason in ((1, 1), (3, 4), (6, 5), (7, 6), (9, 7))),
+    # The period of a type: what comes after it goes by it, and the dates that keys have stay.
+    ("zed", 4, ("set-period", "master", 24, 12), 21),
+    ("office", 1, ("set-period", "master", 24, 12), None),
+    ("office", 1, ("set-period", "master", 24, 13), 2),
+    ("ann", 31, ("register", "master", "bob", FromNow(0), FromNow(600 * DAY), None, "two years"), None),
+    ("ann", 32, ("register", "master", "bob", FromNow(0), FromNow(800 * DAY), None, "x"), 10),
+    ("ann", 30, ("advance",), None),
+    ("ann", 30, ("advance",), None),
+]
+
+
+def at_time(command, now):
+    return tuple(now + value.seconds if isinstance(value, FromNow) else value for value in command)
 
 
 def commands():
@@ -130,8 +139,8 @@ def commands():
     now = int(time.time())
     with compared("commands", has_key=False) as both:
         both.get(1)
-        for place, (caller, number, command, refusal) in enumerate(requests_of(now)):
-            both.post(caller, number, command, refusal, WAYS[place % len(WAYS)])
+        for place, (caller, number, command, refusal) in enumerate(REQUESTS):
+            both.post(caller, number, at_time(command, now), refusal, WAYS[place % len(WAYS)])
             if len(command) > 1 and command[1] in both.register.keys:
                 both.get(command[1], WAYS[place % 5])
         for key in range(1, len(both.register.keys) + 2):
