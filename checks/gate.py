@@ -70,7 +70,7 @@ GATE = (
     Part("desk/own_tests.py", 60),
     Part("desk/rules.py", 60),
     Part("office/advance_tried.py", 60),
-    Part("office/audit_page.py", 60),
+    Part("office/audit_views.py", 60),
     Part("program/every_command.py", 30),
     Part("sources/given_to_crates.py", 30),
     Part("package/man_page.py", 30),

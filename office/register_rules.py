@@ -6,7 +6,8 @@ a request will be answered. A moment is in seconds, and a date that is not set i
 """
 import calendar
 import re
-from datetime import datetime, timedelta, timezone
+import time
+from datetime import date, datetime, timedelta
 from typing import NamedTuple, Optional
 
 # ---- moments and usage periods
@@ -14,7 +15,9 @@ from typing import NamedTuple, Optional
 LAST = 253402300799
 # What stands in a table for a date that is not set.
 UNSET = LAST + 1
-EPOCH = datetime(1970, 1, 1, tzinfo=timezone.utc)
+EPOCH = datetime(1970, 1, 1)
+EPOCH_DAY = EPOCH.toordinal()
+MOMENT_FORM = "%Y-%m-%dT%H:%M:%SZ"
 MOMENT_TEXT = re.compile(r"[0-9]{4}-[0-9]{2}-[0-9]{2}T[0-9]{2}:[0-9]{2}:[0-9]{2}Z")
 # Key types in the order of their codes, from 1, with their months where the office has set none.
 PERIODS = {
@@ -31,35 +34,40 @@ REFUSALS = (
 
 
 class Refused(Exception):
-    """A request that the rules do not accept, with the name of its refusal and what that tells more."""
+    """A request that the rules do not accept, with the name of its refusal and the details of its reply."""
 
-    def __init__(self, name, **told):
+    def __init__(self, name, **details):
         super().__init__(name)
-        self.name, self.number, self.told = name, REFUSALS.index(name) + 1, told
+        self.name, self.number, self.details = name, REFUSALS.index(name) + 1, details
+
+    @property
+    def line(self):
+        """The line of the reply."""
+        return " ".join([f"refused {self.number} {self.name}", *(f"{name}={of}" for name, of in self.details.items())])
 
 
-def refuse(holds, name, **told):
+def refuse(holds, name, **details):
     if holds:
-        raise Refused(name, **told)
+        raise Refused(name, **details)
 
 
 def text_of(moment):
-    return (EPOCH + timedelta(seconds=moment)).strftime("%Y-%m-%dT%H:%M:%SZ")
+    return time.strftime(MOMENT_FORM, time.gmtime(moment))
 
 
 def moment_of(text):
     """The moment of such a text; ValueError where it has no such day or second."""
-    return (datetime.strptime(text, "%Y-%m-%dT%H:%M:%SZ").replace(tzinfo=timezone.utc) - EPOCH) // timedelta(seconds=1)
+    return (datetime.strptime(text, MOMENT_FORM) - EPOCH) // timedelta(seconds=1)
 
 
 def plus_months(moment, months):
     """The same day so many months later, or that month's last; None past the range of moments."""
-    day = EPOCH + timedelta(seconds=moment)
+    day = date.fromordinal(EPOCH_DAY + moment // 86400)
     year, month = divmod(day.year * 12 + day.month - 1 + months, 12)
     if year > 9999:
         return None
     last = calendar.monthrange(year, month + 1)[1]
-    return (day.replace(year=year, month=month + 1, day=min(day.day, last)) - EPOCH) // timedelta(seconds=1)
+    return moment + 86400 * (date(year, month + 1, min(day.day, last)) - day).days
 
 
 def fitted(dates, period, trims):

@@ -26,7 +26,7 @@ import json
 import sys
 import time
 import unicodedata
-from datetime import datetime, timedelta, timezone
+from datetime import datetime, timedelta
 from html import escape
 
 from register_rules import EPOCH, STATES as NAMES, moment_of, state_at, text_of
@@ -244,7 +244,7 @@ class Scale:
 
     @staticmethod
     def begin(year):
-        return round((datetime(min(year, 9999), 1, 1, tzinfo=timezone.utc) - EPOCH).total_seconds())
+        return round((datetime(min(year, 9999), 1, 1) - EPOCH).total_seconds())
 
     def x(self, moment):
         part = (moment - self.first) / (self.last - self.first)

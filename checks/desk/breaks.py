@@ -7,7 +7,7 @@ import pathlib
 import re
 import time
 
-from day import refused, register
+from day import register
 from script import expect
 
 HOSTILE = [
@@ -22,11 +22,9 @@ NO_SUCH = "img, iframe, object, embed, style, b, i, form[action], script:not([sr
 
 
 def waits(reader, *words):
-    """The page says that a request waits, and how it is sent."""
-    reader.wait(lambda: "Not answered yet" in reader.text("#kept"), "it is not told that a request waits")
-    told = reader.text("#kept")
-    for word in words:
-        reader.wait(lambda word=word: word in reader.text("#kept"), f"no {word!r} in {told}")
+    """The page says that a request waits, and how it is sent. Gives its number."""
+    for word in ("Not answered yet", *words):
+        reader.says(word, "#kept")
     return re.search(r"number (\d+)", reader.text("#kept"))[1]
 
 
@@ -42,16 +40,15 @@ def sent_again(reader, key):
         reader.submit("add-custodian", [("Custodian", name)])
         # After a reset the browser may have sent it again before the page knows of it.
         if todo[0] not in ("reset", "lose"):
-            told = "connection broke" if todo[0] == "cut" else "does not tell whether it acted"
-            waits(reader, told, "sent again under its number")
-        is_accepted, told = reader.answer(f"add-custodian {key} {name}")
-        expect(is_accepted and not line.todo, f"{todo}: {told}")
+            why = "connection broke" if todo[0] == "cut" else "does not tell whether it acted"
+            waits(reader, why, "sent again under its number")
+        reader.accepted(f"add-custodian {key} {name}")
         sent, number = line.posts[before:], str(reader.said[-1][1])
-        expect(len(sent) >= len(todo) + 1 and set(sent) == {number},
+        expect(not line.todo and len(sent) >= len(todo) + 1 and set(sent) == {number},
                f"{todo}: sent under {sent}, and the page says {number}")
-        expect(not reader.text("#kept"), f"{todo}: it is told to wait still")
+        expect(not reader.text("#kept"), f"{todo}: the page says that it waits still")
         expect(name in reader.text("dl.facts"), f"{todo}: the key is not shown with {name}")
-        reader.does("remove-custodian", f"remove-custodian {key} {name}", [("Custodian", name)])
+        reader.does(f"remove-custodian {key} {name}", [("Custodian", name)])
 
 
 def over_reload(reader, key):
@@ -69,20 +66,23 @@ def over_reload(reader, key):
         reader.driver.refresh()
         waits(reader)
         line.todo = []
-        is_accepted, told = reader.answer(f"add-custodian {key} reload")
-        expect(is_accepted and number in told, f"{what}, after a reload: {told}")
+        reader.accepted(f"add-custodian {key} reload", number)
         expect(set(line.posts[before:]) == {number}, f"{what}: sent under {set(line.posts[before:])}, not {number}")
-        reader.key(key).does("remove-custodian", f"remove-custodian {key} reload", [("Custodian", "reload")])
-    entry = json.dumps([{"number": 7, "caller": "zed", "body": json.dumps({"kind": "advance"})}])
+        reader.key(key).does(f"remove-custodian {key} reload", [("Custodian", "reload")])
     before = len(line.posts)
-    reader.run("sessionStorage.setItem('keyreg.kept', arguments[0])", entry)
-    reader.reload()
-    reader.wait(lambda: "is of the user zed" in reader.text("#kept").replace("It ", ""),
-                "another user's request is not told")
+    keep(reader, 7, "zed", {"kind": "advance"})
+    reader.says("is of the user zed", "#kept")
     time.sleep(0.5)
     expect(len(line.posts) == before, "another user's request is sent")
-    reader.one("#kept button", lambda button: button.text == "Give it up").click()
+    reader.press("Give it up")
     expect(reader.answer()[1].startswith("Given up"), "it is not given up")
+
+
+def keep(reader, number, caller, command):
+    """Puts a request that is not answered into the window's store, and loads the page anew."""
+    entry = json.dumps([{"number": number, "caller": caller, "body": json.dumps(command)}])
+    reader.run("sessionStorage.setItem('keyreg.kept', arguments[0])", entry)
+    reader.reload()
 
 
 def killed(reader, key):
@@ -93,8 +93,7 @@ def killed(reader, key):
     reader.submit("set-quorum", [("Approvals needed", "4")])
     number = waits(reader, "status 502")
     desk.start()
-    is_accepted, told = reader.answer(f"set-quorum {key} 4")
-    expect(is_accepted and number in told, told)
+    reader.accepted(f"set-quorum {key} 4", number)
     reader.key(key)
     desk.line.todo = ["cut"]
     reader.submit("set-quorum", [("Approvals needed", "5")])
@@ -102,35 +101,33 @@ def killed(reader, key):
     desk.kill()
     number = waits(reader)
     desk.start()
-    is_accepted, told = reader.answer(f"set-quorum {key} 5")
-    expect(is_accepted and number in told and "5 that its destruction needs" in reader.text(), told)
+    reader.accepted(f"set-quorum {key} 5", number)
+    expect("5 that its destruction needs" in reader.text(), reader.text())
 
 
 def refused_after_a_cut(reader, key):
-    """A refusal whose answer is lost is told as a refusal, and one of a number that was used as what it is."""
+    """A refusal whose answer is lost is shown as a refusal, and one of a number that was used as what it is."""
     line = reader.desk.line
     reader.key(key)
     line.todo = ["cut"]
     reader.submit("add-custodian", [("Custodian", reader.user)])
     waits(reader)
-    refused(reader, "OwnerCustodian", "none of its custodians")
+    reader.refused("OwnerCustodian", "none of its custodians")
     used = max(number for _, number, _ in reader.said if number)
-    entry = json.dumps([{"number": used, "caller": reader.user, "body": json.dumps({"kind": "destroy", "key": key})}])
-    reader.run("sessionStorage.setItem('keyreg.kept', arguments[0])", entry)
-    reader.reload()
-    refused(reader, "RequestReused", "This one did nothing")
+    keep(reader, used, reader.user, {"kind": "destroy", "key": key})
+    reader.refused("RequestReused", "This one did nothing")
 
 
-def two_pages(one, other, key):
+def two_pages(reader, other, key):
     """Two pages at one key: the second gets the refusal in words, and the key as it stands now."""
-    one.key(key)
+    reader.key(key)
     other.key(key)
     form = other.form("set")
-    one.does("assign", f"assign {key} bob", [("New owner", "bob")])
+    reader.does(f"assign {key} bob", [("New owner", "bob")])
     expect(form.is_displayed(), "the other page is not as it was")
-    foretold = other.submit("set", edits=[("keep", ""), ("keep", ""), ("clear", "")])[1]
+    foretold = other.submit("set", edits=[("keep", ""), ("keep", ""), ("clear", "")])
     expect("Would be accepted" in foretold, foretold)
-    refused(other, "NotOwner", "Only the owner", f"key {key} stands as it is in the register")
+    other.refused("NotOwner", "Only the owner", f"key {key} stands as it is in the register")
     expect("bob" in other.text("dl.facts"), f"the key is not shown as it stands: {other.text('dl.facts')}")
     expect(not other.find("details[data-kind='set']"), "dates may still be set")
 
@@ -138,29 +135,27 @@ def two_pages(one, other, key):
 def is_text(reader, text):
     """The text stands in the page as a text, with a code for each character that is not seen, and became nothing
     else."""
-    found = reader.run("return [...document.querySelectorAll('#main .text')].map((place) => place.textContent)")
+    texts = reader.run("return [...document.querySelectorAll('#main .text')].map((place) => place.textContent)")
     wanted = re.sub("[\u0080-\u009f\u200b-\u200f\u2028-\u202e\u2066-\u2069\ufeff\U000e0000-\U000e007f]",
                     lambda mark: f"U+{ord(mark[0]):04X}", text)
-    expect(wanted in found, f"{wanted!r} is not among {found[:20]}")
-    expect(not reader.find(NO_SUCH), f"elements came of a text: {[e.tag_name for e in reader.find(NO_SUCH)]}")
+    expect(wanted in texts, f"{wanted!r} is not among {texts[:20]}")
+    elements = [element.tag_name for element in reader.find(NO_SUCH)]
+    expect(not elements, f"elements came of a text: {elements}")
     wide = reader.run("return document.scrollingElement.scrollWidth - window.innerWidth")
     expect(wide <= 0, f"{text!r} makes the page wider by {wide}")
-    return wanted
 
 
 def hostile_texts(reader):
     """Purposes that are markup, quotes, marks of direction or long words."""
     for text in HOSTILE:
-        reader.open("find")
-        reader.open("register")
+        reader.anew("register")
         form = reader.form("register")
         reader.fill(form, "Owner", reader.user)
         entry = form.find_element("css selector", "input[name='purpose']")
         reader.put(entry, text)
         reader.forget()
         form.find_element("css selector", "button.send").click()
-        is_accepted, told = reader.answer(f"register data-encryption {reader.user} - - - {text}")
-        expect(is_accepted, f"{text!r}: {told}")
+        reader.accepted(f"register data-encryption {reader.user} - - - {text}")
         is_text(reader, text)
     reader.open(f"find?owner={reader.user}")
     for text in HOSTILE:
@@ -178,13 +173,11 @@ def hostile_list(reader):
     given["keys"]["purpose"][0] = owner
     place.write_text(json.dumps(given), encoding="utf-8")
     os.utime(place, (time.time() + 5, time.time() + 5))
-    reader.run("sessionStorage.clear()")
-    reader.reload()
+    reader.forget_all()
     reader.open("find")
     is_text(reader, owner)
-    reader.desk.list()
-    reader.run("sessionStorage.clear()")
-    reader.reload()
+    reader.desk.make_list()
+    reader.forget_all()
 
 
 def without_a_list(reader, key):
@@ -192,22 +185,20 @@ def without_a_list(reader, key):
     place = pathlib.Path(reader.desk.guard.list_folder, "list.json")
     kept = place.read_bytes()
     place.unlink()
-    reader.run("sessionStorage.clear()")
-    reader.reload()
+    reader.forget_all()
     reader.open("find")
-    reader.wait(lambda: "The list of keys is not there" in reader.text(), "it is not told that there is no list")
+    reader.says("The list of keys is not there")
     reader.key(key)
     place.write_text(json.dumps({**json.loads(kept), "keys": None, "count": 200000}), encoding="utf-8")
     reader.reload()
     reader.open("find")
-    reader.wait(lambda: "200000 keys, too many for the list" in reader.text(), "the number of keys is not told")
+    reader.says("200000 keys, too many for the list")
     place.write_bytes(kept)
     reader.reload()
 
 
-def all_breaks(readers):
-    """All of it, over the register of a day."""
-    ann, bob, second = readers["ann"], readers["bob"], readers["second"]
+def all_breaks(ann, bob, second):
+    """All of it, over the register of a day; the second is another page of ann."""
     key = register(ann, "master", "ann", "a key of breaks")
     sent_again(ann, key)
     over_reload(ann, key)
@@ -215,6 +206,6 @@ def all_breaks(readers):
     killed(ann, key)
     two_pages(ann, second, key)
     hostile_texts(bob)
-    ann.desk.list()
+    ann.desk.make_list()
     hostile_list(bob)
     without_a_list(bob, key)

@@ -2,15 +2,13 @@
 that is taken in. What the page has to say comes from docs/SPECIFICATION.md and from the register's tables as SQLite
 reads them."""
 import calendar
-import contextlib
 import csv
 import os
 import pathlib
-import sqlite3
 import time
 
 from parts import By
-from registers import STATES, TYPES, UNSET
+from registers import STATES, TYPES, UNSET, database
 from register_rules import ACTIVE, ALL, STILL, Key
 from script import expect
 
@@ -27,106 +25,91 @@ def day(days, clock="T23:30:00"):
 
 def register(reader, kind, owner, purpose, *dates):
     """Registers a key by its form; `dates` are texts in UTC, empty where none is given."""
-    reader.open("find")
-    reader.open("register")
+    reader.anew("register")
     names = ("Activation (UTC)", "Protect Stop (UTC)", "Deactivation (UTC)")
     fields = [("Type", kind), ("Owner", owner), ("Purpose", purpose)]
     fields += [(name, date) for name, date in zip(names, dates) if date]
-    told = [str(second(date)) if date else "-" for date in (*dates, "", "", "")[:3]]
-    reader.does("register", f"register {kind} {owner} {' '.join(told)} {purpose}", fields)
+    seconds = [str(second(date)) if date else "-" for date in (*dates, "", "", "")[:3]]
+    reader.does(f"register {kind} {owner} {' '.join(seconds)} {purpose}", fields)
     return int(reader.driver.current_url.split("#key/")[1])
-
-
-def refused(reader, name, *words):
-    """The answer has to be this refusal, with these words."""
-    is_accepted, told = reader.answer()
-    expect(not is_accepted and name in told, f"{reader.user}: not {name}: {told}")
-    for word in words:
-        expect(word in told, f"{reader.user}: no {word!r} in {told}")
 
 
 def destroyed(ann, bob, cat):
     """A key that is registered, approved by two others and destroyed: the smallest form of a day."""
     key = register(ann, "master", "ann", "root of vault 2")
-    for name in ("bob", "cat"):
-        ann.does("add-custodian", f"add-custodian {key} {name}", [("Custodian", name)])
+    ann.adds(key, "bob", "cat")
     for reader in (bob, cat):
         if reader is cat:
             ann.submit("destroy")
-            refused(ann, "ApprovalsMissing", "1 of 2 approvals stand")
-        reader.key(key).does("approve", f"approve {key}")
-    expect("Would be accepted" in ann.key(key).submit("destroy")[1], "the destruction is not foretold")
-    is_accepted, told = ann.answer(f"destroy {key}")
-    expect(is_accepted and "Destroyed" in told and "Destroyed" in ann.text("h1"), told)
-    return key
+            ann.refused("ApprovalsMissing", "1 of 2 approvals stand")
+        reader.key(key).does(f"approve {key}")
+    words = ann.key(key).does(f"destroy {key}")
+    expect("Destroyed" in words and "Destroyed" in ann.text("h1"), words)
 
 
 def custody(ann, bob, cat):
     """Custodians, approvals and the quorum, with what waits for whom."""
     key = register(ann, "key-wrapping", "ann", "wrapping keys of site B")
-    for name in ("bob", "cat", "dan"):
-        ann.does("add-custodian", f"add-custodian {key} {name}", [("Custodian", name)])
-    ann.does("remove-custodian", f"remove-custodian {key} dan", [("Custodian", "dan")])
-    ann.does("set-quorum", f"set-quorum {key} 3", [("Approvals needed", "3")])
-    ann.desk.list()
+    ann.adds(key, "bob", "cat", "dan")
+    ann.does(f"remove-custodian {key} dan", [("Custodian", "dan")])
+    ann.does(f"set-quorum {key} 3", [("Approvals needed", "3")])
+    ann.desk.make_list()
     bob.reload()
     bob.open("waits")
-    waits = f"section.guarded a[href='#key/{key}']"
-    bob.one(waits).click()
-    bob.wait(lambda: "As the register told it" in bob.text(), f"key {key} is not opened")
-    bob.does("approve", f"approve {key}")
+    bob.one(f"section.guarded a[href='#key/{key}']").click()
+    bob.says("As the register told it")
+    bob.does(f"approve {key}")
     bob.open("waits")
     expect(not bob.find(f"section:not(.destroyable) a[href='#key/{key}']"), "what is approved still waits")
-    cat.key(key).does("approve", f"approve {key}")
-    cat.does("withdraw", f"withdraw {key}")
-    cat.does("approve", f"approve {key}")
+    cat.key(key).does(f"approve {key}")
+    cat.does(f"withdraw {key}")
+    cat.does(f"approve {key}")
     ann.key(key).submit("destroy")
-    refused(ann, "ApprovalsMissing", "2 of 3 approvals stand")
-    ann.does("set-quorum", f"set-quorum {key} 2", [("Approvals needed", "2")])
+    ann.refused("ApprovalsMissing", "2 of 3 approvals stand")
+    ann.does(f"set-quorum {key} 2", [("Approvals needed", "2")])
     ann.open("waits")
-    expect(f"\n{key} " in ann.text(), f"key {key} may be destroyed, and is not told to wait: {ann.text()}")
-    ann.key(key).does("destroy", f"destroy {key}")
-    return key
+    expect(f"\n{key} " in ann.text(), f"key {key} may be destroyed, and does not wait: {ann.text()}")
+    ann.key(key).does(f"destroy {key}")
 
 
 def dates(ann, cat):
-    """Dates that are set, defaults that are told before they are taken, an activation, a revocation and a
-    compromise."""
+    """Dates that are set, defaults that are shown before they are taken, an activation, a revocation and a
+    compromise. Gives the number of a key that was activated."""
     key = register(ann, "data-encryption", "ann", "disks of site C", day(-40), day(200))
     expect("Active" in ann.text("h1"), ann.text("h1"))
     end = day(400)
-    ann.does("set", f"set {key} = = {second(end)}", edits=[("keep", ""), ("keep", ""), ("set", end)])
+    ann.does(f"set {key} = = {second(end)}", edits=[("keep", ""), ("keep", ""), ("set", end)])
     ann.submit("set", edits=[("keep", ""), ("set", day(500)), ("set", day(450))])
-    refused(ann, "DateOrder", "in order")
+    ann.refused("DateOrder", "in order")
     ann.submit("set", edits=[("set", day(-1)), ("keep", ""), ("keep", "")])
-    refused(ann, "DateFrozen", "stay as they are")
-    ann.does("revoke", f"revoke {key} 5 -", [("Reason", "5")])
+    ann.refused("DateFrozen", "stay as they are")
+    ann.does(f"revoke {key} 5 -", [("Reason", "5")])
     expect("Deactivated" in ann.text("h1"), ann.text("h1"))
-    ann.does("assign", f"assign {key} cat", [("New owner", "cat")])
+    ann.does(f"assign {key} cat", [("New owner", "cat")])
     may = [title.text for title in ann.find("details.act > summary")]
     expect("Give to another owner" not in may, f"ann may still {may}")
     other = register(ann, "private-signature", "ann", "code of the desktop client")
-    foretold = ann.submit("set", edits=[("set", "2026-02-28T23:30:00"), ("clear", ""), ("clear", "")])[1]
+    foretold = ann.submit("set", edits=[("set", "2026-02-28T23:30:00"), ("clear", ""), ("clear", "")])
     # 36 months of protecting, and none of processing after.
     for line in ("Protect Stop: 2029-02-28 23:30:00 UTC", "Deactivation: 2029-02-28 23:30:00 UTC"):
-        expect(line in foretold and "by the period" in foretold, f"the default is not told: {foretold}")
-    expect(ann.answer(f"set {other} {second('2026-02-28T23:30:00')} - -")[0], "dates are not set")
+        expect(line in foretold and "by the period" in foretold, f"the default is not shown: {foretold}")
+    ann.accepted(f"set {other} {second('2026-02-28T23:30:00')} - -")
     since = day(-3)
-    cat.key(other).does("revoke", f"revoke {other} 2 {second(since)}",
+    cat.key(other).does(f"revoke {other} 2 {second(since)}",
                         [("Reason", "2"), ("Compromised since (UTC)", since)])
     expect("Compromised" in cat.text("h1"), cat.text("h1"))
     third = register(ann, "authentication", "ann", "partner interface")
-    ann.does("activate", f"activate {third}")
+    ann.does(f"activate {third}")
     expect("Active" in ann.text("h1"), ann.text("h1"))
     return third
 
 
 def periods(ann, office):
     """The office sets a period. A page with an older list foretells otherwise, and shows what the register said."""
-    ann.desk.list()
+    ann.desk.make_list()
     ann.reload()
     office.open("periods")
-    office.does("set-period", "set-period master 6 0", [
+    office.does("set-period master 6 0", [
         ("Type", "master"), ("Months of protecting (originator use)", "6"),
         ("Months of processing after (recipient use)", "0")])
     expect("master 6 0 set by office" in office.text(), office.text())
@@ -135,16 +118,16 @@ def periods(ann, office):
     ann.open("register")
     fields = [("Type", "master"), ("Owner", "ann"), ("Purpose", "root"), ("Activation (UTC)", "2026-08-31T12:00:00"),
               ("Protect Stop (UTC)", "2027-03-01T12:00:00")]
-    foretold = ann.submit("register", fields)[1]
+    foretold = ann.submit("register", fields)
     expect("Would be accepted" in foretold, foretold)
     # Six months from the last of August is the last of February, in UTC and in the reader's time.
-    refused(ann, "PeriodTooLong", "2027-02-28 12:00:00 UTC", "Feb 28, 2027, 08:30:00 AM")
-    ann.desk.list()
+    ann.refused("PeriodTooLong", "2027-02-28 12:00:00 UTC", "Feb 28, 2027, 08:30:00 AM")
+    ann.desk.make_list()
     ann.reload()
     ann.open("register")
-    foretold = ann.submit("register", fields)[1]
+    foretold = ann.submit("register", fields)
     expect("Would be refused" in foretold and "2027-02-28 12:00:00 UTC" in foretold, foretold)
-    refused(ann, "PeriodTooLong")
+    ann.refused("PeriodTooLong")
 
 
 def moved_on(bob, key):
@@ -152,8 +135,7 @@ def moved_on(bob, key):
     bob.key(key)
     bob.forget()
     bob.one("button.advance").click()
-    is_accepted, told = bob.answer("advance")
-    expect(is_accepted and "as of" in told, told)
+    bob.accepted("advance", "as of")
     rows = [row.text for row in bob.find("section.usage tbody tr")]
     expect(len(rows) == 2 and all(" yes yes " in row for row in rows), f"the two answers are {rows}")
 
@@ -162,7 +144,7 @@ def moved_on(bob, key):
 
 def keys_of(file):
     """The keys of the register's tables by their numbers, by SQLite."""
-    with contextlib.closing(sqlite3.connect(f"file:{file}?mode=ro", uri=True)) as connection:
+    with database(file) as connection:
         rows = connection.execute("SELECT number, kind, owner, purpose, initial, activation, protect_stop, "
                                   "deactivation, destroyed, compromised FROM keys ORDER BY number").fetchall()
         custodians = connection.execute("SELECT key_no, name FROM custodian").fetchall()
@@ -171,7 +153,7 @@ def keys_of(file):
     keys = {}
     for number, kind, owner, purpose, initial, *cells in rows:
         dates = [None if cell == UNSET else cell for cell in cells]
-        names, approved = ({name for key, name in found if key == number} for found in (custodians, approvals))
+        names, approved = ({name for key, name in pairs if key == number} for pairs in (custodians, approvals))
         keys[number] = Key(TYPES[kind], owner, purpose, initial, *dates, custodians=names, approvals=approved,
                            need=needs.get(number, 2))
     return keys
@@ -197,21 +179,18 @@ def finds(reader, file):
         **{f"state={STATES[code]}": [number for number in keys if states[number] == code] for code in ALL},
     }
     for asked, numbers in wanted.items():
-        reader.open("register")
-        reader.open(f"find?{asked}" if asked else "find")
-        found = [cell.text for cell in reader.find("table.cards td:first-child")]
+        reader.anew(f"find?{asked}" if asked else "find")
         texts = [str(number) for number in numbers][:50]
         reader.wait(lambda: [cell.text for cell in reader.find("table.cards td:first-child")] == texts,
-                    f"{asked} finds {found}, and should find {texts}", 3)
-    reader.open("register")
-    reader.open("find")
+                    f"{asked} does not find {texts}", 3)
+    reader.anew("find")
     for row in reader.find("table.cards tbody tr"):
         cells = row.find_elements(By.TAG_NAME, "td")
         number, shown = cells[0].text, cells[1].text
         expect(shown.split(" ", 1)[1] == STATES[states[int(number)]], f"{number} is shown as {shown}")
     box = reader.one("input[type='search']")
     box.send_keys("2\n")
-    reader.wait(lambda: reader.text("h1").startswith("Key 2"), "a number does not lead to its key")
+    reader.says("Key 2", "h1")
 
 
 # ---- a table
@@ -232,29 +211,37 @@ def table_text(good):
 
 
 def wrong_files(reader, folder):
-    """Files that are no table are told by name, and nothing is sent."""
+    """Of files that are no table it is said why, and nothing is sent."""
     files = (("utf16.csv", HEAD.encode("utf-16"), "no UTF-8"), ("other.csv", b"a,b\n", "header row"),
              ("tabs.csv", HEAD.replace(",", "\t").encode(), "header row"), ("empty.csv", b"", "header row is empty"))
-    for name, given, told in files:
+    for name, given, why in files:
         pathlib.Path(folder, name).write_bytes(given)
-        reader.open("find")
-        reader.open("table")
+        reader.anew("table")
         reader.one("input[type='file']").send_keys(os.path.join(folder, name))
-        reader.wait(lambda: told in reader.text(), f"{name} is not told: {told}")
+        reader.says(why)
 
 
 def chosen(reader, folder, text):
     """A table's file is chosen on its page."""
     pathlib.Path(folder, "keys.csv").write_text(text, encoding="utf-8")
-    reader.open("find")
-    reader.open("table")
+    reader.anew("table")
     reader.one("input[type='file']").send_keys(os.path.join(folder, "keys.csv"))
-    reader.wait(lambda: "judged before" in reader.text(), "the rows are not shown")
+    reader.says("judged before")
 
 
 def put_away(reader):
-    reader.one(".buttons button", lambda button: button.text == "Put the table away").click()
+    reader.press("Put the table away")
     reader.one("input[type='file']")
+
+
+def given_back(reader, folder):
+    """The table that the page gives back of the rows that are not registered."""
+    back = pathlib.Path(folder, "not-registered-keys.csv")
+    back.unlink(missing_ok=True)
+    reader.one("a.button").click()
+    reader.wait(lambda: back.exists() and back.stat().st_size, "nothing is given back")
+    time.sleep(0.3)
+    return back.read_text(encoding="utf-8")
 
 
 def taken_in(reader, folder, good=40):
@@ -263,49 +250,41 @@ def taken_in(reader, folder, good=40):
     text, wanted, bad = table_text(good)
     reader.driver.execute_cdp_cmd("Browser.setDownloadBehavior", {"behavior": "allow", "downloadPath": folder})
     chosen(reader, folder, text)
-    judged = (f"{good + 7} rows, judged before they are sent: {good} would be accepted, 1 refused, 6 of another form, "
-              "0 there already, 0 repeated, 0 changed by a spreadsheet")
-    reader.wait(lambda: judged in reader.text(), "the rows are not judged")
+    reader.says(f"{good + 7} rows, judged before they are sent: {good} would be accepted, 1 refused, "
+                "6 of another form, 0 there already, 0 repeated, 0 changed by a spreadsheet")
     # A row that the page would not send is sent all the same where the reader wants it.
     order = next(row for row in reader.find("table.rows tbody tr") if "another order" in row.text)
     order.find_element(By.TAG_NAME, "input").click()
     # So that it is stopped before it ends.
     reader.desk.line.delay = 0.2
-    reader.one(".buttons button.send", lambda button: button.text == f"Send {good + 1} rows").click()
+    reader.press(f"Send {good + 1} rows")
     reader.wait(lambda: " 3 accepted" in reader.text() or "accepted: key" in reader.text(), "no row is accepted")
-    reader.one(".buttons button", lambda button: button.text == "Stop").click()
-    reader.one(".buttons button", lambda button: button.text == "Go on")
+    reader.press("Stop")
+    reader.says("Go on", ".buttons")
     reader.desk.line.delay = 0.0
     stopped = len(reader.find("table.rows tr.accepted"))
     expect(0 < stopped < good, f"it was stopped after {stopped} rows")
     reader.reload()
-    reader.one(".buttons button", lambda button: button.text == "Go on").click()
-    told = f"{good + 1} of {good + 1} rows answered: {good} accepted, 1 refused"
-    reader.wait(lambda: told in reader.text(), "the rest is not sent", 60)
+    reader.press("Go on")
+    reader.says(f"{good + 1} of {good + 1} rows answered: {good} accepted, 1 refused", patience=60)
     accepted = len(reader.find("table.rows tr.accepted"))
     expect(accepted == good, f"{accepted} rows are shown as accepted, and {good} should be")
     reader.said += [(reader.user, None, command) for command in wanted]
-    reader.one("a.button").click()
-    back = pathlib.Path(folder, "not-registered-keys.csv")
-    reader.wait(back.exists, "nothing is given back")
-    time.sleep(0.3)
-    with open(back, encoding="utf-8", newline="") as text:
-        header, *rows = csv.reader(text)
+    back = given_back(reader, folder)
+    header, *rows = csv.reader(back.splitlines())
     expect(",".join(header) == HEAD.rstrip() + ",reason", f"the header row that is given back is {header}")
     wanted = [row + [""] * (6 - len(row)) for row in csv.reader(bad)]
     expect(sorted(row[:6] for row in rows) == sorted(wanted), f"given back were {rows}")
     for row in rows:
         expect(any(word in row[6] for word in ("of another form: ", "refused: DateOrder: ")), f"no reason in {row}")
     put_away(reader)
-    chosen(reader, folder, back.read_text(encoding="utf-8"))
-    reader.wait(lambda: "7 rows, judged before they are sent: 0 would be accepted, 1 refused, 6 of another form" in
-                reader.text(), "what was given back is no table")
+    chosen(reader, folder, back)
+    reader.says("7 rows, judged before they are sent: 0 would be accepted, 1 refused, 6 of another form")
     put_away(reader)
 
 
-def whole_day(readers, folder):
+def whole_day(ann, bob, cat, office, folder):
     """All of it, as four users."""
-    ann, bob, cat, office = readers.values()
     destroyed(ann, bob, cat)
     custody(ann, bob, cat)
     third = dates(ann, cat)
@@ -313,4 +292,4 @@ def whole_day(readers, folder):
     moved_on(bob, third)
     taken_in(ann, folder)
     # After the last list, which has the key as Active.
-    ann.key(third).does("revoke", f"revoke {third} 1 -", [("Reason", "1")])
+    ann.key(third).does(f"revoke {third} 1 -", [("Reason", "1")])

@@ -6,7 +6,6 @@ the register has then, and the console has no error. Firefox is led by its own M
 
 It needs Debian's firefox-esr and nginx-light. Build the program first: ./keyreg </dev/null
 """
-import argparse
 import base64
 import contextlib
 import json
@@ -16,13 +15,12 @@ import shutil
 import socket
 import subprocess
 import sys
-import tempfile
 import time
 
 sys.path.insert(1, str(pathlib.Path(__file__).resolve().parents[1] / "shared"))
 from nginx import HOST
 from parts import Desk, PASSWORDS
-from script import expect, in_memory
+from script import expect, fresh_folder, options, verdict
 from serving import free_port
 
 USER, PURPOSE = "ann", "a key of another browser"
@@ -41,7 +39,7 @@ ELEMENT = "element-6066-11e4-a52e-4f735466cecf"
 class Firefox:
     """A Firefox without a screen. Each call is one of the WebDriver standard, by the Marionette protocol."""
 
-    def __init__(self, folder: str) -> None:
+    def __init__(self, folder: pathlib.Path) -> None:
         self.port, self.calls = free_port(), 0
         profile = pathlib.Path(folder, "profile")
         profile.mkdir()
@@ -50,7 +48,7 @@ class Firefox:
             "".join(f"user_pref({json.dumps(name)}, {json.dumps(value)});\n" for name, value in lines), "ascii")
         program = shutil.which("firefox-esr") or shutil.which("firefox")
         expect(program, "Firefox is not installed: apt-get install firefox-esr")
-        environment = {**os.environ, "HOME": folder, "MOZ_HEADLESS": "1", "TZ": "UTC"}
+        environment = {**os.environ, "HOME": str(folder), "MOZ_HEADLESS": "1", "TZ": "UTC"}
         self.process = subprocess.Popen([program, "--marionette", "--no-remote", "--profile", str(profile)],
                                         env=environment, stdout=subprocess.DEVNULL, stderr=subprocess.DEVNULL)
         self.line = self.connected()
@@ -136,10 +134,8 @@ def registered(firefox: Firefox, address: str) -> None:
 
 
 def main() -> None:
-    words = argparse.ArgumentParser(description="The desk in Firefox.")
-    words.add_argument("--screenshot", metavar="FILE")
-    screenshot = words.parse_args().screenshot
-    with tempfile.TemporaryDirectory(dir=in_memory(2**28)) as folder, contextlib.ExitStack() as stack:
+    screenshot = options(__doc__, screenshot="").screenshot
+    with fresh_folder(2**28) as folder, contextlib.ExitStack() as stack:
         os.chmod(folder, 0o755)
         desk = Desk(folder)
         stack.callback(desk.close)
@@ -151,8 +147,7 @@ def main() -> None:
         rows = [(caller, command) for caller, _, command in desk.requests()]
         wanted = [(USER, f"register data-encryption {USER} 1801470600 - - {PURPOSE}")]
         expect(rows == wanted, f"the register has {rows}")
-    print("in Firefox the first page comes, and a key is registered")
+    verdict("in Firefox the first page comes, and a key is registered")
 
 
-if __name__ == "__main__":
-    sys.exit(main())
+main()

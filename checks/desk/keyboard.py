@@ -48,11 +48,11 @@ class Hands:
             met = self.reader.run(MET)
             if met["isPage"]:
                 break
-            told = f"{self.reader.user}: by Tab to {name!r}, at {met['html']}"
-            expect(met["isAfter"], f"{told}: it stands before the last one")
+            where = f"{self.reader.user}: by Tab to {name!r}, at {met['html']}"
+            expect(met["isAfter"], f"{where}: it stands before the last one")
             expect(not met["outline"].startswith("none") and not met["outline"].endswith(" 0px"),
-                   f"{told}: no focus is seen: {met['outline']}")
-            expect(met["isOnScreen"], f"{told}: it is not on the screen")
+                   f"{where}: no focus is seen: {met['outline']}")
+            expect(met["isOnScreen"], f"{where}: it is not on the screen")
             way.append(self.reader.driver.switch_to.active_element.accessible_name)
             if way[-1] == name:
                 self.met += 1
@@ -72,7 +72,7 @@ class Hands:
         self.begin()
         self.to("Number, owner, type or purpose")
         self.press(str(number), Keys.ENTER)
-        self.reader.wait(lambda: "As the register told it" in self.reader.text(), f"key {number} does not come")
+        self.reader.says("As the register told it")
 
     def open(self, title):
         """Unfolds a form of the key's page."""
@@ -84,13 +84,12 @@ class Hands:
         self.to(button)
         place = self.reader.driver.switch_to.active_element
         expect(place.tag_name == "button", f"{self.reader.user}: {button!r} is a {place.tag_name}")
-        told = self.reader.run("return arguments[0].closest('form')?.querySelector('.foretold').textContent", place)
-        expect("Would be accepted" in (told or ""), f"{button}: the page foretells {told}")
+        foretold = self.reader.run("return arguments[0].closest('form')?.querySelector('.foretold').textContent", place)
+        expect("Would be accepted" in (foretold or ""), f"{button}: the page foretells {foretold}")
         self.reader.run("document.querySelector('#said .answer')?.setAttribute('data-old', '')")
         self.press(Keys.ENTER)
-        self.reader.wait(lambda: self.reader.find("#said .answer:not([data-old])"), f"{button}: no answer is told", 40)
-        is_accepted, told = self.reader.answer(command)
-        expect(is_accepted, f"{self.reader.user}, {button}: {told}")
+        self.reader.wait(lambda: self.reader.find("#said .answer:not([data-old])"), f"{button}: there is no answer", 40)
+        self.reader.accepted(command)
 
 
 def typed_date(date):
@@ -141,7 +140,7 @@ def life(ann, bob, cat):
     hands.press(Keys.SPACE)
     hands.send("Revoke", f"revoke {key} 5 -")
     expect("Deactivated" in ann.text("h1"), ann.text("h1"))
-    ann.desk.list()
+    ann.desk.make_list()
     others[0].key(key)
     others[0].open("Approve the destruction")
     others[0].send("Approve the destruction", f"approve {key}")
@@ -149,7 +148,7 @@ def life(ann, bob, cat):
     others[1].page("Waiting for you", "waits")
     others[1].to(str(key))
     others[1].press(Keys.ENTER)
-    cat.wait(lambda: "As the register told it" in cat.text(), f"key {key} does not come")
+    cat.says("As the register told it")
     others[1].open("Approve the destruction")
     others[1].send("Approve the destruction", f"approve {key}")
     hands.key(key)

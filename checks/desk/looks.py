@@ -1,23 +1,18 @@
 """How the desk looks: what Chromium's accessibility tree says of each page, contrast, focus, widths, dark and print;
 and how fast it is with 100,000 keys."""
 import base64
-import contextlib
 import os
 import pathlib
-import sqlite3
-import struct
 import time
-import zlib
 from typing import NamedTuple
 
-from parts import By
-from registers import TABLES, UNSET, VERSION, put_rows
+from browser import as_seen, as_usual, print_page
+from registers import TABLES, UNSET, VERSION, database, put_rows
 from script import expect
 
 WIDTHS = (320, 380, 800, 1200)
 NAMED = {"button", "link", "textbox", "searchbox", "combobox", "checkbox", "spinbutton", "img", "image", "progressbar",
-         "Date",
-         "DateTime", "InputTime", "navigation", "table", "form", "dialog"}
+         "Date", "DateTime", "InputTime", "navigation", "table", "form", "dialog"}
 # Texts whose contrast with what they stand on is below 4.5 to 1, by what Chromium computes.
 FAINT = """
 const parts = (colour) => colour.match(/[0-9.]+/g).map(Number);
@@ -44,15 +39,6 @@ for (const place of document.querySelectorAll("body *")) {
 }
 return faint;
 """
-
-
-def as_seen(reader, width, height=1400, dark=False, printed=False):
-    """The page at a width, light or dark, on a screen or on paper."""
-    scheme = [{"name": "prefers-color-scheme", "value": "dark" if dark else "light"}]
-    reader.driver.execute_cdp_cmd("Emulation.setEmulatedMedia",
-                                  {"media": "print" if printed else "screen", "features": scheme})
-    reader.driver.execute_cdp_cmd("Emulation.setDeviceMetricsOverride", {
-        "width": width, "height": height, "deviceScaleFactor": 1, "mobile": False})
 
 
 def named(reader, page):
@@ -105,12 +91,12 @@ def focused(reader, page):
 def looked_at(reader, page, folder=None):
     """Looks at the page as it stands at three widths, light and dark and printed; a picture of each goes into the
     folder, and the page as it goes to a printer."""
-    as_seen(reader, 1000)
+    as_seen(reader.driver, 1000)
     parts = named(reader, page)
     focused(reader, page)
     for width in WIDTHS:
         for dark, printed in ((False, False), (True, False), (False, True)):
-            as_seen(reader, width, dark=dark, printed=printed)
+            as_seen(reader.driver, width, dark=dark, printed=printed)
             where = f"{page} at {width}{' dark' * dark}{' printed' * printed}"
             faint = reader.run(FAINT)
             expect(not faint, f"{where}: faint are {faint[:5]}")
@@ -118,11 +104,10 @@ def looked_at(reader, page, folder=None):
             expect(wide <= 0, f"{where}: it is {wide} pixels wider than the screen")
             if folder:
                 picture(reader, os.path.join(folder, where.replace(" ", "-") + ".png"))
-    as_seen(reader, 1000)
+    as_seen(reader.driver, 1000)
     if folder:
-        reader.driver.execute_cdp_cmd("Emulation.setEmulatedMedia", {"media": ""})
-        paper = reader.driver.execute_cdp_cmd("Page.printToPDF", {"paperWidth": 8.27, "paperHeight": 11.69})
-        pathlib.Path(folder, f"{page}.pdf").write_bytes(base64.b64decode(paper["data"]))
+        as_usual(reader.driver)
+        print_page(reader.driver, os.path.join(folder, f"{page}.pdf"), paperWidth=8.27, paperHeight=11.69)
     return parts
 
 
@@ -130,10 +115,9 @@ def all_pages(reader, pages, folder=None):
     """Looks at each page."""
     parts = 0
     for page, address in pages.items():
-        reader.open("find")
-        reader.open(address)
+        reader.anew(address)
         if address.startswith("key/"):
-            reader.wait(lambda: "As the register told it" in reader.text(), f"{address} does not come")
+            reader.says("As the register told it")
             # All forms at once, which a reader has one by one.
             reader.run("document.querySelectorAll('details').forEach((one) => {"
                        "one.removeAttribute('name'); one.open = true; })")
@@ -145,48 +129,8 @@ def picture(reader, place, height=None):
     """The whole page, or its first pixels, as a PNG."""
     size = reader.run("return [window.innerWidth, document.scrollingElement.scrollHeight]")
     clip = {"x": 0, "y": 0, "width": size[0], "height": height or size[1], "scale": 1}
-    told = reader.driver.execute_cdp_cmd("Page.captureScreenshot", {"clip": clip, "captureBeyondViewport": True})
-    pathlib.Path(place).write_bytes(base64.b64decode(told["data"]))
-
-
-def unfiltered(raw, width):
-    """The rows of a PNG's bytes, three to a pixel, without their filters."""
-    rows, above, size = [], bytes(3 * width), 3 * width
-    for start in range(0, len(raw), size + 1):
-        way, row = raw[start], bytearray(raw[start + 1:start + 1 + size])
-        for place in range(size):
-            left, up = row[place - 3] if place > 2 else 0, above[place]
-            corner = above[place - 3] if place > 2 else 0
-            guess = min((abs(up - corner), 0, left), (abs(left - corner), 1, up),
-                        (abs(left + up - 2 * corner), 2, corner))[2]
-            row[place] = (row[place] + (0, left, up, (left + up) // 2, guess)[way]) & 255
-        rows.append(bytes(row))
-        above = row
-    return rows
-
-
-def put_in_few_colours(place):
-    """Writes a PNG of three bytes a pixel anew with one, in at most 256 colours: a third of its size."""
-    given, at, parts = pathlib.Path(place).read_bytes(), 8, []
-    while at < len(given):
-        length, name = struct.unpack(">I4s", given[at:at + 8])
-        parts.append((name, given[at + 8:at + 8 + length]))
-        at += 12 + length
-    width, height, depth, kind = struct.unpack(">IIBB", dict(parts)[b"IHDR"][:10])
-    expect((depth, kind) == (8, 2), f"{place} has {depth} bits of kind {kind}")
-    rows = unfiltered(zlib.decompress(b"".join(data for name, data in parts if name == b"IDAT")), width)
-    # Each part of a colour has 8 steps, so that there are at most 256 of those that are there.
-    few = bytes(round(value / 255 * 7) * 255 // 7 for value in range(256))
-    rows = [row.translate(few) for row in rows]
-    colours = sorted({row[at:at + 3] for row in rows for at in range(0, 3 * width, 3)})
-    expect(len(colours) <= 256, f"{place} has {len(colours)} colours")
-    codes = {colour: code for code, colour in enumerate(colours)}
-    raw = b"".join(b"\0" + bytes(codes[row[at:at + 3]] for at in range(0, 3 * width, 3)) for row in rows)
-    made = [(b"IHDR", struct.pack(">IIBBBBB", width, height, 8, 3, 0, 0, 0)), (b"PLTE", b"".join(colours)),
-            (b"IDAT", zlib.compress(raw, 9)), (b"IEND", b"")]
-    told = [struct.pack(">I", len(data)) + name + data + struct.pack(">I", zlib.crc32(name + data))
-            for name, data in made]
-    pathlib.Path(place).write_bytes(given[:8] + b"".join(told))
+    shot = reader.driver.execute_cdp_cmd("Page.captureScreenshot", {"clip": clip, "captureBeyondViewport": True})
+    pathlib.Path(place).write_bytes(base64.b64decode(shot["data"]))
 
 
 # ---- 100,000 keys
@@ -198,7 +142,7 @@ TIMES = 20
 
 def many(file, count=KEYS):
     """The tables of a large office, by SQLite: each key has two custodians, an approval and five requests."""
-    with contextlib.closing(sqlite3.connect(file)) as connection:
+    with database(file) as connection:
         connection.executescript("PRAGMA synchronous = OFF; PRAGMA journal_mode = OFF;" + TABLES)
         keys, custodians, requests = [], [], []
         for key in range(1, count + 1):
@@ -208,16 +152,15 @@ def many(file, count=KEYS):
             names = (f"officer-{key % 30}", f"officer-{key % 30 + 30}")
             keys.append((key, 1, owner, purpose, 2, moment, *dates, UNSET, UNSET, UNSET))
             custodians += [(key, name) for name in names]
-            told = (f"register data-encryption {owner} - - - {purpose}", f"set {key} {dates[0]} = -",
-                    *(f"add-custodian {key} {name}" for name in names))
-            requests += [(owner, 10 * key + place, text, key, 2, moment) for place, text in enumerate(told)]
+            commands = (f"register data-encryption {owner} - - - {purpose}", f"set {key} {dates[0]} = -",
+                        *(f"add-custodian {key} {name}" for name in names))
+            requests += [(owner, 10 * key + place, text, key, 2, moment) for place, text in enumerate(commands)]
             requests.append((names[0], key, f"approve {key}", key, 2, moment))
         connection.execute("INSERT INTO meta VALUES (1, ?, ?, ?)", (VERSION, BEGUN + count, count))
         put_rows(connection, "keys", keys)
         put_rows(connection, "custodian", custodians)
         put_rows(connection, "approval", custodians[::2])
         put_rows(connection, "request", requests)
-        connection.commit()
 
 
 LETTER = """const [box, text, done] = arguments; const begun = performance.now();
@@ -229,13 +172,12 @@ def letter_times(reader, count):
     """The milliseconds of each letter on a page that comes anew. Other work of the machine takes its time too: the best
     of some pages counts."""
     reader.reload()
-    reader.wait(lambda: f"{count} of {count} keys" in reader.text(), "the list does not come", 60)
+    reader.says(f"{count} of {count} keys", patience=60)
     box = reader.one("input[type='search']")
     texts = ("h", "ha", "hall 9", "rack 7 team-3", "zzz", "", "5")
-    told = [reader.driver.execute_async_script(LETTER, box, text) for text in texts]
-    reader.open("register")
-    reader.open("find")
-    return told
+    times = [reader.driver.execute_async_script(LETTER, box, text) for text in texts]
+    reader.anew("find")
+    return times
 
 
 class Taken(NamedTuple):
@@ -252,11 +194,10 @@ def taken(desk, reader, folder, count):
     """What a list of so many keys takes. keyreg serves its own register."""
     file = os.path.join(folder, f"large_{count}.keyreg")
     many(file, count)
-    told = desk.list(file)
+    line = desk.make_list(file)
     reader.open("find")
-    reader.run("sessionStorage.clear()")
-    reader.driver.refresh()
-    reader.wait(lambda: f"{count} of {count} keys" in reader.text(), "the list does not come", 60)
+    reader.forget_all()
+    reader.says(f"{count} of {count} keys", patience=60)
     first = reader.run("return performance.getEntriesByName('shown')[0].startTime") / 1000
     packed = reader.run("return performance.getEntriesByType('resource')"
                         ".find((one) => one.name.endsWith('list.json')).encodedBodySize")
@@ -272,13 +213,12 @@ def taken(desk, reader, folder, count):
     reader.open("waits")
     expect(len(reader.find("h1")) == 1, "what waits does not come")
     searches.append(time.monotonic() - begun)
-    size = int(told.rsplit(" bytes", 1)[0].rsplit(" ", 1)[1])
+    size = int(line.rsplit(" bytes", 1)[0].rsplit(" ", 1)[1])
     return Taken(size, packed, first, max(searches), max(letters) / 1000)
 
 
-def large(desk, reader_of, folder):
+def large(desk, reader, folder):
     """What a list of 100,000 keys takes, beside one of a tenth."""
-    reader = reader_of("eve")
     few, all_of_them = (taken(desk, reader, folder, count) for count in (KEYS // 10, KEYS))
     expect(all_of_them.size <= 400 * KEYS and all_of_them.packed <= 80 * KEYS, f"the list is too large: {all_of_them}")
     late = [name for name in ("first", "search", "letter")
@@ -286,5 +226,3 @@ def large(desk, reader_of, folder):
     expect(not late, f"{late}: {KEYS} keys took {all_of_them}, and a tenth of them {few}")
     return all_of_them
 
-
-__all__ = ["By", "all_pages", "large", "looked_at", "picture"]

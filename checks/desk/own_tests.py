@@ -15,6 +15,7 @@ import sys
 
 sys.path.insert(1, str(pathlib.Path(__file__).resolve().parents[1] / "shared"))
 from places import DESK, TOP
+from script import expect, verdict
 
 PATIENCE = 50
 # Comments and texts, in which a name is no use of it.
@@ -53,8 +54,7 @@ def name_faults(modules: dict[str, str]) -> list[str]:
 def tests() -> tuple[int, str]:
     """How many tests passed, and what node wrote where one failed."""
     program = shutil.which("node") or shutil.which("nodejs")
-    if not program:
-        sys.exit("FAILED: node is not installed: apt-get install nodejs")
+    expect(program, "node is not installed: apt-get install nodejs")
     try:
         done = subprocess.run([program, "--test", "desk/"], cwd=TOP, capture_output=True, text=True, check=False,
                               timeout=PATIENCE)
@@ -65,16 +65,12 @@ def tests() -> tuple[int, str]:
     return count, "" if done.returncode == 0 and count else done.stdout[-4000:] + done.stderr[-1000:]
 
 
-def main() -> int:
+def main() -> None:
     modules = {path.name: path.read_text("utf-8") for path in sorted(DESK.glob("*.js"))}
     faults = name_faults(modules)
     count, failure = tests()
     faults += [failure] if failure else []
-    for fault in faults:
-        print(fault)
-    print(f"the desk: {len(modules)} modules, {count} tests passed, {len(faults)} faults")
-    return 1 if faults else 0
+    verdict(f"the desk: {len(modules)} modules, {count} tests passed, {len(faults)} faults", faults)
 
 
-if __name__ == "__main__":
-    sys.exit(main())
+main()

@@ -12,25 +12,22 @@ more are put to the program itself.
 
 It needs node 18 or later (Debian's `nodejs`). Build the program first: ./keyreg </dev/null
 """
-import argparse
 import collections
 import json
-import os
 import pathlib
 import random
 import re
 import shutil
 import subprocess
 import sys
-import tempfile
 from datetime import datetime, timezone
 
 sys.path.insert(1, str(pathlib.Path(__file__).resolve().parents[1] / "shared"))
-from places import TOP
+from places import DESK, read
 from answers import MEMBERS, reply_line, request_object, shown, usage
-from registers import STATES, keyreg
+from registers import STATES, new_register
 from register_rules import PERIODS, RANGES, REFUSALS, WHO, Refused, Register, Request, line
-from script import expect
+from script import expect, fresh_folder, options, verdict
 
 DAY, FIRST = 86400, 1_700_000_000
 # The last days of months, of leap years too: a month more has no such day often.
@@ -47,9 +44,9 @@ if (process.argv[2] === "tables") {
 } else {
   for await (const line of createInterface({input: process.stdin})) {
     const {command, caller, moment, latest, key, periods, count} = JSON.parse(line);
-    const told = rules.judged(command, {caller, moment, latest, key, periods, count}) ?? null;
+    const judged = rules.judged(command, {caller, moment, latest, key, periods, count}) ?? null;
     const shown = key && {state: rules.stateAt(key, moment), usage: rules.usageAt(key, moment)};
-    console.log(JSON.stringify({told, shown}));
+    console.log(JSON.stringify({judged, shown}));
   }
 }
 """
@@ -59,11 +56,11 @@ def node(word, given=""):
     """What node writes, line by line."""
     program = shutil.which("node") or shutil.which("nodejs")
     expect(program, "node is not installed: apt-get install nodejs")
-    with tempfile.TemporaryDirectory() as folder:
-        pathlib.Path(folder, "rules.mjs").write_bytes((TOP / "desk" / "rules.js").read_bytes())
-        pathlib.Path(folder, "judge.mjs").write_text(JUDGE, encoding="ascii")
-        done = subprocess.run([program, os.path.join(folder, "judge.mjs"), word], input=given, capture_output=True,
-                              text=True, check=False)
+    with fresh_folder() as folder:
+        (folder / "rules.mjs").write_bytes((DESK / "rules.js").read_bytes())
+        (folder / "judge.mjs").write_text(JUDGE, encoding="ascii")
+        done = subprocess.run([program, folder / "judge.mjs", word], input=given, capture_output=True, text=True,
+                              check=False)
     expect(done.returncode == 0, f"node: {done.stderr}")
     return [json.loads(row) for row in done.stdout.split("\n") if row]
 
@@ -92,18 +89,18 @@ def states_of(cell, all_states):
 
 def commands_of(text, all_states):
     """Who may give each command and in which states, by the desk's words for them."""
-    told = {}
+    commands = {}
     for name, who, states, *_ in rows_under(text, "| Command | Who | States |"):
         word = name.split(":")[0].lower().replace(" ", "-")
         word = {"set-dates": "set"}.get(word, word)
         word += " for compromise" * ("for compromise" in name)
-        told[word] = {"who": who.split()[-1], "states": states_of(states, all_states)}
-    return told
+        commands[word] = {"who": who.split()[-1], "states": states_of(states, all_states)}
+    return commands
 
 
 def look_at_tables(tables):
     """Compares what desk/rules.js exports with the document."""
-    text = (TOP / "docs" / "SPECIFICATION.md").read_text(encoding="utf-8")
+    text = read("docs/SPECIFICATION.md")
     states = re.search(r"The states are (.*?) and `([^`]*)` \(the", text, re.DOTALL)
     states = [*re.findall("`([^`]*)`", states[1]), states[2]]
     periods = {kind: [int(first), int(last)] for kinds, first, last in
@@ -115,10 +112,10 @@ def look_at_tables(tables):
     wanted = {"STATES": states, "PERIODS": periods, "REFUSALS": refusals, "REASONS": reasons,
               "COMMANDS": commands_of(text, states), "MEMBERS": members_of(text), "RANGES": ranges_of(text)}
     for name, value in wanted.items():
-        found = tables[name]
+        of_desk = tables[name]
         if name == "MEMBERS":
-            found = {word: sorted(members) for word, members in found.items()}
-        expect(found == value, f"{name} of desk/rules.js is\n  {found}\nand of the document\n  {value}")
+            of_desk = {word: sorted(members) for word, members in of_desk.items()}
+        expect(of_desk == value, f"{name} of desk/rules.js is\n  {of_desk}\nand of the document\n  {value}")
     look_at_rules(wanted)
     most = {"LAST_MOMENT": 253402300799, "GREATEST_NUMBER": 9007199254740991, "MOST_KEYS": 1000000}
     for name, value in most.items():
@@ -128,24 +125,22 @@ def look_at_tables(tables):
 
 
 def look_at_rules(wanted):
-    """Compares the tables of office/register_rules.py, and the members of checks/shared/answers.py, with the document."""
-    found = {"STATES": list(STATES.values())[1:], "PERIODS": {kind: list(months) for kind, months in PERIODS.items()},
-             "REFUSALS": {str(number): name for number, name in enumerate(REFUSALS, 1)},
-             "MEMBERS": {word: sorted(members) for word, members in MEMBERS.items()},
-             "RANGES": {form: list(RANGES[form]) for form in wanted["RANGES"]}}
-    for name, value in found.items():
+    """Compares the tables of office/register_rules.py and the members of checks/shared/answers.py with the document."""
+    tables = {"STATES": list(STATES.values())[1:], "PERIODS": {kind: list(months) for kind, months in PERIODS.items()},
+              "REFUSALS": {str(number): name for number, name in enumerate(REFUSALS, 1)},
+              "MEMBERS": {word: sorted(members) for word, members in MEMBERS.items()},
+              "RANGES": {form: list(RANGES[form]) for form in wanted["RANGES"]}}
+    for name, value in tables.items():
         expect(value == wanted[name], f"{name} of the rules is\n  {value}\nand of the document\n  {wanted[name]}")
-    who = {word: {"who": who, "states": [STATES[state] for state in states]} for word, (who, states) in WHO.items()}
-    expect(all(wanted["COMMANDS"][word] == told for word, told in who.items()), f"WHO of the rules is {who}")
+    rules = {word: {"who": who, "states": [STATES[state] for state in states]} for word, (who, states) in WHO.items()}
+    expect(all(wanted["COMMANDS"][word] == rule for word, rule in rules.items()), f"WHO of the rules is {rules}")
 
 
 def members_of(text):
     """The members of each command's JSON, in order of their bytes."""
-    told = {}
-    for kinds, members in rows_under(text, "| `kind` | The other members |"):
-        for kind in re.findall('`"([^"]*)"`', kinds):
-            told[kind] = sorted(set(re.findall("`([a-z_]*)`", members)))
-    return told
+    return {kind: sorted(set(re.findall("`([a-z_]*)`", members)))
+            for kinds, members in rows_under(text, "| `kind` | The other members |")
+            for kind in re.findall('`"([^"]*)"`', kinds)}
 
 
 def ranges_of(text):
@@ -238,11 +233,11 @@ def wanted_of(register, moment, caller, number, command, key):
     try:
         named = register.answer(Request(moment, caller, number, command)).key_no
     except Refused as refused:
-        return {"told": {"refused": refused.number, "name": refused.name, **refused.told}, **state}
+        return {"judged": {"refused": refused.number, "name": refused.name, **refused.details}, **state}
     after = shown(register, named) if named else None
     if command[0] == "register":
         del after["number"]
-    return {"told": {"key": after}, **state}
+    return {"judged": {"key": after}, **state}
 
 
 def judge_drawn(chance, count):
@@ -251,11 +246,11 @@ def judge_drawn(chance, count):
     for register, moment, caller, number, command, key in drawn(chance, count):
         requests.append(json.dumps(asked(register, moment, caller, command, key)))
         wanted.append(wanted_of(register, moment, caller, number, command, key))
-    found, counts = node("judge", "\n".join(requests) + "\n"), collections.Counter()
-    expect(len(found) == count, f"{len(found)} judgements of {count}")
-    for request, told, should_be in zip(requests, found, wanted):
-        expect(told == should_be, f"{request}\n  is judged\n{told}\n  and the rules say\n{should_be}")
-        counts[should_be["told"].get("name", "accepted")] += 1
+    judgements, counts = node("judge", "\n".join(requests) + "\n"), collections.Counter()
+    expect(len(judgements) == count, f"{len(judgements)} judgements of {count}")
+    for request, judgement, should_be in zip(requests, judgements, wanted):
+        expect(judgement == should_be, f"{request}\n  is judged\n{judgement}\n  and the rules say\n{should_be}")
+        counts[should_be["judged"].get("name", "accepted")] += 1
     return counts
 
 
@@ -266,22 +261,20 @@ def judge_by_program(chance, count):
         request = asked(register, moment, caller, command, key)
         said = reply_line(register, moment, caller, number, command)
         rows.append((line(moment, caller, number, command), json.dumps(request), said))
-    with tempfile.TemporaryDirectory() as folder:
-        file = os.path.join(folder, "drawn.keyreg")
-        keyreg(["init", "--file", file])
-        replies = keyreg(["run", "--file", file], [row[0] for row in rows])
-    found = node("judge", "\n".join(row[1] for row in rows) + "\n")
-    for (text, request, said), reply, judgement in zip(rows, replies, found):
+    with fresh_folder() as folder:
+        replies = new_register(folder / "drawn.keyreg", [row[0] for row in rows])
+    judgements = node("judge", "\n".join(row[1] for row in rows) + "\n")
+    for (text, request, said), reply, judgement in zip(rows, replies, judgements, strict=True):
         expect(reply == said, f"{text}: the program says {reply}, and the rules {said}")
-        told = judgement["told"]
-        if "refused" in told:
-            details = [f"{name}={value}" for name, value in told.items() if name not in ("refused", "name")]
-            judged = " ".join([f"refused {told['refused']} {told['name']}", *details])
-            expect(judged == reply, f"{request}: judged {judged}, and the program says {reply}")
+        judged = judgement["judged"]
+        if "refused" in judged:
+            details = [f"{name}={value}" for name, value in judged.items() if name not in ("refused", "name")]
+            judged_line = " ".join([f"refused {judged['refused']} {judged['name']}", *details])
+            expect(judged_line == reply, f"{request}: judged {judged_line}, and the program says {reply}")
         else:
-            state = told["key"]["state"] if told["key"] else "-"
+            state = judged["key"]["state"] if judged["key"] else "-"
             expect(reply.split()[0] == "ok" and reply.split()[2] == state,
-                   f"{request}: judged {told}, and it is {reply}")
+                   f"{request}: judged {judged}, and it is {reply}")
     return len(rows)
 
 
@@ -290,8 +283,7 @@ def look_at_forms():
     good = {"kind": "register", "type": "master", "owner": "bob", "activation": None, "protect_stop": None,
             "deactivation": None, "purpose": "x"}
     wrong = [{"type": "master2"}, {"type": "toString"}, {"owner": ""}, {"owner": "a b"}, {"owner": "x" * 65},
-             {"owner": "ü"},
-             {"owner": "bob\n"}, {"activation": -1}, {"activation": 253402300800}, {"activation": 1.5},
+             {"owner": "ü"}, {"owner": "bob\n"}, {"activation": -1}, {"activation": 253402300800}, {"activation": 1.5},
              {"activation": "keep"}, {"activation": "1"}, {"purpose": ""}, {"purpose": " x"}, {"purpose": "x "},
              {"purpose": "ü" * 101}, {"purpose": "a\tb"}, {"purpose": "a\x7f"}, {"purpose": "a\n"}]
     right = [{"owner": "x" * 64},
@@ -303,33 +295,29 @@ def look_at_forms():
                   {"kind": "revoke", "key": 1, "reason": 8, "occurrence": None},
                   {"kind": "set-period", "type": "master", "originator": 0, "recipient": 0},
                   {"kind": "set-period", "type": "master", "originator": 1, "recipient": 1201}]
-    bodies = [{**good, **one} for one in wrong] + more_wrong + [{**good, **one} for one in right]
+    bodies = [*({**good, **change} for change in wrong), *more_wrong, *({**good, **change} for change in right)]
     given = "\n".join(json.dumps({"command": body, "caller": "ann", "moment": 9, "latest": 0, "key": None,
-                                  "periods": {},
-                                  "count": 0}) for body in bodies)
-    for place, (body, found) in enumerate(zip(bodies, node("judge", given + "\n"))):
+                                  "periods": {}, "count": 0}) for body in bodies)
+    for place, (body, judgement) in enumerate(zip(bodies, node("judge", given + "\n"), strict=True)):
         is_wrong = place < len(bodies) - len(right)
-        expect((found["told"].get("refused") == 1) == is_wrong, f"{body} is judged {found}")
+        expect((judgement["judged"].get("refused") == 1) == is_wrong, f"{body} is judged {judgement}")
     return len(bodies)
 
 
 def main():
-    words = argparse.ArgumentParser(description="Holds desk/rules.js to the document and to the program.")
-    words.add_argument("--requests", type=int, default=10_000)
-    words.add_argument("--seed", type=int, default=69)
-    words = words.parse_args()
-    chance = random.Random(words.seed)
+    given = options(__doc__, requests=10_000, seed=69)
+    chance = random.Random(given.seed)
     tables = look_at_tables(node("tables")[0])
     forms = look_at_forms()
-    counts = judge_drawn(chance, words.requests)
+    counts = judge_drawn(chance, given.requests)
     never = set(REFUSALS) - set(counts)
     print(", ".join(f"{name} {count}" for name, count in counts.most_common()))
-    expect(counts["accepted"] > words.requests / 5, f"only {counts['accepted']} were accepted")
+    expect(counts["accepted"] > given.requests / 5, f"only {counts['accepted']} were accepted")
     # A page never judges that a number was used; and the ranges, a full register and the seventeenth name are rare.
     expect(never <= {"BadLine", "RequestReused", "Full", "TooManyCustodians"}, f"never drawn were {never}")
     by_program = judge_by_program(chance, 400)
-    print(f"desk/rules.js: {tables} tables are the document's; {forms} forms, {words.requests} judgements and "
-          f"{by_program} by the program agree")
+    verdict(f"desk/rules.js: {tables} tables are the document's; {forms} forms, {given.requests} judgements and "
+            f"{by_program} by the program agree")
 
 
 main()

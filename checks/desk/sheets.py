@@ -1,4 +1,4 @@
-"""A table that a spreadsheet changed, taken in: of each field the page tells what was made of which key's, no less than
+"""A table that a spreadsheet changed, taken in: of each field the page says what was made of which key's, no less than
 office/check_table.py, and sends none of these rows by itself."""
 import json
 import pathlib
@@ -31,10 +31,9 @@ def said(reader):
 
 
 def counted(reader, count):
-    """All rows are told as changed, and none is marked to be sent."""
-    told = (f"{count} rows, judged before they are sent: 0 would be accepted, 0 refused, 0 of another form, "
-            f"0 there already, 0 repeated, {count} changed by a spreadsheet")
-    reader.wait(lambda: told in reader.text(), f"it is not told: {told}", 10)
+    """All rows are shown as changed, and none is marked to be sent."""
+    reader.says(f"{count} rows, judged before they are sent: 0 would be accepted, 0 refused, 0 of another form, "
+                f"0 there already, 0 repeated, {count} changed by a spreadsheet", patience=10)
     expect(not reader.run("return [...document.querySelectorAll('.rows input')].some((one) => one.checked)"),
            "a row that a spreadsheet changed is marked to be sent")
 
@@ -51,18 +50,18 @@ def changed(reader, folder):
         put(register.table, table)
         chosen(reader, folder, pathlib.Path(register.table).read_text(encoding="utf-8"))
         counted(reader, len(given))
-        told = said(reader)
+        texts = said(reader)
         for place, (column, was, now, how) in enumerate(given):
-            text = told[place if table is rows else len(given) - 1 - place]
+            text = texts[place if table is rows else len(given) - 1 - place]
             for part in (f"of key {place + 1} {column} was ", how):
                 expect(part in text, f"{was!r} became {now!r}, and the page says {text!r}, without {part!r}")
         _, lines = checked(register.table, register.export)
-        found = [LINE.fullmatch(line) for line in lines[:-1]]
-        expect(len([line for line in found if line]) >= len(given), f"check_table.py says {lines}")
-        for line in filter(None, found):
-            text = told[int(line[1]) - 1]
-            expect(f"of key {line[2]} " in text and f"{line[3]} was " in text,
-                   f"check_table.py says {line[0]!r}, and the page {text!r}")
+        changes = [match for match in map(LINE.fullmatch, lines[:-1]) if match]
+        expect(len(changes) >= len(given), f"check_table.py says {lines}")
+        for change in changes:
+            text = texts[int(change[1]) - 1]
+            expect(f"of key {change[2]} " in text and f"{change[3]} was " in text,
+                   f"check_table.py says {change[0]!r}, and the page {text!r}")
         put_away(reader)
 
 
@@ -71,17 +70,16 @@ def alone(reader, folder):
     rows = [{**KEY, "owner": "zoe", "purpose": f"a new key {place}", column: text}
             for place, (column, text, _) in enumerate(ALONE)]
     chosen(reader, folder, HEAD + "".join(",".join(row[column] for column in COLUMNS) + "\n" for row in rows))
-    for (column, text, how), told in zip(ALONE, said(reader)):
-        expect(how in told and f"{column} is {text}" in told, f"of {text!r} the page says {told!r}, without {how!r}")
+    for (column, text, how), words in zip(ALONE, said(reader)):
+        expect(how in words and f"{column} is {text}" in words, f"of {text!r} the page says {words!r}, without {how!r}")
     put_away(reader)
 
 
 def with_list(reader, file=None):
     """The page with the list of another register, or of its own. No key is asked for meanwhile."""
     reader.open("find")
-    reader.desk.list(file)
-    reader.run("sessionStorage.clear()")
-    reader.reload()
+    reader.desk.make_list(file)
+    reader.forget_all()
 
 
 def all_tables(reader, folder):

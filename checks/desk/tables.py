@@ -2,10 +2,9 @@
 reasons are reached; a long table is sent as fast at its end as at its beginning and leaves the window's store room; and
 a page with a table half sent asks before it is left."""
 import csv
-import pathlib
 import time
 
-from day import HEAD, chosen, day, put_away, second
+from day import HEAD, chosen, day, given_back, put_away, second
 from script import expect
 
 SORTS = ("would be accepted", "refused", "of another form", "there already", "repeated", "changed by a spreadsheet")
@@ -14,16 +13,14 @@ SORTS = ("would be accepted", "refused", "of another form", "there already", "re
 def judged(reader, rows, *counts):
     """So many rows are shown, and so many of each sort."""
     sorts = ", ".join(f"{count} {sort}" for count, sort in zip((*counts, 0), SORTS))
-    words = f"{rows} row{'s' * (rows != 1)}, judged before they are sent: {sorts}"
-    reader.wait(lambda: words in reader.text(), f"the rows are not {words}: {reader.text()[:600]}", 60)
+    reader.says(f"{rows} row{'s' * (rows != 1)}, judged before they are sent: {sorts}", patience=60)
 
 
-def sent(reader, rows, patience=300):
+def sent(reader, rows):
     """Sends what is marked, and waits until it is answered."""
-    reader.one(".buttons button.send", lambda button: button.text == f"Send {rows} row{'s' * (rows != 1)}").click()
-    reader.wait(lambda: f"{rows} of {rows} rows answered" in reader.text(".progress"), "the rows are not answered",
-                patience)
-    reader.wait(lambda: "Put the table away" in reader.text(".buttons"), "sending does not end")
+    reader.press(f"Send {rows} row{'s' * (rows != 1)}")
+    reader.says(f"{rows} of {rows} rows answered", ".progress", 300)
+    reader.says("Put the table away", ".buttons")
 
 
 def both_of_spreadsheets(reader, folder):
@@ -49,13 +46,19 @@ def taken_twice(reader, folder):
     put_away(reader)
     for turn in ("at once", "after a reload", "with a newer list"):
         if turn == "with a newer list":
-            reader.desk.list()
+            reader.desk.make_list()
         if turn != "at once":
             reader.reload()
         chosen(reader, folder, text)
         judged(reader, 14, 0, 0, 0, 14, 0)
         expect(not reader.find(".rows input:checked"), f"{turn}: a row that is a key is marked to be sent")
         put_away(reader)
+
+
+def rows_shown(reader, which, holds):
+    """Shows the rows of one sort alone, whose numbers are as they should be."""
+    reader.fill(reader.one("main"), "Rows shown", which)
+    reader.wait(lambda: holds([row.text for row in reader.find("table.rows tbody th")]), f"not the rows {which}")
 
 
 def all_reached(reader, folder):
@@ -72,27 +75,18 @@ def all_reached(reader, folder):
     expect(len(reader.find("table.rows tbody tr")) == 300, "not all rows are reached")
     place = reader.run("return document.activeElement.closest('tr')?.querySelector('th')?.textContent")
     expect(place == "199", f"the focus is at row {place}, and the first that came is 199")
-    reader.fill(reader.one("main"), "Rows shown", "wrong")
-    reader.wait(lambda: [row.text for row in reader.find("table.rows tbody th")] == ["260"], "the filter does not hold")
+    rows_shown(reader, "wrong", lambda rows: rows == ["260"])
     expect("Master, which is none of the seven" in reader.text("table.rows"), reader.text("table.rows"))
-    reader.fill(reader.one("main"), "Rows shown", "refused")
-    reader.wait(lambda: [row.text for row in reader.find("table.rows tbody th")] == ["250"], "the filter does not hold")
-    reader.one(".marks button", lambda button: button.text == "Send these 1").click()
-    reader.fill(reader.one("main"), "Rows shown", "good")
-    reader.wait(lambda: len(reader.find("table.rows tbody th")) == 200, "the filter does not hold")
-    reader.one(".marks button", lambda button: button.text == "Leave these out").click()
+    rows_shown(reader, "refused", lambda rows: rows == ["250"])
+    reader.press("Send these 1")
+    rows_shown(reader, "good", lambda rows: len(rows) == 200)
+    reader.press("Leave these out")
     sent(reader, 1)
-    reader.one("a.button").click()
-    back = pathlib.Path(folder, "not-registered-keys.csv")
-    reader.wait(lambda: back.exists() and back.stat().st_size > 9000, "nothing is given back")
-    time.sleep(0.3)
-    with open(back, encoding="utf-8", newline="") as text:
-        reasons = {row["purpose"]: row["reason"] for row in csv.DictReader(text)}
+    reasons = {row["purpose"]: row["reason"] for row in csv.DictReader(given_back(reader, folder).splitlines())}
     expect(len(reasons) == 300, f"given back were {len(reasons)} rows")
     for purpose, words in (("row 250", "DateOrder: The dates have to be in order"), ("row 260", "none of the seven"),
                            ("row 1", "not sent")):
         expect(words in reasons[purpose], f"the reason of {purpose} is {reasons[purpose]!r}")
-    back.unlink()
     put_away(reader)
 
 
@@ -117,13 +111,13 @@ def asks_before(reader, folder):
     reader.desk.line.delay = 0.2
     reader.one(".buttons button.send").click()
     reader.wait(lambda: not reader.text(".progress .count").startswith("0 "), "no row is answered")
-    reader.one(".buttons button", lambda button: button.text == "Stop").click()
-    reader.one(".buttons button", lambda button: button.text == "Go on")
+    reader.press("Stop")
+    reader.says("Go on", ".buttons")
     reader.desk.line.delay = 0.0
     accepted = int(reader.text(".progress .count").split(" ")[0])
     expect(0 < accepted < 120 and reader.run(LEAVES), f"{accepted} of 120 rows are sent, and the page does not ask")
-    reader.one(".buttons button", lambda button: button.text == "Go on").click()
-    reader.wait(lambda: "120 of 120 rows answered" in reader.text(".progress"), "the rest is not sent", 200)
+    reader.press("Go on")
+    reader.says("120 of 120 rows answered", ".progress", 200)
     reader.said += [(reader.user, None, f"register master ann - - - half sent {place}") for place in range(120)]
     reader.wait(lambda: not reader.run(LEAVES), "the page asks when all is sent")
     put_away(reader)
@@ -137,10 +131,10 @@ def full_store(reader, folder):
     reader.run(FILLS)
     reader.forget()
     reader.one(".buttons button.send").click()
-    reader.wait(lambda: "store for this window is full" in reader.text("#said"), "a table stands still in silence")
+    reader.says("store for this window is full", "#said")
     reader.open("register")
     reader.submit("register", [("Type", "master"), ("Owner", "ann"), ("Purpose", "into a full store")])
-    reader.wait(lambda: "store for this window is full" in reader.text("#said"), "a form does nothing in silence")
+    reader.says("store for this window is full", "#said")
     expect(len(reader.desk.line.posts) == before, "a request was sent without its number being kept")
     reader.run(EMPTIES)
     reader.open("table")
@@ -154,24 +148,23 @@ def long_table(reader, folder, count):
     rows = [f"data-encryption,ann,{day(-5)}Z,,,{purpose}" for purpose in purposes]
     chosen(reader, folder, HEAD + "\n".join(rows) + "\n")
     judged(reader, count, count, 0, 0, 0, 0)
-    line, taken = reader.desk.line, []
+    line, rates = reader.desk.line, []
     before, keys_asked = len(line.posts), line.keys_asked
     reader.one(".buttons button.send").click()
     for part in range(1, 5):
         begun, first = time.monotonic(), len(line.posts)
         reader.wait(lambda part=part: len(line.posts) - before >= count * part // 4, "the rows are not sent", count)
-        taken.append((len(line.posts) - first) / (time.monotonic() - begun))
-    reader.wait(lambda: f"{count} of {count} rows answered: {count} accepted" in reader.text(".progress"),
-                "not all came", 60)
+        rates.append((len(line.posts) - first) / (time.monotonic() - begun))
+    reader.says(f"{count} of {count} rows answered: {count} accepted", ".progress", 60)
     exchanges = len(line.posts) - before + line.keys_asked - keys_asked
     expect(exchanges == count, f"{count} rows took {exchanges} exchanges")
     letters = reader.run("return Object.values(sessionStorage).reduce((sum, text) => sum + text.length, 0)")
     expect(letters < 150 * count, f"the store has {letters} letters of a table of {count} rows")
-    expect(taken[-1] >= taken[0] / 2, f"rows a second by quarters: {taken}")
+    expect(rates[-1] >= rates[0] / 2, f"rows a second by quarters: {rates}")
     reader.said += [(reader.user, None, f"register data-encryption ann {second(day(-5))} - - {purpose}")
                     for purpose in purposes]
     put_away(reader)
-    return (f"{count} rows were sent at {taken[0]:.0f} a second at first and {taken[-1]:.0f} at the end; "
+    return (f"{count} rows were sent at {rates[0]:.0f} a second at first and {rates[-1]:.0f} at the end; "
             f"the store has {letters} letters")
 
 

@@ -1,10 +1,12 @@
 """What was typed stays and is helped: a refusal leaves a form as it was, half a date is no date, a wrong value says
 what is wrong in it, names are offered and a new one is confirmed, and the focus is where the next key is typed. What
 is seen of keys stands whole, in its order, and says what is overdue."""
+import itertools
 import re
 import time
 
-from day import day, refused, register
+from browser import as_seen, as_usual
+from day import day, register, second
 from parts import By, Keys
 from script import expect
 
@@ -20,17 +22,16 @@ def value_of(reader, form, name):
 
 def stays(reader):
     """A refusal leaves the form of a registration, and one on a key's page, as they were."""
-    reader.open("find")
-    reader.open("register")
+    reader.anew("register")
     dates = [("Activation (UTC)", day(1)), ("Protect Stop (UTC)", day(9000))]
     reader.submit("register", [("Type", "master"), ("Owner", reader.user), ("Purpose", LONG), *dates])
-    refused(reader, "PeriodTooLong")
+    reader.refused("PeriodTooLong")
     form = reader.one("form.command.register")
     typed = [value_of(reader, form, name) for name in ("type", "owner", "purpose", "activation", "protect_stop")]
     expect(typed == ["master", reader.user, LONG, day(1), day(9000)], f"after a refusal the form has {typed}")
     key = register(reader, "master", reader.user, LONG)
     reader.submit("set", edits=[("set", day(9)), ("set", day(5)), ("keep", "")])
-    refused(reader, "DateOrder")
+    reader.refused("DateOrder")
     form = reader.one("form.command.set")
     typed = [value_of(reader, form, name) for name in ("activation-edit", "activation", "protect_stop-edit",
                                                        "protect_stop", "deactivation-edit")]
@@ -44,10 +45,10 @@ def answered_meanwhile(reader, key):
     reader.key(key)
     reader.desk.line.todo = ["503"]
     reader.submit("set-quorum", [("Approvals needed", "5")])
-    reader.wait(lambda: "Not answered yet" in reader.text("#kept"), "it is not told that a request waits")
+    reader.says("Not answered yet", "#kept")
     reader.open("register")
     reader.put(reader.one("form.command.register").find_element(By.NAME, "purpose"), LONG)
-    reader.answer(f"set-quorum {key} 5")
+    reader.accepted(f"set-quorum {key} 5")
     form = reader.one("form.command.register")
     expect(value_of(reader, form, "purpose") == LONG, "an answer to another request empties a form")
 
@@ -61,8 +62,7 @@ def typed_letters(reader, field, *keys):
 
 def half_a_date(reader):
     """A day whose time is not typed yet is said to be none, and nothing is foretold by it."""
-    reader.open("find")
-    reader.open("register")
+    reader.anew("register")
     form = reader.one("form.command.register")
     for name in ("owner", "purpose"):
         reader.put(form.find_element(By.NAME, name), reader.user)
@@ -85,8 +85,7 @@ WRONG = [("owner", "Müller", "ü is none of the ASCII letters"), ("owner", "two
 
 def wrong_values(reader):
     """A wrong value says which letter, or how many; an empty one is lacking."""
-    reader.open("find")
-    reader.open("register")
+    reader.anew("register")
     form = reader.one("form.command.register")
     for name, text, words in WRONG:
         reader.put(form.find_element(By.NAME, name), text)
@@ -102,7 +101,7 @@ def wrong_values(reader):
 def names_offered(reader, key):
     """Names that are known are offered. An unknown one is said, and not sent until it is confirmed."""
     register(reader, "master", "bob", "a key of another owner")
-    reader.desk.list()
+    reader.desk.make_list()
     reader.reload()
     reader.key(key)
     form = reader.form("assign")
@@ -125,8 +124,7 @@ def names_offered(reader, key):
 
 def found(reader):
     """The fields of a search: a part of an owner's name, a number of days that is none, and the focus after more."""
-    reader.open("register")
-    reader.open("find")
+    reader.anew("find")
     reader.wait(lambda: reader.text(".count").split(" ")[0] == reader.text(".count").split(" ")[2],
                 f"with nothing asked not all are found: {reader.text('.count')}")
     all_rows = len(reader.find("table.cards tbody tr"))
@@ -150,8 +148,7 @@ def found(reader):
 
 def closed(reader, key):
     """An answer that is closed gives the focus back to the page."""
-    reader.key(key).submit("set-quorum", [("Approvals needed", "3")])
-    reader.answer(f"set-quorum {key} 3")
+    reader.key(key).does(f"set-quorum {key} 3", [("Approvals needed", "3")])
     reader.one("#said button.close").send_keys(Keys.ENTER)
     expect(reader.run("return document.activeElement.id") == "main", "the focus is lost after an answer is closed")
 
@@ -172,14 +169,12 @@ BROKEN = """return [...document.querySelectorAll(".cards td")].filter((cell) => 
 def whole_cells(reader):
     """Numbers, types, states, moments and names stand whole beside long purposes, and a table wider than the page
     scrolls alone."""
-    reader.open("register")
-    reader.open("find")
+    reader.anew("find")
     for width in (900, 1200):
-        reader.driver.execute_cdp_cmd("Emulation.setDeviceMetricsOverride", {
-            "width": width, "height": 1400, "deviceScaleFactor": 1, "mobile": False})
+        as_seen(reader.driver, width)
         broken = reader.run(BROKEN)
         expect(not broken, f"at {width} wide {broken[:5]} break across lines")
-    reader.driver.execute_cdp_cmd("Emulation.clearDeviceMetricsOverride", {})
+    as_usual(reader.driver)
 
 
 def overdue_seen(reader):
@@ -188,7 +183,7 @@ def overdue_seen(reader):
     expect("overdue" in reader.text("h1"), f"its page says {reader.text('h1')}")
     kinds = [part.get_attribute("class") for part in reader.find(".line rect")]
     expect(kinds == ["protect", "process"], f"its line has {kinds}")
-    reader.desk.list()
+    reader.desk.make_list()
     reader.reload()
     reader.open(f"find?text={LONG.split(',', maxsplit=1)[0].replace(' ', '+')}")
     rows = {row.find_element(By.TAG_NAME, "a").text: row.text for row in reader.find("table.cards tbody tr")}
@@ -200,43 +195,41 @@ def overdue_seen(reader):
 def no_letters_meet(reader, key):
     """Letters of a line stand apart, also where dates coincide, and the bar of a compromised key does not protect."""
     other = register(reader, "private-signature", reader.user, LONG, day(-2))
-    reader.submit("revoke", [("Reason", "2"), ("Compromised since (UTC)", day(-3))])
-    reader.answer(f"revoke {other} 2 " + str(reader.run("return Date.parse(arguments[0] + 'Z') / 1000", day(-3))))
+    since = day(-3)
+    reader.does(f"revoke {other} 2 {second(since)}", [("Reason", "2"), ("Compromised since (UTC)", since)])
     for number in (key, other):
         reader.key(number)
         for width in (380, 1200):
-            reader.driver.execute_cdp_cmd("Emulation.setDeviceMetricsOverride", {
-                "width": width, "height": 1400, "deviceScaleFactor": 1, "mobile": False})
+            as_seen(reader.driver, width)
             boxes = reader.run("return [...document.querySelectorAll('.line text')].map((part) => {"
                                "const box = part.getBoundingClientRect();"
                                "return [part.textContent, box.left, box.right, box.top, box.bottom]; })")
-            for place, (text, left, right, top, bottom) in enumerate(boxes):
-                for other_text, *box in boxes[place + 1:]:
-                    apart = right <= box[0] or box[1] <= left or bottom - 3 <= box[2] or box[3] - 3 <= top
-                    expect(apart, f"key {number} at {width}: {text} and {other_text} stand on one another")
+            for (text, left, right, top, bottom), (other_text, *box) in itertools.combinations(boxes, 2):
+                apart = right <= box[0] or box[1] <= left or bottom - 3 <= box[2] or box[3] - 3 <= top
+                expect(apart, f"key {number} at {width}: {text} and {other_text} stand on one another")
     bars = reader.run("return [...document.querySelectorAll('.line rect')].map((bar) => [bar.getAttribute('class'),"
                       "bar.getBoundingClientRect().right])")
-    told = reader.run("return document.querySelector('.line text.now').getBoundingClientRect().right")
-    expect(all(right <= told + 2 for kind, right in bars if kind == "protect"), f"it protects beyond now: {bars}")
-    reader.driver.execute_cdp_cmd("Emulation.clearDeviceMetricsOverride", {})
+    now = reader.run("return document.querySelector('.line text.now').getBoundingClientRect().right")
+    expect(all(right <= now + 2 for kind, right in bars if kind == "protect"), f"it protects beyond now: {bars}")
+    as_usual(reader.driver)
 
 
 def order_kept(reader, other):
     """What waits keeps its order while a newer list comes, and a key is opened before it is approved."""
     keys = [register(other, "key-wrapping", other.user, f"keys that wait {place}") for place in range(3)]
     for key in keys:
-        other.key(key).does("add-custodian", f"add-custodian {key} {reader.user}", [("Custodian", reader.user)])
-    other.desk.list()
+        other.key(key).adds(key, reader.user)
+    other.desk.make_list()
     reader.reload()
     reader.open("waits")
     numbers = [link.text for link in reader.find("section.guarded tbody a")]
     third = reader.find("section.guarded tbody a")[2]
     reader.run("arguments[0].focus()", third)
-    other.key(keys[2]).does("add-custodian", f"add-custodian {keys[2]} cat", [("Custodian", "cat")])
+    other.key(keys[2]).adds(keys[2], "cat")
     time.sleep(1.1)
-    other.desk.list()
+    other.desk.make_list()
     reader.run("dispatchEvent(new Event('visibilitychange'))")
-    reader.wait(lambda: "A newer list is there" in reader.text("#newer"), "a newer list is not said")
+    reader.says("A newer list is there", "#newer")
     expect([link.text for link in reader.find("section.guarded tbody a")] == numbers, "what waits moved")
     expect(reader.run("return document.activeElement === arguments[0]", third), "the focus went")
     expect(not reader.find("main button.send"), "a press in the list approves")
@@ -244,9 +237,8 @@ def order_kept(reader, other):
     reader.wait(lambda: not reader.find("#newer button"), "the newer list is not shown")
 
 
-def all_typed(readers):
+def all_typed(ann, bob):
     """All of it."""
-    ann, bob = readers["ann"], readers["bob"]
     key = stays(ann)
     half_a_date(ann)
     wrong_values(ann)

@@ -1,5 +1,5 @@
-"""Who sends: a browser has one password for all its pages. Where another user's is given in it, the page that shows the
-first one sends nothing more, and what waited acts once, for its own user. Signing out makes the browser forget."""
+"""Who sends: a browser has one password for all its pages. Where another user's is given in it, the page that shows
+the first one sends nothing more, and what waited acts once, for its own user. Signing out makes the browser forget."""
 import base64
 import contextlib
 import http.client
@@ -16,6 +16,12 @@ def requests_of(desk):
     return [(caller, command) for caller, _, command in desk.requests()]
 
 
+def expect_since(desk, before, *rows):
+    """Since then these requests were accepted, and no other."""
+    now = requests_of(desk)
+    expect(now == [*before, *rows], f"accepted was {now[len(before):]}, not {rows}")
+
+
 def logs_in_beside(reader, user, is_seen=False):
     """Another page of the same browser is given another user's password. `is_seen` is whether the first page knows that
     it was left meanwhile; else it does not ask by itself who sends."""
@@ -24,7 +30,7 @@ def logs_in_beside(reader, user, is_seen=False):
         reader.run("document.addEventListener('visibilitychange', (event) => event.stopImmediatePropagation(), true);"
                    "for (let timer = setTimeout(() => {}); timer > 0; timer--) clearTimeout(timer);")
     reader.driver.switch_to.new_window("tab")
-    reader.driver.get(f"http://{user}:{PASSWORDS[user]}@{HOST}:{reader.desk.line.port}/me")
+    reader.log_in(user)
     expect(reader.text("body") == user, f"the other page is of {reader.text('body')!r}")
     reader.driver.close()
     reader.driver.switch_to.window(first)
@@ -32,8 +38,8 @@ def logs_in_beside(reader, user, is_seen=False):
 
 def is_stopped(reader):
     """The page says that nothing is sent any more, for whom it stands, and sends nothing."""
-    reader.wait(lambda: "sends as another user" in reader.text("#other"), "it is not said that another user sends")
-    expect(f"not as {reader.user}" in reader.text("#other"), reader.text("#other"))
+    words = reader.says("sends as another user", "#other")
+    expect(f"not as {reader.user}" in words, words)
 
 
 def goes_on_as(reader, user):
@@ -45,23 +51,20 @@ def goes_on_as(reader, user):
 
 def other_beside(reader):
     """A form was filled in; the other user logs in beside, and the form is sent: nothing acts."""
-    reader.open("find")
-    reader.open("register")
+    reader.anew("register")
     before = requests_of(reader.desk)
     logs_in_beside(reader, "office")
     reader.submit("register", [("Type", "master"), ("Owner", reader.user), ("Purpose", "in whose name")])
     is_stopped(reader)
     expect("Not answered yet" in reader.text("#kept"), "the request is not kept")
-    expect(requests_of(reader.desk) == before, f"accepted was {requests_of(reader.desk)[len(before):]}")
+    expect_since(reader.desk, before)
     goes_on_as(reader, "office")
     expect(f"It is of the user {reader.user}" in reader.text("#kept"), "whose request waits is not said")
     logs_in_beside(reader, reader.user, is_seen=True)
     reader.wait(lambda: reader.find("#other button"), "the page of the office goes on as another user")
     goes_on_as(reader, reader.user)
-    is_accepted, words = reader.answer(f"register master {reader.user} - - - in whose name")
-    expect(is_accepted, words)
-    row = (reader.user, f"register master {reader.user} - - - in whose name")
-    expect(requests_of(reader.desk) == [*before, row], f"accepted was {requests_of(reader.desk)[len(before):]}")
+    reader.accepted(f"register master {reader.user} - - - in whose name")
+    expect_since(reader.desk, before, (reader.user, f"register master {reader.user} - - - in whose name"))
 
 
 def kept_between(reader, key):
@@ -74,15 +77,13 @@ def kept_between(reader, key):
     logs_in_beside(reader, "office")
     reader.one("#kept button").click()
     is_stopped(reader)
-    row = (reader.user, f"add-custodian {key} bob")
-    expect(requests_of(reader.desk) == [*before, row], f"accepted was {requests_of(reader.desk)[len(before):]}")
+    expect_since(reader.desk, before, (reader.user, f"add-custodian {key} bob"))
     reader.desk.line.todo = []
     goes_on_as(reader, "office")
     logs_in_beside(reader, reader.user)
     reader.reload()
-    is_accepted, words = reader.answer(f"add-custodian {key} bob")
-    expect(is_accepted and number in words, words)
-    expect(requests_of(reader.desk) == [*before, row], f"accepted was {requests_of(reader.desk)[len(before):]}")
+    reader.accepted(f"add-custodian {key} bob", number)
+    expect_since(reader.desk, before, (reader.user, f"add-custodian {key} bob"))
 
 
 def before_a_page(reader):
@@ -113,14 +114,14 @@ def signs_out(reader):
     status, text = asked_to_sign_out(reader.desk, "office", reader.user)
     expect(status == 303, f"another user who signs in there gets {status}: {text}")
     reader.open("find")
-    reader.one("#who a", lambda link: link.text == "Sign out").click()
+    reader.press("Sign out", "#who a")
     # The browser asks for another password over an empty page, which is left unanswered here.
     reader.wait(lambda: "You:" not in reader.text("body"), "the page stands as it was")
     reader.driver.get(f"{reader.place}me")
     expect(reader.user not in reader.text("body"), "the browser still knows the password")
-    reader.driver.get(f"http://office:{PASSWORDS['office']}@{HOST}:{reader.desk.line.port}/sign-out?user={reader.user}")
-    reader.wait(lambda: "You: office" in reader.text("#who"), "another user does not come to the desk")
-    reader.driver.get(f"http://{reader.user}:{PASSWORDS[reader.user]}@{HOST}:{reader.desk.line.port}/me")
+    reader.log_in("office", f"sign-out?user={reader.user}")
+    reader.says("You: office", "#who")
+    reader.log_in(reader.user)
     reader.open("find")
 
 

@@ -13,14 +13,13 @@ def waiting(ann, bob, cat):
     purposes = ("wrapping keys of the vault in site A, that were replaced", "disks")
     keys = [register(ann, "key-wrapping", "ann", purpose) for purpose in purposes]
     for key in keys:
-        for name in ("bob", "cat"):
-            ann.key(key).does("add-custodian", f"add-custodian {key} {name}", [("Custodian", name)])
-    cat.key(keys[0]).does("approve", f"approve {keys[0]}")
+        ann.key(key).adds(key, "bob", "cat")
+    cat.key(keys[0]).does(f"approve {keys[0]}")
     own = register(bob, "authentication", "bob", "partner interface")
     for reader in (ann, cat):
-        bob.key(own).does("add-custodian", f"add-custodian {own} {reader.user}", [("Custodian", reader.user)])
-        reader.key(own).does("approve", f"approve {own}")
-    ann.desk.list()
+        bob.key(own).adds(own, reader.user)
+        reader.key(own).does(f"approve {own}")
+    ann.desk.make_list()
     bob.reload()
     bob.open("waits")
     for part, key in (("begun", keys[0]), ("guarded", keys[1]), ("destroyable", own)):
@@ -37,8 +36,8 @@ def answered(ann, folder):
     rows = [row.format(day(-9) + "Z", place) for place, row in enumerate(MIXED)]
     chosen(ann, folder, HEAD + "\n".join(rows) + "\n")
     ann.one("input[aria-label='send row 3']").click()
-    ann.one(".buttons button.send", lambda button: button.text == "Send 5 rows").click()
-    ann.wait(lambda: "5 of 5 rows answered: 4 accepted, 1 refused" in ann.text(), "the rows are not answered", 60)
+    ann.press("Send 5 rows")
+    ann.says("5 of 5 rows answered: 4 accepted, 1 refused", patience=60)
     sorts = [row.get_attribute("class") for row in ann.find("table.rows tbody tr")]
     expect(sorts == ["refused", "wrong", *["accepted"] * 4], f"the rows are {sorts}")
     ann.said += [(ann.user, None, f"register authentication ann {second(day(-9))} - - row {place} of the partners")
@@ -52,17 +51,16 @@ def unanswered(ann):
     key = register(ann, "master", "ann", "a key whose approvals are set")
     ann.desk.line.todo = ["503"] * 1000
     ann.submit("set-quorum", [("Approvals needed", "3")])
-    ann.wait(lambda: "Not answered yet" in ann.text("#kept"), "it is not told that a request waits")
+    ann.says("Not answered yet", "#kept")
     yield
     ann.desk.line.todo = []
     for button in ann.find("#kept button")[:1]:
         button.click()
-    expect(ann.answer(f"set-quorum {key} 3")[0], "what was not answered is not sent again")
+    ann.accepted(f"set-quorum {key} 3")
 
 
-def all_screens(readers, folder, pictures=None):
+def all_screens(ann, bob, cat, folder, pictures=None):
     """Looks at each; how many parts they have."""
-    ann, bob, cat = readers["ann"], readers["bob"], readers["cat"]
     waiting(ann, bob, cat)
     parts = looked_at(bob, "waits-with-entries", pictures)
     answered(ann, folder)

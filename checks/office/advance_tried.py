@@ -1,8 +1,9 @@
 #!/usr/bin/env python3
-"""An advance that office/units/keyreg-advance.service or the line of office/units/keyreg-advance.cron posts moves a served register on.
-Of a key whose Protect Stop has passed the usage says `protect` until then, and not any more after it. The command is run as it
-stands in the file, with the port of the check. One that comes twice in a second is one request, one that is refused fails, and
-each number is in its range. Where systemd-analyze is installed it has nothing to say of the units.
+"""An advance that keyreg-advance.service or the line of keyreg-advance.cron, both in office/units/, posts moves a
+served register on. Of a key whose Protect Stop has passed the usage says `protect` until then, and not any more after
+it. The command is run as it stands in the file, with the port of the check. One that comes twice in a second is one
+request, one that is refused fails, and each number is in its range. Where systemd-analyze is installed it has nothing
+to say of the units.
 
     checks/office/advance_tried.py [--year]
 
@@ -10,59 +11,55 @@ each number is in its range. Where systemd-analyze is installed it has nothing t
 
 Build the program first: ./keyreg </dev/null
 """
-import argparse
-import os
 import pathlib
 import re
 import shutil
-import sqlite3
 import subprocess
 import sys
-import tempfile
 import time
 
 sys.path.insert(1, str(pathlib.Path(__file__).resolve().parents[1] / "shared"))
-from places import UNITS as FOLDER
+from places import UNITS
 from client import Client
-from registers import keyreg
-from script import expect
+from registers import database, keyreg, new_register
+from register_rules import GREATEST_NUMBER
+from script import expect, fresh_folder, options, verdict
 from serving import Served
 
-UNITS = [FOLDER / f"keyreg-advance.{kind}" for kind in ("service", "timer")]
-CRON = FOLDER / "keyreg-advance.cron"
-GREATEST_NUMBER = 9007199254740991
+SERVICE, TIMER, CRON = (UNITS / f"keyreg-advance.{kind}" for kind in ("service", "timer", "cron"))
 # So many seconds a key may still protect as it is served first.
 AHEAD = 3
-YEAR = {"hour": 8760, "minute": 525_600}
-FIRST = 1_700_000_000
+# The seconds from one to the next.
+STEPS = {"hour": 3600, "minute": 60}
+FIRST, YEAR = 1_700_000_000, 365 * 86400
 
 
-def unit_command():
+def unit_command() -> str:
     """The command that the unit runs, as a shell's text."""
-    line = re.search(r"^ExecStart=/bin/sh -c '(.*)'$", UNITS[0].read_text(encoding="ascii"), re.M)[1]
+    line = re.search(r"^ExecStart=/bin/sh -c '(.*)'$", SERVICE.read_text(encoding="ascii"), re.M)[1]
     return line.replace("$$", "$").replace("%%", "%").replace('\\\\"', '\\"')
 
 
-def cron_command():
+def cron_command() -> str:
     """The command of the line of cron, likewise: five fields and a user stand before it."""
     line = [line for line in CRON.read_text(encoding="ascii").splitlines() if not line.startswith("#")][-1]
     return line.split(" ", 6)[6].replace("\\%", "%")
 
 
-def posted(command, served):
+def posted(command: str, served: Served) -> int:
     """The status of the command, over the served register."""
     text = command.replace("8420", str(served.port))
     expect(text != command, f"no port 8420 in {command}")
     return subprocess.run(["sh", "-c", text], capture_output=True, check=False).returncode
 
 
-def protects(served, key):
-    with tempfile.TemporaryDirectory() as folder:
-        with Client(f"http://127.0.0.1:{served.port}", "ann", os.path.join(folder, "numbers")) as office:
+def protects(served: Served, key: int) -> bool:
+    with fresh_folder() as folder:
+        with Client(f"http://127.0.0.1:{served.port}", "ann", str(folder / "numbers")) as office:
             return office.usage(key)["protect"]
 
 
-def moves_on(command):
+def moves_on(command: str) -> int:
     """The command makes the answer fresh. Gives how many requests of it the file has."""
     now = int(time.time())
     stop = now + AHEAD
@@ -75,67 +72,64 @@ def moves_on(command):
         expect(not protects(served, 1), "the answer is as it was after the advance")
         for _ in range(20):
             expect(posted(command, served) == 0, f"{command} failed as it came again")
-        served.process.kill()
-        served.process.wait()
-        with sqlite3.connect(served.file) as connection:
-            rows = connection.execute("SELECT caller, number, command, moment FROM request WHERE caller <> 'ann'").fetchall()
-        connection.close()
-    expect({(row[0], row[2]) for row in rows} == {("clock.job", "advance")}, f"the requests are {rows}")
-    expect(all(1 <= row[1] <= GREATEST_NUMBER and 0 <= row[3] - row[1] <= 2 for row in rows), f"the requests are {rows}")
-    expect(len(rows) < 21, "no two of 21 requests came in one second: this check shows nothing")
+        served.kill()
+        with database(served.file) as connection:
+            columns = "caller, number, command, moment"
+            rows = connection.execute(f"SELECT {columns} FROM request WHERE caller <> 'ann'").fetchall()
+    are_advances = all(
+        (caller, text) == ("clock.job", "advance") and 1 <= number <= GREATEST_NUMBER and 0 <= moment - number <= 2
+        for caller, number, text, moment in rows)
+    expect(are_advances, f"the requests are {rows}")
+    expect(0 < len(rows) < 21, "no two of 21 requests came in one second: this check shows nothing")
     return len(rows)
 
 
-def fails_where_refused(command):
+def fails_where_refused(command: str) -> None:
     """A register that is ahead of the clock refuses it, and the command says so."""
     with Served(lines=[f"{int(time.time()) + 86400} ann 1 advance"]) as served:
         status = posted(command, served)
     expect(status == 22, f"{command}: status {status} where it is refused")
 
 
-def units_verified():
+def units_verified() -> None:
     if not shutil.which("systemd-analyze"):
         print("systemd-analyze is not installed, and was not asked")
         return
-    done = subprocess.run(["systemd-analyze", "verify", "--man=no", *UNITS], capture_output=True, text=True, check=False)
-    told = [line for line in done.stderr.splitlines() if "keyreg-advance" in line]
-    expect(not told, f"systemd-analyze: {told}")
+    words = ["systemd-analyze", "verify", "--man=no", SERVICE, TIMER]
+    done = subprocess.run(words, capture_output=True, text=True, check=False)
+    lines = [line for line in done.stderr.splitlines() if "keyreg-advance" in line]
+    expect(not lines, f"systemd-analyze: {lines}")
 
 
-def size_of(file):
-    return sum(os.path.getsize(file + end) for end in ("", "-wal") if os.path.exists(file + end))
+def size_of(folder: pathlib.Path) -> int:
+    return sum(path.stat().st_size for path in folder.iterdir())
 
 
-def measured(step, count):
-    """What so many advances add to the file, in bytes, and the seconds that its opening takes then."""
-    with tempfile.TemporaryDirectory() as folder:
-        file = os.path.join(folder, "office.keyreg")
-        keyreg(["init", "--file", file])
-        keyreg(["run", "--file", file], ["1 ann 1 register master bob - - - root"])
-        before = size_of(file)
-        seconds = {"hour": 3600, "minute": 60}[step]
-        moments = range(FIRST, FIRST + count * seconds, seconds)
+def print_year(step: str) -> None:
+    """What the advances of a year add to the file, in bytes, and the seconds that its opening takes then."""
+    with fresh_folder() as folder:
+        file = folder / "office.keyreg"
+        new_register(file, ["1 ann 1 register master bob - - - root"])
+        before, moments = size_of(folder), range(FIRST, FIRST + YEAR, STEPS[step])
         keyreg(["run", "--file", file], [f"{moment} clock.job {moment} advance" for moment in moments])
-        added, begun = size_of(file) - before, time.monotonic()
+        added, begun = size_of(folder) - before, time.monotonic()
         keyreg(["report", "--file", file, "--days", "0"])
-        taken = time.monotonic() - begun
-    print(f"one a {step}: {count} requests in a year add {added / 1e6:.1f} MB, {added / count:.0f} bytes each; "
-          f"an opening takes {taken:.1f} seconds then")
+        seconds = time.monotonic() - begun
+    print(f"one a {step}: {len(moments)} requests in a year add {added / 1e6:.1f} MB, {added / len(moments):.0f} bytes "
+          f"each; an opening takes {seconds:.1f} seconds then")
 
 
-def main():
-    words = argparse.ArgumentParser()
-    words.add_argument("--year", action="store_true")
-    measures = words.parse_args().year
+def main() -> None:
+    given = options(__doc__, year=False)
     units_verified()
-    counts = []
-    for command in (unit_command(), cron_command()):
-        counts.append(moves_on(command))
+    commands = (unit_command(), cron_command())
+    counts = [moves_on(command) for command in commands]
+    for command in commands:
         fails_where_refused(command)
-    if measures:
-        for step, count in YEAR.items():
-            measured(step, count)
-    print(f"the unit's command and cron's line move the register on; of 21 requests {counts[0]} and {counts[1]} were accepted")
+    for step in STEPS if given.year else ():
+        print_year(step)
+    verdict(f"the unit's command and cron's line move the register on; of 21 requests {counts[0]} and {counts[1]} were "
+            "accepted")
 
 
 main()

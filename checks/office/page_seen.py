@@ -1,38 +1,40 @@
-"""What a browser makes of a page: chromium runs it, measures it at a width, and prints it."""
-import base64
-import hashlib
-import html
+"""What a browser makes of a page: Chromium runs it, measures it at a width, and prints it."""
 import html.parser
-import json
 import pathlib
 import re
 import subprocess
+from typing import Any, Optional
 
+from browser import as_seen, as_usual, chromium, print_page
 from script import expect
 
-# Added to a copy of the page: what a person can see and reach of it, as text of a last element.
+# What a person can see and reach of the page, in at most so many rows, if not in all.
 PROBE = """
 const seen = element => element.getClientRects().length > 0;
 const box = element => element.getBoundingClientRect();
-const rows = [...document.querySelectorAll('tr.key')];
-const told = {script: performance.now(), width: innerWidth, wider: document.documentElement.scrollWidth - innerWidth};
-told.laid = performance.now();
+const rows = [...document.querySelectorAll('tr.key')], most = arguments[0] || rows.length;
+document.body.style.display = 'none';
+document.body.getBoundingClientRect();
+document.body.style.display = '';
+const begun = performance.now();
+const view = {width: innerWidth, wider: document.documentElement.scrollWidth - innerWidth};
+view.laid = performance.getEntriesByType('navigation')[0].loadEventEnd + performance.now() - begun;
 const heads = [...document.querySelectorAll('th')].filter(seen);
-told.heads = heads.map(head => head.getAttribute('aria-label') || head.textContent);
-told.above = heads.map(head => Math.round(box(head).left));
-told.below = rows.length ? [...rows[0].cells].filter(seen).map(cell => Math.round(box(cell).left)) : [];
-told.over = rows.filter(row => [...row.cells].filter(seen).some((cell, place, cells) => {
+view.heads = heads.map(head => head.getAttribute('aria-label') || head.textContent);
+view.above = heads.map(head => Math.round(box(head).left));
+view.below = rows.length ? [...rows[0].cells].filter(seen).map(cell => Math.round(box(cell).left)) : [];
+view.over = rows.filter(row => [...row.cells].filter(seen).some((cell, place, cells) => {
   const next = cells[place + 1], hides = getComputedStyle(cell).overflowX === 'hidden';
   return !hides || next && box(next).top < box(cell).bottom - 2 && box(next).left < box(cell).right - 1;
 })).map(row => row.dataset.number);
 const pages = document.querySelector('.pages');
 const middles = [...pages.children].map(one => (box(one).top + box(one).bottom) / 2);
-told.lines = 1 + Math.floor((Math.max(...middles) - Math.min(...middles)) / 10);
-told.pages = [...pages.children].map(one => one.textContent);
-told.live = document.getElementById('count').getAttribute('role');
-told.colours = [getComputedStyle(document.body).color, getComputedStyle(document.body).backgroundColor];
-told.reached = [];
-for (const row of MOST ? rows.slice(0, MOST) : rows) {
+view.lines = 1 + Math.floor((Math.max(...middles) - Math.min(...middles)) / 10);
+view.pages = [...pages.children].map(one => one.textContent);
+view.live = document.getElementById('count').getAttribute('role');
+view.paper = getComputedStyle(document.body).backgroundColor;
+view.reached = [];
+for (const row of rows.slice(0, most)) {
   const button = row.querySelector('button');
   button.focus();
   const is_reached = document.activeElement === button && button.tabIndex === 0;
@@ -41,26 +43,27 @@ for (const row of MOST ? rows.slice(0, MOST) : rows) {
   const is_open = more !== null && more.className === 'more' && seen(more)
     && button.getAttribute('aria-expanded') === 'true';
   const texts = is_open ? [...more.querySelectorAll('dd')].map(one => one.textContent) : [];
-  told.reached.push([is_reached && is_open, texts]);
+  view.reached.push([is_reached && is_open, texts]);
   button.click();
 }
-const text = document.createElement('pre');
-text.id = 'told';
-text.textContent = JSON.stringify(told);
-document.body.append(text);
+return view;
 """
+
+Element = dict[str, Any]
 
 
 class Page(html.parser.HTMLParser):
     """The elements of a page, each with its attributes and its text, and those within each key's row."""
 
-    def __init__(self, text):
+    def __init__(self, text: str) -> None:
         super().__init__()
-        self.elements, self.keys, self.open = [], [], None
+        self.elements: list[Element] = []
+        self.keys: list[tuple[Element, list[Element]]] = []
+        self.open: Optional[list[Element]] = None
         self.feed(text)
 
-    def handle_starttag(self, tag, attributes):
-        element = {"tag": tag, "text": "", **dict(attributes)}
+    def handle_starttag(self, tag: str, attrs: list[tuple[str, Optional[str]]]) -> None:
+        element = {"tag": tag, "text": "", **dict(attrs)}
         self.elements.append(element)
         if tag == "tr" and element.get("class") == "key":
             self.keys.append((element, []))
@@ -68,72 +71,53 @@ class Page(html.parser.HTMLParser):
         elif self.open is not None:
             self.open.append(element)
 
-    def handle_endtag(self, tag):
+    def handle_endtag(self, tag: str) -> None:
         if tag == "tr":
             self.open = None
 
-    def handle_data(self, data):
+    def handle_data(self, data: str) -> None:
         if self.elements:
             self.elements[-1]["text"] += data
 
 
-def digest(text):
-    return "'sha256-" + base64.b64encode(hashlib.sha256(text.encode()).digest()).decode() + "'"
-
-
-def probed(text, most):
-    """The page with the probe as a second script, which its policy then allows too."""
-    probe = PROBE.replace("MOST", str(most))
-    text = text.replace("script-src '", f"script-src {digest(probe)} '", 1)
-    return text.replace("</body>", f"<script>{probe}</script></body>")
-
-
-# A window has at least 500 pixels, so the page is in a frame of the width that is wanted.
-FRAME = """<!DOCTYPE html><meta name="color-scheme" content="light dark">
-<style>body{{margin:0}}iframe{{border:0}}</style>
-<iframe width="{width}" height="900" srcdoc="{text}"></iframe><script>
-onload = () => document.body.append(document.querySelector('iframe').contentDocument.getElementById('told'));
-</script>"""
-
-
 class Browser:
-    """chromium with a folder of its own."""
+    """Chromium, with a folder for its pages."""
 
-    def __init__(self, folder):
-        self.folder = pathlib.Path(folder)
+    def __init__(self, folder: pathlib.Path) -> None:
+        self.folder, self.driver = folder, chromium("--hide-scrollbars")
 
-    def page(self, name, text):
+    def page(self, name: str, text: str) -> pathlib.Path:
         path = self.folder / f"{name}.html"
         path.write_text(text, encoding="utf-8")
         return path
 
-    def run(self, page, *more, fragment=""):
-        words = ["chromium", "--headless=new", "--no-sandbox", "--disable-gpu", "--hide-scrollbars",
-                 "--enable-logging=stderr", f"--user-data-dir={self.folder}/profile", *more, f"file://{page}{fragment}"]
-        done = subprocess.run(words, capture_output=True, text=True, check=False, timeout=180)
-        told = [line for line in done.stderr.splitlines() if "CONSOLE" in line]
-        expect(not told, f"chromium: {told[:3]}")
-        return done.stdout
+    def open(self, page: pathlib.Path, fragment: str = "") -> None:
+        """The page as it comes anew."""
+        self.driver.get("about:blank")
+        self.driver.get(f"file://{page}{fragment}")
+        console = self.driver.get_log("browser")
+        expect(not console, f"chromium: {console[:3]}")
 
-    def elements(self, page, fragment=""):
+    def elements(self, page: pathlib.Path, fragment: str = "") -> Page:
         """The page after its script."""
-        return Page(self.run(page, "--dump-dom", fragment=fragment))
+        self.open(page, fragment)
+        return Page(self.driver.page_source)
 
-    def seen(self, name, text, width, is_dark=False, most=0):
-        """What the probe told of the page at a width."""
-        page = self.page(f"{name}-probed", FRAME.format(width=width, text=html.escape(probed(text, most))))
-        dark = ["--blink-settings=preferredColorScheme=0"] if is_dark else []
-        dom = self.run(page, f"--window-size={max(width, 500)},900", *dark, "--dump-dom")
-        found = re.search(r'<pre id="told">(.*?)</pre>', dom, re.S)
-        expect(found, f"chromium did not run the probe: {dom[-300:]}")
-        return json.loads(html.unescape(found[1]))
+    def seen(self, page: pathlib.Path, width: int, is_dark: bool = False, most: int = 0) -> dict[str, Any]:
+        """What the probe found of the page at a width."""
+        as_seen(self.driver, width, 900, is_dark)
+        self.open(page)
+        view = self.driver.execute_script(PROBE, most)
+        as_usual(self.driver)
+        return view
 
-    def printed(self, page):
+    def printed(self, page: pathlib.Path) -> tuple[list[list[str]], list[float]]:
         """The text of each sheet by its lines, and how much of each sheet, from above, has text."""
         sheets = self.folder / "printed.pdf"
-        self.run(page, "--no-pdf-header-footer", f"--print-to-pdf={sheets}")
-        text = subprocess.run(["pdftotext", "-layout", sheets, "-"], capture_output=True, text=True, check=True).stdout
-        boxes = subprocess.run(["pdftotext", "-bbox", sheets, "-"], capture_output=True, text=True, check=True).stdout
+        self.open(page)
+        print_page(self.driver, sheets, printBackground=True, preferCSSPageSize=True)
+        text, boxes = (subprocess.run(["pdftotext", way, sheets, "-"], capture_output=True, text=True, check=True).stdout
+                       for way in ("-layout", "-bbox"))
         filled = []
         for sheet in boxes.split("<page ")[1:]:
             height = float(re.search(r'height="([\d.]+)"', sheet)[1])

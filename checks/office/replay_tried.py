@@ -1,43 +1,40 @@
 #!/usr/bin/env python3
 """Puts registers to office/replay.py. Those that keyreg wrote are what their requests give: a file of version 1, the
-same taken on to version 2, a register with rows in each table, drawn requests, many of one moment. With the rows of
-`request` in another order that is told by a status of its own. Then one change is planted in each column of each
-table, a row too many and one too few in each, in a register of each version: each is found, by its table and column.
-So is a request that the rules refuse, by its refusal; so are rows that stand in another order than in an earlier copy,
-and not those that were rebuilt as they stood. What keyreg reads is read, under names in any case and order. Of a log
-the frames that count are those that SQLite counts. Last a register of many requests, for its time and memory.
+same taken on to version 2, a register with rows in each table, drawn requests, many of one moment. The rows of
+`request` in another order have a status of their own. Then one change is planted in each column of each table, a row
+too many and one too few in each, in a register of each version: each is found, by its table and column. So is a request
+that the rules refuse, by its refusal; so are rows that stand in another order than in an earlier copy, and not those
+that were rebuilt as they stood. What keyreg reads is read, under names in any case and order. Of a log the frames that
+count are those that SQLite counts. Last a register of many requests, for its time and memory.
 
     checks/office/replay_tried.py [--requests N] [--seed N]
 
 Build the program first: ./keyreg </dev/null
 """
-import argparse
 import hashlib
-import os
 import pathlib
 import random
 import shutil
-import sqlite3
 import subprocess
 import sys
-import tempfile
 import time
+from typing import Any
 
 sys.path.insert(1, str(pathlib.Path(__file__).resolve().parents[1] / "shared"))
-from places import OFFICE, PROGRAM, VERSION_1
+from places import VERSION_1
 from drawn_registers import DAY, FULL, KINDS, at_one_moment, changed, drawn, made
-from registers import UNSET, keyreg
-from script import expect, in_memory
+from registers import UNSET, File, answered_and_killed, copy_files, database, keyreg, new_register
+from script import expect, fresh_folder, options, verdict
+from tools import many_requests, run_tool, words_of
 
-REPLAY = OFFICE / "replay.py"
 # So many bytes any requests may take, and each of them.
 LEAST_BYTES, BYTES_OF_ONE = 40 << 20, 350
-# A small program that runs another and tells its memory. To what this script begins its own memory would count.
+# A small program that runs another and prints its memory. To what this script begins its own memory would count.
 MEASURED = """import resource, subprocess, sys
 status = subprocess.call(sys.argv[1:], stdout=subprocess.DEVNULL)
 print(status, resource.getrusage(resource.RUSAGE_CHILDREN).ru_maxrss)"""
 
-# One change of each column, with what tells the row, by what no request gives. A request is what is replayed: of its
+# One change of each column, with what names the row, by what no request gives. A request is what is replayed: of its
 # own columns these are changes that the others belie.
 CHANGES = {
     "meta": ("id = 1", {"id": 2, "version": None, "latest": 5000, "key_count": 77}),
@@ -51,7 +48,9 @@ CHANGES = {
     "period": ("kind = 7", {"kind": 3, "originator": 7, "recipient": 1}),
     "quorum": ("key_no = 3", {"key_no": 1, "need": 5}),
 }
-# A row too many in each table, and what tells the row that is taken away.
+# The columns whose cells name their row.
+NAMING = [("keys", "number"), ("meta", "id"), ("period", "kind"), ("quorum", "key_no")]
+# A row too many in each table, and what names the row that is taken away.
 MORE = {
     "meta": ((2, 2, 0, 0), "id = 1"),
     "keys": ((50, 1, "bob", "more", 1, 1, *[UNSET] * 6), "number = 1"),
@@ -72,87 +71,87 @@ REFUSED = [
     ("DateRange", "ann", "register master bob 253402300799 - - x"), ("AlreadyCustodian", "eve", "add-custodian 3 cat"),
     ("NoSuchCustodian", "eve", "remove-custodian 3 zed"), ("OwnerCustodian", "eve", "add-custodian 3 eve"),
     ("OwnerCustodian", "eve", "assign 3 cat"), ("AlreadyApproved", "cat", "approve 3"),
-    ("NoApproval", "dan", "withdraw 3"),
-    ("ApprovalsMissing", "eve", "destroy 3"), ("OccurrenceLater", "ann", "revoke 4 2 9999"),
-    ("NotOffice", "ann", "set-period master 5 5"),
+    ("NoApproval", "dan", "withdraw 3"), ("ApprovalsMissing", "eve", "destroy 3"),
+    ("OccurrenceLater", "ann", "revoke 4 2 9999"), ("NotOffice", "ann", "set-period master 5 5"),
 ]
 NO_COMMANDS = ["Advance", "advance ", " advance", "advances 1", "activate 01", "activate 0", "approve  3",
                "revoke 4 5 7", "revoke 4 8 -", "destroy 3 3", "set 4 = = +5", "set-quorum 3 6", "set-period master 0 0",
-               "assign 3 b\u00f6b",
-               "register master bob - - - x ", "register master bob - - - a\tb", "register masters bob - - - x", ""]
+               "assign 3 b\u00f6b", "register master bob - - - x ", "register master bob - - - a\tb",
+               "register masters bob - - - x", ""]
+
+Statement = tuple[Any, ...]
 
 
-def replay(*words):
+def replay(file: File, *words: Any) -> tuple[int, list[str]]:
     """The status and the lines of a replay, which leaves what it reads as it was."""
-    files = [file + end for file in words if os.path.isfile(file) for end in ("", "-wal") if os.path.isfile(file + end)]
-    before = [hashlib.sha256(pathlib.Path(file).read_bytes()).hexdigest() for file in files]
-    told = subprocess.run([sys.executable, REPLAY, *words], capture_output=True, text=True, check=False)
-    after = [hashlib.sha256(pathlib.Path(file).read_bytes()).hexdigest() for file in files]
-    expect(before == after, f"replay {words} has changed what it read")
-    expect(not told.stderr, f"replay {words}: {told.stderr}")
-    return told.returncode, told.stdout.splitlines()
+    files = [path for word in (file, *words) for path in (pathlib.Path(f"{word}"), pathlib.Path(f"{word}-wal"))
+             if path.is_file()]
+    before = [hashlib.sha256(path.read_bytes()).hexdigest() for path in files]
+    done = run_tool("replay", file, *words, text=True)
+    after = [hashlib.sha256(path.read_bytes()).hexdigest() for path in files]
+    expect(before == after, f"replay {file} {words} has changed what it read")
+    expect(not done.stderr, f"replay {file} {words}: {done.stderr}")
+    return done.returncode, done.stdout.splitlines()
 
 
-def as_given(file, told="", wanted=0):
-    """The register is what its requests give, and the lines have this text."""
-    status, lines = replay(file)
-    expect(status == wanted, f"{file}: status {status}, {lines[:5]}")
-    expect(told in "\n".join(lines), f"{file}: not told: {told}; {lines}")
+def expect_end(file: File, wanted: int, text: str = "", *words: Any) -> None:
+    """A replay ends with this status, and its lines have this text."""
+    status, lines = replay(file, *words)
+    is_wanted = status == wanted and text in "\n".join(lines)
+    expect(is_wanted, f"{file} {words}: {status}, not {wanted} with {text!r}: {lines[:8]}")
 
 
-def found(file, told, *statements):
+def expect_found(file: File, begin: str, text: str, *statements: Statement) -> int:
     """The change is found, and a line begins with the one text and has the other."""
     status, lines = replay(changed(file, *statements))
-    begin, text = told
-    is_told = any(line.startswith(begin) and text in line for line in lines)
-    expect(status in (1, 2) and is_told, f"{statements}: status {status}, not told {told}: {lines[:8]}")
+    is_found = status in (1, 2) and any(line.startswith(begin) and text in line for line in lines)
+    expect(is_found, f"{statements}: status {status}, and no line {begin!r} with {text!r}: {lines[:8]}")
     return 1
 
 
-def planted(file, version):
+# ---- planted changes
+
+def planted(file: File, version: int) -> int:
     """One change in each column of each table, a row too many and one too few; how many were found."""
     count = 0
     for table, (where, values) in CHANGES.items():
         if version == 1 and table in ("period", "quorum"):
             continue
-        one = f"rowid = (SELECT rowid FROM {table} WHERE {where} LIMIT 1)"
+        row_id = "rowid = (SELECT rowid FROM {} WHERE {} LIMIT 1)"
         for column, value in values.items():
             value = 3 - version if value is None else value
-            is_key = (table, column) in [("keys", "number"), ("meta", "id"), ("period", "kind"), ("quorum", "key_no")]
-            text = "" if is_key or table in ("custodian", "approval", "request") else f"{column} is {value!r}"
+            is_told = (table, column) not in NAMING and table not in ("custodian", "approval", "request")
             # Of another version the tables are others.
-            told = ("", "") if column == "version" else (table, text)
-            count += found(file, told, (f"UPDATE {table} SET {column} = ? WHERE {one}", [value]))
+            begin, text = ("", "") if column == "version" else (table, f"{column} is {value!r}" * is_told)
+            statement = f"UPDATE {table} SET {column} = ? WHERE {row_id.format(table, where)}"
+            count += expect_found(file, begin, text, (statement, [value]))
         row, gone = MORE[table]
-        count += found(file, ("" if table == "meta" else table, ""),
-                       (f"INSERT INTO {table} VALUES ({', '.join('?' * len(row))})", row))
-        one = f"rowid = (SELECT rowid FROM {table} WHERE {gone} LIMIT 1)"
-        count += found(file, ("" if table in ("meta", "request") else table, ""), (f"DELETE FROM {table} WHERE {one}",))
+        statement = f"INSERT INTO {table} VALUES ({', '.join('?' * len(row))})"
+        count += expect_found(file, "" if table == "meta" else table, "", (statement, row))
+        statement = f"DELETE FROM {table} WHERE {row_id.format(table, gone)}"
+        count += expect_found(file, "" if table in ("meta", "request") else table, "", (statement,))
     return count
 
 
-def refused(first, full, sixteen):
+def refused(first: File, full: File, sixteen: File) -> int:
     """Requests among the accepted that the rules of their version refuse, and texts that are none."""
     put = "INSERT INTO request VALUES (?, 900, ?, 4, 2, 300)"
-    for name, caller, command in REFUSED:
-        found(full, ("request", f"{command!r}: the rules refuse it, {name}"), (put, (caller, command)))
-    for command in NO_COMMANDS:
-        found(full, ("request", f"{command!r}, 4, 2, 300): it is none by the rules"), (put, ("bob", command)))
-    found(sixteen, ("request", "the rules refuse it, TooManyCustodians"), (put, ("bob", "add-custodian 1 onemore")))
-    for command in ("set-quorum 9 3", "set-period master 6 0"):
-        found(first, ("request", f"{command!r}, 4, 2, 300): it is none by the rules of version 1"),
-              (put, ("office", command)))
+    cases = [(full, f"{command!r}: the rules refuse it, {name}", caller, command) for name, caller, command in REFUSED]
+    cases += [(full, f"{command!r}, 4, 2, 300): it is none by the rules", "bob", command) for command in NO_COMMANDS]
+    cases += [(sixteen, "the rules refuse it, TooManyCustodians", "bob", "add-custodian 1 onemore")]
+    cases += [(first, f"{command!r}, 4, 2, 300): it is none by the rules of version 1", "office", command)
+              for command in ("set-quorum 9 3", "set-period master 6 0")]
+    for file, text, caller, command in cases:
+        expect_found(file, "request", text, (put, (caller, command)))
     ninth = [(f"INSERT INTO request VALUES ('fay', {900 + n}, 'add-custodian 9 name{n}', 9, 6, {3001 + n})",)
              for n in range(7)]
-    found(first, ("request ('fay', 906)", "the rules refuse it, TooManyCustodians"), *ninth)
-    return len(REFUSED) + len(NO_COMMANDS) + 4
+    return len(cases) + expect_found(first, "request ('fay', 906)", "the rules refuse it, TooManyCustodians", *ninth)
 
 
-def shuffled(file, chance):
+def shuffled(file: File, chance: random.Random) -> File:
     """A copy in which the rows of `request` stand in another order."""
-    connection = sqlite3.connect(file)
-    rows = connection.execute("SELECT * FROM request").fetchall()
-    connection.close()
+    with database(file) as connection:
+        rows = connection.execute("SELECT * FROM request").fetchall()
     chance.shuffle(rows)
     puts = [("INSERT INTO request VALUES (?, ?, ?, ?, ?, ?)", row) for row in rows]
     return changed(file, ("DELETE FROM request",), *puts)
@@ -160,120 +159,107 @@ def shuffled(file, chance):
 
 # ---- the parts
 
-def untouched(folder, seed):
+def untouched(folder: pathlib.Path, seed: int) -> tuple[File, File, File, int]:
     """Registers of keyreg are what their requests give. Gives those of version 1 and 2, and how many were asked."""
-    first = os.path.join(folder, "first.keyreg")
-    with sqlite3.connect(first) as connection:
+    first = folder / "first.keyreg"
+    with database(first) as connection:
         connection.executescript(VERSION_1.read_text("ascii"))
-    connection.close()
-    as_given(first, "version 1: each row")
-    second = shutil.copy(first, os.path.join(folder, "second.keyreg"))
+    expect_end(first, 0, "version 1: each row")
+    second = shutil.copy(first, folder / "second.keyreg")
     keyreg(["report", "--file", second, "--days", "0"])
-    as_given(second, "version 2: each row")
+    expect_end(second, 0, "version 2: each row")
     full, accepted = made(folder, "full", FULL)
     expect(accepted == len(FULL) - 1, f"{accepted} of {len(FULL)} accepted")
-    as_given(full)
     custodians = [f"{10 + n} bob {n} add-custodian 1 name{n}" for n in range(1, 17)]
-    sixteen = made(folder, "sixteen", ["10 ann 1 register master bob - - - root", *custodians])[0]
-    as_given(sixteen)
-    chance, asked = random.Random(seed), 4
+    sixteen, _ = made(folder, "sixteen", ["10 ann 1 register master bob - - - root", *custodians])
+    registers, chance = [full, sixteen], random.Random(seed)
     for place, steps in enumerate([(0,), (0, 0, 0, DAY), (0, DAY, 30 * DAY), (1, DAY)]):
         file, accepted = made(folder, f"drawn_{place}", list(drawn(chance, 1500, steps)))
         expect(accepted > 200, f"{accepted} drawn requests were accepted")
-        as_given(file)
-        asked += 1
+        registers.append(file)
+    for file in registers:
+        expect_end(file, 0)
     file, accepted = made(folder, "level", at_one_moment(400))
     expect(accepted == 400 * 7, f"{accepted} accepted")
-    as_given(file, "2800 requests share their moment")
-    as_given(shuffled(file, chance), "another one than the rows'", 3)
+    expect_end(file, 0, "2800 requests share their moment")
+    expect_end(shuffled(file, chance), 3, "another one than the rows'")
     for steps in ((0, 0, DAY), (0, 0, 0, 0, 0, DAY)):
         file, _ = made(folder, f"shuffled_{len(steps)}", list(drawn(chance, 1500, steps)))
-        as_given(shuffled(file, chance), "in another order than that of their rows", 3)
-        asked += 1
-    return first, full, sixteen, asked + 2
+        expect_end(shuffled(file, chance), 3, "in another order than that of their rows")
+    return first, full, sixteen, len(registers) + 6
 
 
-def no_order(file, folder):
+def no_order(file: File, folder: pathlib.Path) -> None:
     """Requests of one moment that no order accepts, and what an earlier copy belies."""
     level, _ = made(folder, "few", at_one_moment(3))
-    one = "UPDATE request SET state = 1 WHERE command = 'destroy 2'"
-    found(level, ("request ('bob', 29)", "state is 1"), (one,))
-    found(level, ("approval (2, 'cat')", "no row"), ("DELETE FROM approval WHERE key_no = 2 AND name = 'cat'",))
+    statement = "UPDATE request SET state = 1 WHERE command = 'destroy 2'"
+    expect_found(level, "request ('bob', 29)", "state is 1", (statement,))
+    expect_found(level, "approval (2, 'cat')", "no row", ("DELETE FROM approval WHERE key_no = 2 AND name = 'cat'",))
     later = changed(file, ("UPDATE meta SET latest = 400",),
                     ("INSERT INTO request VALUES ('zed', 9, 'advance', 0, 0, 400)",))
-    later = shutil.copy(later, os.path.join(folder, "later.keyreg"))
-    expect(replay(later, "--since", file)[0] == 0, "an advance after the earlier copy")
+    later = shutil.copy(later, folder / "later.keyreg")
+    expect_end(later, 0, "", "--since", file)
     for statement in ("UPDATE request SET number = 77 WHERE command = 'advance' AND moment = 300",
                       "INSERT INTO request VALUES ('zed', 77, 'advance', 0, 0, 250)"):
         other = changed(later, (statement,))
         expect(replay(other)[0] in (0, 3), f"{statement}: it is another history")
-        status, lines = replay(other, "--since", file)
-        expect(status == 1 and "earlier copy" in lines[0], f"{statement}: {lines}")
+        expect_end(other, 1, "earlier copy", "--since", file)
 
 
-def swapped(file, one, other):
-    """A copy in which these two rows of `request` stand in each other's places."""
+def swapped(one: int, other: int) -> list[Statement]:
+    """Statements after which these two rows of `request` stand in each other's places."""
     return [("UPDATE request SET rowid = -1 WHERE rowid = ?", (one,)),
             ("UPDATE request SET rowid = ? WHERE rowid = ?", (one, other)),
             ("UPDATE request SET rowid = ? WHERE rowid = -1", (other,))]
 
 
-def rebuilt(file, way):
+def rebuilt(file: File, way: str) -> File:
     """A copy that SQLite made anew, as a whole or from a dump: its rows stand as they stood."""
     other = f"{file}.{way}"
-    source = sqlite3.connect(file)
-    if way == "vacuum":
-        source.execute("VACUUM INTO ?", (other,))
-    else:
-        target = sqlite3.connect(other)
-        target.executescript("\n".join(source.iterdump()))
-        target.close()
-    source.close()
+    with database(file) as source:
+        if way == "vacuum":
+            source.execute("VACUUM INTO ?", (other,))
+        else:
+            with database(other) as target:
+                target.executescript("\n".join(source.iterdump()))
     return other
 
 
-def earlier_order(folder, chance):
-    """Under --since rows that stand in another order than they stood are found, and nothing is told of those that were
-    rebuilt. Gives how many were found."""
+def earlier_order(folder: pathlib.Path, chance: random.Random) -> int:
+    """Under --since rows that stand in another order than they stood are found, and nothing is reported of those that
+    were rebuilt. Gives how many were found."""
     lines = ["100 ann 1 register master bob - - - x", "200 office 1 set-period master 6 0",
              "200 office 2 set-period master 7 0", "200 bob 1 set-quorum 1 3", "200 bob 2 set-quorum 1 4"]
     file, _ = made(folder, "periods", lines)
-    earlier = shutil.copy(changed(file, ("UPDATE meta SET latest = 200",)), os.path.join(folder, "earlier.keyreg"))
-    # The tables agree with the other order, so that the copy alone tells nothing.
-    agrees = changed(file, *swapped(file, 2, 3), ("UPDATE period SET originator = 6",))
-    expect(replay(agrees)[0] == 0, "two periods of one second the other way round are another history")
-    status, lines = replay(agrees, "--since", earlier)
-    expect(status == 1 and any("stand in another order" in line for line in lines), f"periods: {status}, {lines}")
-    need = changed(file, ("UPDATE quorum SET need = 3",))
-    status, lines = replay(need, "--since", earlier)
-    expect(status == 3 and any("another one than the rows'" in line for line in lines), f"a need: {status}, {lines}")
-    among = changed(file, ("UPDATE request SET rowid = rowid + 10 WHERE rowid > 3",),
-                    ("INSERT INTO request (rowid, caller, number, command, key_no, state, moment) "
-                     "VALUES (4, 'zed', 1, 'advance', 0, 0, 200)",))
-    expect(replay(among)[0] == 0, "an advance among others is another history")
-    status, lines = replay(among, "--since", earlier)
-    expect(status == 1 and any("stands among those of it" in line for line in lines), f"among: {status}, {lines}")
+    earlier = shutil.copy(changed(file, ("UPDATE meta SET latest = 200",)), folder / "earlier.keyreg")
+    put = ("INSERT INTO request (rowid, caller, number, command, key_no, state, moment) "
+           "VALUES (4, 'zed', 1, 'advance', 0, 0, 200)")
+    # In the first and the last the tables agree with the other order, so that the copy alone shows nothing.
+    for is_well, status, text, *statements in (
+            (True, 1, "stand in another order", *swapped(2, 3), ("UPDATE period SET originator = 6",)),
+            (False, 3, "another one than the rows'", ("UPDATE quorum SET need = 3",)),
+            (True, 1, "stands among those of it", ("UPDATE request SET rowid = rowid + 10 WHERE rowid > 3",), (put,))):
+        other = changed(file, *statements)
+        expect(not is_well or replay(other)[0] == 0, f"{statements}: it is another history")
+        expect_end(other, status, text, "--since", earlier)
     file, accepted = made(folder, "goes_on", list(drawn(chance, 300, (0, 0, DAY))))
-    before, tried = os.path.join(folder, "before.keyreg"), 40
+    before, tries = folder / "before.keyreg", 40
     shutil.copy(changed(file, ("DELETE FROM request WHERE rowid > ?", (accepted // 2,))), before)
-    for way in ("vacuum", "dump"):
-        expect(replay(rebuilt(file, way), "--since", before)[0] == 0, f"--since of a copy that was rebuilt by {way}")
-    expect(replay(file, "--since", before)[0] == 0, "--since of a copy that has more")
-    for _ in range(tried):
+    for later in (rebuilt(file, "vacuum"), rebuilt(file, "dump"), file):
+        expect_end(later, 0, "", "--since", before)
+    for _ in range(tries):
         one, other = chance.sample(range(1, accepted // 2 + 1), 2)
-        status, lines = replay(changed(file, *swapped(file, one, other)), "--since", before)
-        is_found = status == 1 and any("stand in another order" in line for line in lines)
-        expect(is_found, f"rows {one} and {other}: {status}, {lines}")
-    return tried + 3
+        expect_end(changed(file, *swapped(one, other)), 1, "stand in another order", "--since", before)
+    return tries + 3
 
 
-def anew(table, columns, more=""):
+def anew(table: str, columns: str) -> list[Statement]:
     """Statements that make a table of the register anew: with these columns, and of no types."""
     return [(f"CREATE TABLE other AS SELECT {columns} FROM {table}",), (f"DROP TABLE {table}",),
-            (f"ALTER TABLE other RENAME TO {table}{more}",)]
+            (f"ALTER TABLE other RENAME TO {table}",)]
 
 
-def read_as_keyreg(folder, full):
+def read_as_keyreg(folder: pathlib.Path, full: File) -> int:
     """What the program opens is read: names in any case, columns in any order and more of them, keys or none."""
     changes = {
         "tables in capitals": [("ALTER TABLE keys RENAME TO more",), ("ALTER TABLE more RENAME TO KEYS",)],
@@ -284,121 +270,112 @@ def read_as_keyreg(folder, full):
         "a column rowid": anew("request", "*, 100 - rowid AS rowid"),
     }
     for name, statements in changes.items():
-        file = shutil.copy(changed(full, *statements), os.path.join(folder, "as_keyreg.keyreg"))
-        as_given(file)
-        found(file, ("keys 1: owner is 'eve'", "'bob'"), ("UPDATE keys SET owner = 'eve' WHERE number = 1",))
+        file = shutil.copy(changed(full, *statements), folder / "as_keyreg.keyreg")
+        expect_end(file, 0)
+        expect_found(file, "keys 1: owner is 'eve'", "'bob'", ("UPDATE keys SET owner = 'eve' WHERE number = 1",))
         replies = keyreg(["run", "--file", file], ["400 zed 9 advance"])
         expect(replies == ["ok 0 - 400"], f"{name}: the program does not take it, {replies}")
-    twice = anew("request", "*")
     for row in ("SELECT * FROM request WHERE rowid = 1",
                 "SELECT caller, number, 'advance', 0, 0, moment FROM request WHERE rowid = 1"):
-        found(full, ("request ('ann', 1): its row is there 2 times", ""), *twice, (f"INSERT INTO request {row}",))
+        expect_found(full, "request ('ann', 1): its row is there 2 times", "", *anew("request", "*"),
+                     (f"INSERT INTO request {row}",))
     return len(changes)
 
 
-def counted_by_sqlite(file):
+# ---- logs
+
+def counted_by_sqlite(file: File) -> int:
     """How many frames of a log count, by SQLite, which copies them into a copy of the file."""
-    for end in ("", "-wal"):
-        shutil.copy(file + end, f"{file}.counted{end}")
-    connection = sqlite3.connect(f"{file}.counted")
-    count = connection.execute("PRAGMA wal_checkpoint").fetchone()[1]
-    connection.close()
-    return count
+    with database(copy_files(file, f"{file}.counted")) as connection:
+        return connection.execute("PRAGMA wal_checkpoint").fetchone()[1]
 
 
-def logs(folder):
-    """Of logs that a killed program left, whole and damaged, the frames that count are those that SQLite counts."""
-    file = os.path.join(folder, "killed.keyreg")
-    keyreg(["init", "--file", file])
-    with subprocess.Popen([PROGRAM, "run", "--file", file], stdin=subprocess.PIPE, stdout=subprocess.PIPE) as run:
-        run.stdin.write("".join(line + "\n" for line in FULL).encode())
-        run.stdin.flush()
-        for _ in FULL:
-            run.stdout.readline()
-        run.kill()
-    log = pathlib.Path(file + "-wal")
-    whole = log.read_bytes()
-    size = 24 + int.from_bytes(whole[8:12], "big")
-    heads = [whole[at:at + 24] for at in range(32, len(whole) - size + 1, size)]
-    frames = sum(any(head) for head in heads)
+def damaged_logs(whole: bytes, size: int, frames: int) -> dict[str, bytes]:
+    """A log whose frames have this size, and what may become of it."""
     half, middle = 32 + size * (frames // 2), 32 + size * (frames // 3) + 700
-    older = b"".join(whole[at:at + 8] + b"12345678" + whole[at + 16:at + size]
+    other_salt = b"12345678"
+    older = b"".join(whole[at:at + 8] + other_salt + whole[at + 16:at + size]
                      for at in range(half, len(whole) - size + 1, size))
-    ways = {"whole": whole, "cut off": whole[:half], "no header": bytes(1) + whole[1:],
+    return {"whole": whole, "cut off": whole[:half], "no header": bytes(1) + whole[1:],
             "over an earlier log": whole[:half] + older,
             "a byte in the middle": whole[:middle] + bytes([whole[middle] ^ 1]) + whole[middle + 1:],
-            "a frame of another": whole[:half + 8] + b"12345678" + whole[half + 16:]}
-    loses = ("a byte in the middle", "a frame of another")
+            "a frame of another": whole[:half + 8] + other_salt + whole[half + 16:]}
+
+
+def logs(folder: pathlib.Path) -> int:
+    """Of logs that a killed program left, whole and damaged, the frames that count are those that SQLite counts."""
+    file = f"{folder}/killed.keyreg"
+    new_register(file)
+    answered_and_killed(file, FULL)
+    log = pathlib.Path(f"{file}-wal")
+    whole = log.read_bytes()
+    size = 24 + int.from_bytes(whole[8:12], "big")
+
+    def frames_in(raw: bytes) -> int:
+        return sum(any(raw[at:at + 24]) for at in range(32, len(raw) - size + 1, size))
+
+    ways = damaged_logs(whole, size, frames_in(whole))
     for name, raw in ways.items():
         log.write_bytes(raw)
         count = counted_by_sqlite(file) if name != "no header" else 0
-        there = sum(any(raw[at:at + 24]) for at in range(32, len(raw) - size + 1, size))
-        _, lines = replay(file)
-        told = [line for line in lines if line.startswith("log: ")]
-        wanted = f"log: {count} of its frames count, and {there - count} that follow do not"
-        is_told = told and (told[0].startswith(wanted) or name == "no header" and told[0].startswith("log: 0 of"))
-        expect(is_told, f"{name}: {told}, not {wanted}")
-        expect((name in loses) == any("what stood behind it is lost" in line for line in told), f"{name}: {told}")
-        expect(name != "whole" or count == frames, f"{count} of {frames} frames count")
+        lines = [line for line in replay(file)[1] if line.startswith("log: ")]
+        wanted = f"log: {count} of its frames count, and {frames_in(raw) - count} that follow do not"
+        wanted = "log: 0 of" if name == "no header" else wanted
+        is_reported = lines and lines[0].startswith(wanted)
+        expect(is_reported, f"{name}: {lines}, not {wanted}")
+        loses = name in ("a byte in the middle", "a frame of another")
+        expect(loses == any("what stood behind it is lost" in line for line in lines), f"{name}: {lines}")
+        expect(name != "whole" or count == frames_in(whole), f"{count} of {frames_in(whole)} frames count")
     return len(ways)
 
 
-def unreadable(folder, file):
+def unreadable(folder: pathlib.Path, file: File) -> None:
     """What is no register ends with 2."""
-    text, none = os.path.join(folder, "text"), os.path.join(folder, "none")
-    pathlib.Path(text).write_text("no database", encoding="ascii")
-    pathlib.Path(os.path.join(folder, "empty")).write_bytes(b"")
-    for path in (text, none, os.path.join(folder, "empty"), folder):
-        status, lines = replay(path)
-        expect(status == 2 and "cannot be read" in lines[-1], f"{path}: {status}, {lines}")
-    for statement in ("UPDATE meta SET version = 3", "DROP TABLE approval", "ALTER TABLE meta RENAME TO other",
-                      "ALTER TABLE keys ADD COLUMN more INTEGER AS (number * 2)",
-                      "ALTER TABLE keys RENAME COLUMN owner TO holder"):
-        expect(replay(changed(file, (statement,)))[0] == 2, statement)
-    view = changed(file, ("ALTER TABLE period RENAME TO other",), ("CREATE VIEW period AS SELECT * FROM other",))
-    expect(replay(view)[0] == 2, "a view")
+    text, empty = folder / "text", folder / "empty"
+    text.write_text("no database", encoding="ascii")
+    empty.write_bytes(b"")
+    for path in (text, folder / "none", empty, folder):
+        expect_end(path, 2, "cannot be read")
+    for statements in (["UPDATE meta SET version = 3"], ["DROP TABLE approval"], ["ALTER TABLE meta RENAME TO other"],
+                       ["ALTER TABLE keys ADD COLUMN more INTEGER AS (number * 2)"],
+                       ["ALTER TABLE keys RENAME COLUMN owner TO holder"],
+                       ["ALTER TABLE period RENAME TO other", "CREATE VIEW period AS SELECT * FROM other"]):
+        expect_end(changed(file, *((statement,) for statement in statements)), 2)
 
 
-def measured(folder, count, seed):
+def measured(folder: pathlib.Path, count: int) -> tuple[float, int]:
     """The seconds and the megabytes that a register of so many requests takes, with some of each kind."""
-    chance = random.Random(seed)
-    lines = [f"{1_700_000_000 + number} ann {number} register {chance.choice(KINDS)} bob {1_700_000_000 + number} - - "
-             f"disks of rack {number}" for number in range(1, count // 2 + 1)]
-    lines += [f"{1_700_000_000 + count + number} bob {number} add-custodian {number} cat"
-              for number in range(1, count // 2 + 1)]
-    file, accepted = made(folder, f"many_{count}", lines)
-    expect(accepted == len(lines), f"{accepted} of {len(lines)} accepted")
+    purposes = [f"disks of rack {number}" for number in range(1000)]
+    file, accepted = made(folder, f"many_{count}", many_requests(count, KINDS, purposes))
+    expect(accepted == count // 2 * 2, f"{accepted} of {count} accepted")
     begun = time.monotonic()
-    words = [sys.executable, "-c", MEASURED, sys.executable, REPLAY, file]
-    told = subprocess.run(words, capture_output=True, check=True)
-    status, kilobytes = map(int, told.stdout.split())
-    taken, most = time.monotonic() - begun, LEAST_BYTES + BYTES_OF_ONE * count
+    words = [sys.executable, "-c", MEASURED, *words_of("replay", file)]
+    done = subprocess.run(words, capture_output=True, check=True)
+    status, kilobytes = map(int, done.stdout.split())
+    seconds, most = time.monotonic() - begun, LEAST_BYTES + BYTES_OF_ONE * count
     expect(status == 0, f"many requests: {status}")
     expect(kilobytes << 10 <= most, f"{count} requests took {kilobytes >> 10} MB, and not {most >> 20}")
-    found(file, ("keys 7: owner is 'eve'", "'bob'"), ("UPDATE keys SET owner = 'eve' WHERE number = 7",))
-    return taken, kilobytes >> 10
+    expect_found(file, "keys 7: owner is 'eve'", "'bob'", ("UPDATE keys SET owner = 'eve' WHERE number = 7",))
+    return seconds, kilobytes >> 10
 
 
-def main():
-    words = argparse.ArgumentParser()
-    words.add_argument("--requests", type=int, default=100_000)
-    words.add_argument("--seed", type=int, default=random.randrange(1_000_000))
-    words = words.parse_args()
-    print(f"seed {words.seed}", flush=True)
-    with tempfile.TemporaryDirectory(dir=in_memory(2**28)) as folder:
-        first, full, sixteen, asked = untouched(folder, words.seed)
+def main() -> None:
+    given = options(__doc__, requests=100_000, seed=random.randrange(1_000_000))
+    print(f"seed {given.seed}", flush=True)
+    with fresh_folder(2**28) as folder:
+        first, full, sixteen, asked = untouched(folder, given.seed)
         count = planted(first, 1) + planted(full, 2) + refused(first, full, sixteen)
         no_order(full, folder)
-        count += earlier_order(folder, random.Random(words.seed))
+        count += earlier_order(folder, random.Random(given.seed))
         asked += read_as_keyreg(folder, full)
         unreadable(folder, full)
         kinds = logs(folder)
-        few, _ = measured(folder, words.requests // 4, words.seed)
-        taken, megabytes = measured(folder, words.requests, words.seed)
-    expect(taken <= 8 * few, f"{words.requests} requests took {taken:.1f} seconds, and a quarter of them {few:.1f}")
-    print(f"{asked} registers are what their requests give; {count} of {count} planted changes were found; "
-          f"{kinds} logs were counted as SQLite does; {words.requests} requests took {taken:.1f} seconds and "
-          f"{megabytes} MB")
+        few, _ = measured(folder, given.requests // 4)
+        seconds, megabytes = measured(folder, given.requests)
+    expect(seconds <= 8 * few, f"{given.requests} requests took {seconds:.1f} seconds, and a quarter of them {few:.1f}")
+    verdict(f"{asked} registers are what their requests give; {count} of {count} planted changes were found; "
+            f"{kinds} logs were counted as SQLite does; {given.requests} requests took {seconds:.1f} seconds and "
+            f"{megabytes} MB")
 
 
 main()

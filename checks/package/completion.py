@@ -7,17 +7,22 @@ own, which shows the line, the choices and nothing else.
 It needs Debian's tmux and the shells (`apt-get install tmux zsh fish`), and reads the files under packaging/.
 checks/package/installed.py asks the same of the files that a package put in a root, by the shells of that root.
 """
+import os
 import pathlib
+import shlex
 import shutil
+import subprocess
 import sys
 import tempfile
+import time
+from typing import Callable, Iterable, Optional, Sequence
 
 sys.path.insert(1, str(pathlib.Path(__file__).resolve().parents[1] / "shared"))
 from places import TOP
-from terminal import Terminal
+from script import expect, fresh_folder, verdict
 
 PACKAGING = TOP / "packaging"
-PROMPT = "now> "
+PROMPT, WIDTH, HEIGHT, PATIENCE = "now> ", 120, 40, 8
 COMMANDS = ("init", "run", "import", "export", "report", "serve")
 # What is typed, each before one Tab, and the line that is to stand there.
 COMPLETED = (
@@ -51,36 +56,77 @@ BEGUN = {
 }
 
 
-def places(folder):
+class Terminal:
+    """A program that was begun in a terminal of its own, by tmux. It ends with the `with`."""
+
+    def __init__(self, words: Sequence[str], folder: pathlib.Path) -> None:
+        self.held = tempfile.TemporaryDirectory()
+        self.socket = str(pathlib.Path(self.held.name) / "tmux")
+        others = {name: value for name, value in os.environ.items() if name not in ("TMUX", "TMUX_PANE")}
+        self.environment = {**others, "LC_ALL": "C.UTF-8", "TERM": "screen"}
+        begun = shlex.join(map(str, words))
+        self.tmux("-f", "/dev/null", "new-session", "-d", "-x", WIDTH, "-y", HEIGHT, "-c", folder, begun)
+
+    def __enter__(self) -> "Terminal":
+        return self
+
+    def __exit__(self, *_: object) -> None:
+        self.tmux("kill-server")
+        self.held.cleanup()
+
+    def tmux(self, *words: object) -> str:
+        words = ["tmux", "-S", self.socket, *map(str, words)]
+        return subprocess.run(words, env=self.environment, capture_output=True, text=True, check=False).stdout
+
+    def keys(self, *names: str) -> None:
+        """Keys by tmux's names, as Tab and C-u; `text` is typed as it is."""
+        self.tmux("send-keys", *names)
+
+    def text(self, typed: str) -> None:
+        self.tmux("send-keys", "-l", typed)
+
+    def screen(self) -> list[str]:
+        """The lines that stand on the screen, without those below the last one."""
+        return self.tmux("capture-pane", "-p").rstrip("\n").split("\n")
+
+    def until(self, holds: Callable[[list[str]], bool]) -> list[str]:
+        """The screen as soon as `holds` of it, or as it stands when patience ends."""
+        late = time.monotonic() + PATIENCE
+        while not holds(lines := self.screen()) and time.monotonic() < late:
+            time.sleep(0.05)
+        return lines
+
+
+def places(folder: pathlib.Path) -> dict[str, pathlib.Path]:
     """Where the files of completion are, as a package would have them."""
     (folder / "zsh").mkdir()
     shutil.copy(PACKAGING / "keyreg.zsh", folder / "zsh" / "_keyreg")
     return {"bash": PACKAGING / "keyreg.bash", "zsh": folder / "zsh", "fish": PACKAGING / "keyreg.fish"}
 
 
-def furnish(folder):
+def furnish(folder: pathlib.Path) -> None:
     """The files that are there to be completed, in a folder and its home."""
     for name in ("office.keyreg", "two words.keyreg", "folder/year.keyreg", "home/home.keyreg", "home/.config/there"):
         (folder / name).parent.mkdir(parents=True, exist_ok=True)
         (folder / name).write_text("")
 
 
-def begun(shell, words, told, folder):
+def begun(shell: str, words: Sequence[str], first: str, folder: pathlib.Path) -> Terminal:
     """A shell's terminal that waits at its prompt."""
     terminal = Terminal([*words, *BEGUN[shell][0]], folder)
     terminal.until(lambda lines: any(line.strip() for line in lines))
-    terminal.text(told + "\n")
+    terminal.text(first + "\n")
     terminal.until(lambda lines: lines == [PROMPT.rstrip()])
     return terminal
 
 
-def line_of(lines):
+def line_of(lines: Iterable[str]) -> str:
     """The line that is typed at, without what a shell proposes behind it."""
     typed = [line for line in lines if line.startswith(PROMPT)]
     return typed[-1][len(PROMPT):].rstrip() if typed else ""
 
 
-def completed(terminal, typed, wanted):
+def completed(terminal: Terminal, typed: str, wanted: str) -> Optional[str]:
     """What a Tab made of the typed text, where it is not the wanted line or where more than the line is shown."""
     terminal.text(typed)
     terminal.until(lambda lines: line_of(lines).startswith(typed.rstrip()))
@@ -92,9 +138,9 @@ def completed(terminal, typed, wanted):
     return None if line_of(lines) in right and len(lines) == 1 else f"`{typed}` and Tab: {lines}, not {wanted!r}"
 
 
-def offered(terminal, typed, wanted):
+def offered(terminal: Terminal, typed: str, wanted: Iterable[str]) -> Optional[str]:
     """Which choices two Tabs do not show."""
-    def missing(lines):
+    def missing(lines: Iterable[str]) -> list[str]:
         shown = {word for line in lines if not line.startswith(PROMPT) for word in line.replace(",", " ").split()}
         return [word for word in wanted if word not in shown]
 
@@ -106,37 +152,32 @@ def offered(terminal, typed, wanted):
     return f"`{typed}` and two Tabs do not show {missing(lines)}: {lines}" if missing(lines) else None
 
 
-def cleared(terminal):
+def cleared(terminal: Terminal) -> None:
     terminal.keys("C-u")
     terminal.keys("C-l")
     terminal.until(lambda lines: lines == [PROMPT.rstrip()])
 
 
-def faults_of(shell, words, told, folder):
-    """What a shell, begun by these words in the folder and told so much, does not complete."""
-    with begun(shell, words, told.replace("{prompt}", PROMPT), folder) as terminal:
-        found = [completed(terminal, typed, wanted) for typed, wanted in COMPLETED]
-        found += [offered(terminal, typed, wanted) for typed, wanted in CHOICES]
-    return [f"{shell}: {fault}" for fault in found if fault]
+def faults_of(shell: str, words: Sequence[str], first: str, folder: pathlib.Path) -> list[str]:
+    """What a shell, begun by these words in the folder, to which this is typed first, does not complete."""
+    with begun(shell, words, first.replace("{prompt}", PROMPT), folder) as terminal:
+        faults = [completed(terminal, typed, wanted) for typed, wanted in COMPLETED]
+        faults += [offered(terminal, typed, wanted) for typed, wanted in CHOICES]
+    return [f"{shell}: {fault}" for fault in faults if fault]
 
 
-def main():
-    shells = sys.argv[1:] or list(BEGUN)
+def main() -> None:
+    shells, faults = sys.argv[1:] or list(BEGUN), list[str]()
     missing = [name for name in ("tmux", *shells) if not shutil.which(name)]
-    if missing or not set(shells) <= set(BEGUN):
-        sys.exit(f"FAILED: not here: {' '.join(missing)}; the shells are {', '.join(BEGUN)}")
-    faults = []
-    with tempfile.TemporaryDirectory() as held:
-        folder = pathlib.Path(held)
+    expect(not missing and set(shells) <= set(BEGUN), f"not here: {missing}; the shells are {', '.join(BEGUN)}")
+    with fresh_folder() as folder:
         files = places(folder)
         furnish(folder)
         clean = ["env", "-i", f"HOME={folder}/home", "PATH=/usr/bin:/bin", "TERM=screen", "LC_ALL=C.UTF-8"]
         for shell in shells:
             faults += faults_of(shell, clean, BEGUN[shell][1].format(prompt=PROMPT, **files), folder)
-    print(*faults, sep="\n", end="\n" if faults else "")
-    print(f"{', '.join(shells)}: {len(COMPLETED) + len(CHOICES)} completions each, {len(faults)} faults")
-    return 1 if faults else 0
+    verdict(f"{', '.join(shells)}: {len(COMPLETED) + len(CHOICES)} completions each, {len(faults)} faults", faults)
 
 
 if __name__ == "__main__":
-    sys.exit(main())
+    main()

@@ -16,12 +16,10 @@ service may make; the pages name no file that is not there, and the commands of 
 OPERATING and AUDIT print there what stands there; the desk is set up by the words of the installed OPERATING,
 and a user who is added so registers a key in a browser and finds it; after the removal, by the words too, no
 file is there that was not before. The tar file leaves the folders of /usr/local their owners and modes, runs
-and completes, its desk is set up and used likewise, and it goes by the words of OPERATING. And the completions
-have the options of `--help`.
+and completes, its desk is set up and used likewise, and it goes by the words of OPERATING.
 
 From the base on all is in a network of its own, in which the ports of the units and of nginx are free.
 """
-import argparse
 import contextlib
 import ctypes
 import fcntl
@@ -37,18 +35,19 @@ import sys
 import tempfile
 import time
 import types
+from typing import Any, Iterator
 
 sys.path.insert(1, str(pathlib.Path(__file__).resolve().parents[1] / "shared"))
-from places import PROGRAM, TOP, use
+from places import TOP, use
 import completion
 import document_commands
 from client import Client
-from in_systemd import blocks_of
-from serving import listens
+from roots import MIRROR, PACKAGES, anchor_of, blocks_of, call, made_package, make_base
+from script import expect, fresh_folder, options, verdict
+from serving import free_port, listens
 
-PACKAGES = TOP / "packages"
 TOOLS = ("debootstrap", "lintian", "strace", "systemd-analyze", "tmux", "readelf", "zsh", "fish", "dpkg-deb")
-MORE = "man-db,bash-completion,zsh,fish,python3,sqlite3,curl,systemd,nginx-light,openssl"
+MORE = ("man-db", "bash-completion", "zsh", "fish", "python3", "sqlite3", "curl", "systemd", "nginx-light", "openssl")
 # What dpkg, apt, man, nginx and the users' programs keep of their own, which no package can take away.
 OWN = re.compile(r"/var/(lib/(dpkg|apt|nginx)/|log/|cache/(man|apt|debconf|ldconfig)/)|/etc/ld\.so\.cache$"
                  r"|/etc/g?(passwd|group|shadow)-$|/(proc|sys|dev|tmp|run)/")
@@ -75,9 +74,10 @@ def fault(holds: bool, text: str) -> None:
         print(text)
 
 
-def call(*words, given: str | None = None, **more) -> subprocess.CompletedProcess:
-    words = [str(word) for word in words]
-    return subprocess.run(words, input=given, capture_output=True, text=True, check=False, **more)
+def call_well(what: str, *words: Any, **more: Any) -> None:
+    """Calls a program, whose status has to be 0."""
+    done = call(*words, **more)
+    fault(done.returncode == 0, f"{what}: {done.stdout}{done.stderr}")
 
 
 def there(root: pathlib.Path) -> list[str]:
@@ -104,17 +104,6 @@ def files_of(root: pathlib.Path) -> set[str]:
     return {path for path in paths if not OWN.match(path + "/") and not OWN.match(path)}
 
 
-def base_of(root: pathlib.Path, base: str | None, mirror: str) -> None:
-    if base:
-        done = call("cp", "-a", f"{base}/.", root)
-    else:
-        print("fetching Debian's base", file=sys.stderr)
-        done = call("debootstrap", "--variant=minbase", f"--include={MORE}", "bookworm", root, mirror)
-    if done.returncode:
-        sys.exit(f"FAILED: no base of Debian: {done.stdout[-2000:]}{done.stderr}")
-    (root / "etc/hostname").write_text("packaged\n")
-
-
 def go_alone() -> None:
     """A network of its own for this process and what it starts: 127.0.0.1, where each port is free."""
     new_network, set_flags, up_and_running = 0x40000000, 0x8914, 0x41
@@ -129,78 +118,58 @@ def completes(root: pathlib.Path) -> None:
     folder = root / "tmp/tabs"
     folder.mkdir()
     completion.furnish(folder)
-    for shell, told in BEGUN.items():
+    for shell, first in BEGUN.items():
         # fish looks below /usr/local where this says so, as a desktop's session does.
         words = inside(root, "/tmp/tabs", "HOME=/tmp/tabs/home", "XDG_DATA_DIRS=/usr/local/share:/usr/share")
-        for told_fault in completion.faults_of(shell, words, told, folder):
-            fault(False, told_fault)
+        for text in completion.faults_of(shell, words, first, folder):
+            fault(False, text)
     shutil.rmtree(folder)
 
 
 def depends(package: pathlib.Path, root: pathlib.Path) -> None:
     """The package depends on the libraries that its program loads, and on nothing else."""
-    told = call("dpkg-deb", "--field", package, "Depends").stdout
-    names = {word.split()[0] for word in told.split(",")}
+    field = call("dpkg-deb", "--field", package, "Depends").stdout
+    names = {word.split()[0] for word in field.split(",")}
     loaded = re.findall(r"\(NEEDED\).*\[(.+)\]", call("readelf", "--dynamic", root / "usr/bin/keyreg").stdout)
     needed = {LIBRARIES.get(name, name) for name in loaded}
     fault(names == needed, f"the package depends on {sorted(names)}, and its program loads {sorted(needed)}")
     versions = re.findall(r"GLIBC_(\d+)\.(\d+)", call("readelf", "--version-info", root / "usr/bin/keyreg").stdout)
     newest = ".".join(map(str, max(tuple(map(int, version)) for version in versions)))
-    fault(f"libc6 (>= {newest})" in told, f"the program wants glibc {newest}, and the package {told.strip()}")
+    fault(f"libc6 (>= {newest})" in field, f"the program wants glibc {newest}, and the package {field.strip()}")
 
 
 def page_faults(docs: pathlib.Path, page: pathlib.Path) -> list[str]:
     """What a page names that is not there."""
     text = page.read_text("utf-8")
     plain = re.sub(r"(?ms)^```.*?^```$", "", text) if page.suffix == ".md" else ""
-    found = [f"it has {one}" for one in ("./keyreg", "checks/", "crates/", "./package", "CONTRIBUTING") if one in text]
+    faults_of_page = [f"it has {word}" for word in ("./keyreg", "checks/", "crates/", "./package", "CONTRIBUTING")
+                      if word in text]
     for target in re.findall(r"\]\(([^)\s]+)\)|^\[[^\]]+\]: (\S+)", plain, re.M):
         path, _, anchor = (target[0] or target[1]).partition("#")
         if re.match(r"[a-z]+:", path):
             continue
         aim = (page.parent / path).resolve() if path else page
-        found += [] if aim.exists() and docs in [aim, *aim.parents] else [f"its link leads to no {path}"]
+        faults_of_page += [] if aim.exists() and docs in [aim, *aim.parents] else [f"its link leads to no {path}"]
         if anchor and aim.is_file():
-            headings = {re.sub(r"[^\w -]", "", line.lstrip("# ").lower()).replace(" ", "-")
-                        for line in aim.read_text("utf-8").split("\n") if line.startswith("#")}
-            found += [] if anchor in headings else [f"{path} has no {anchor}"]
-    return found
+            headings = {anchor_of(line) for line in aim.read_text("utf-8").split("\n") if line.startswith("#")}
+            faults_of_page += [] if anchor in headings else [f"{path} has no {anchor}"]
+    return faults_of_page
 
 
 def read_there(root: pathlib.Path, docs: pathlib.Path) -> None:
     """The pages are true where they lie: what they name is there, and their commands print there what stands there."""
     pages = sorted([*docs.rglob("*.md"), *docs.rglob("*.yaml")])
     for page in pages:
-        for told in page_faults(docs, page):
-            fault(False, f"{page.relative_to(root)}: {told}")
+        for text in page_faults(docs, page):
+            fault(False, f"{page.relative_to(root)}: {text}")
     (root / "tmp/reader").mkdir()
     texts = {f"/{(docs / name).relative_to(root)}": (docs / name).read_text("utf-8") for name in PAGES}
     shell = inside(root, "/tmp/reader", "HOME=/tmp/reader", "no_proxy=*", "bash", "-c")
-    found, count = document_commands.compared(texts, str(root), shell)
-    for told in found:
-        fault(False, told)
+    wrong, count = document_commands.compared(texts, str(root), shell)
+    for text in wrong:
+        fault(False, text)
     shutil.rmtree(root / "tmp/reader")
     print(f"{len(pages)} pages name what is there, and {count} blocks of commands were run", flush=True)
-
-
-def tells_options() -> None:
-    """The files of completion have the commands and options of the help, and no other."""
-    shown = call(PROGRAM, "--help").stderr
-    words = re.findall(r"^  (\w+)  ", shown.split("Commands:\n")[1].split("\n\n")[0], re.M)
-    options = {option for word in ["--help", *words] for option in re.findall(r"--[a-z]+", "".join(
-        line for line in call(PROGRAM, word, "--help").stderr.splitlines(True) if re.match(r"\s+(-\w, )?--", line)))}
-    for name, pattern in (("bash", r"--[a-z]+"), ("zsh", r"--[a-z]+"), ("fish", r"complete .* -l ([a-z]+)")):
-        text = (TOP / "packaging" / f"keyreg.{name}").read_text()
-        told = {f"--{option.lstrip('-')}" for option in re.findall(pattern, text)}
-        fault(told == options, f"packaging/keyreg.{name}: {sorted(told ^ options)} are not in both")
-        missing = [word for word in words if not re.search(rf"\b{word}\b", text)]
-        fault(not missing, f"packaging/keyreg.{name}: no command {missing}")
-
-
-def port() -> int:
-    with socket.socket() as found:
-        found.bind(("127.0.0.1", 0))
-        return found.getsockname()[1]
 
 
 def ask(number: int) -> dict:
@@ -212,7 +181,7 @@ def ask(number: int) -> dict:
 
 def served(root: pathlib.Path, trace: pathlib.Path) -> None:
     """One exchange is served in the root; what it called goes to the trace."""
-    number = port()
+    number = free_port()
     words = ["strace", "-f", "-qq", "-o", trace, *there(root), "/usr/bin/keyreg", "serve", "--file",
              "/tmp/office.keyreg", "--port", number, "--exchanges", 1]
     with subprocess.Popen([str(word) for word in words]) as life:
@@ -255,9 +224,9 @@ def may_call(unit: pathlib.Path, trace: pathlib.Path) -> None:
 def exposed(root: pathlib.Path) -> None:
     unit = root / "usr/lib/systemd/system/keyreg.service"
     done = call("systemd-analyze", "security", "--offline=true", f"--root={root}", "--no-pager", unit)
-    told = re.search(r"exposure level for \S+: ([\d.]+)", done.stdout)
-    fault(told is not None and float(told[1]) <= EXPOSURE, f"exposure: {told and told[1]} {done.stderr}")
-    print(f"the service's exposure is {told and told[1]}")
+    level = re.search(r"exposure level for \S+: ([\d.]+)", done.stdout)
+    fault(level is not None and float(level[1]) <= EXPOSURE, f"exposure: {level and level[1]} {done.stderr}")
+    print(f"the service's exposure is {level and level[1]}")
 
 
 # ---- the desk, by the words of the page
@@ -298,7 +267,7 @@ def row_words(page: pathlib.Path, name: str) -> str:
 
 
 @contextlib.contextmanager
-def running(words: list[str], number: int):
+def running(words: list[str], number: int) -> Iterator[bool]:
     """A program that runs meanwhile, once it listens; whether it does."""
     with subprocess.Popen(words, stdin=subprocess.DEVNULL) as process:
         try:
@@ -323,8 +292,7 @@ def browsed(root: pathlib.Path, units: pathlib.Path) -> None:
         raise OSError(ended.msg) from None
     try:
         number = day.register(reader, "master", USER, "root of vault 2")
-        done = call(*unit_words(root, units / "keyreg-list.service"))
-        fault(done.returncode == 0, f"keyreg-list: {done.stdout}{done.stderr}")
+        call_well("keyreg-list", *unit_words(root, units / "keyreg-list.service"))
         reader.run("sessionStorage.clear()")
         reader.open("find")
         reader.reload()
@@ -337,13 +305,11 @@ def browsed(root: pathlib.Path, units: pathlib.Path) -> None:
 def desk(root: pathlib.Path, docs: pathlib.Path, units: pathlib.Path) -> None:
     """The desk stands by the words of the installed pages, serves a browser, and goes by them."""
     page = docs / "docs/OPERATING.md"
-    done = call(*as_root(root, head_words(units / "keyreg.service")))
-    fault(done.returncode == 0, f"the words of keyreg.service: {done.stdout}{done.stderr}")
+    call_well("the words of keyreg.service", *as_root(root, head_words(units / "keyreg.service")))
     status, shown = in_terminal(as_root(root, "\n".join(blocks_of(page)["the-desk"][0])), PASSWORD)
     fault(status == 0, f"the words of The desk: {shown}")
     nginx = as_root(root, "exec nginx -g 'daemon off;'")
-    done = call(*unit_words(root, units / "keyreg-list.service"))
-    fault(done.returncode == 0, f"keyreg-list: {done.stdout}{done.stderr}")
+    call_well("keyreg-list", *unit_words(root, units / "keyreg-list.service"))
     with running(unit_words(root, units / "keyreg.service"), 8420), running(nginx, DESK_PORT) as is_there:
         if is_there:
             try:
@@ -354,16 +320,15 @@ def desk(root: pathlib.Path, docs: pathlib.Path, units: pathlib.Path) -> None:
     fault(list_mode == "keyreg:www-data 640", f"list.json is {list_mode}")
     for name in ("remove what was set up of the desk", "remove registers for good"):
         # Folders that are not there are none to remove.
-        done = call(*as_root(root, row_words(page, name).replace("rm -r ", "rm -rf ")))
-        fault(done.returncode == 0, f"{name}: {done.stdout}{done.stderr}")
+        call_well(name, *as_root(root, row_words(page, name).replace("rm -r ", "rm -rf ")))
     print(f"{page.relative_to(root)}: the desk was set up and used by its words", flush=True)
 
 
 def typed_of_tar(plain: pathlib.Path) -> tuple[str, str]:
     """What OPERATING has a person type to install a tar file of this name, and to remove it."""
     operating = (TOP / "docs/OPERATING.md").read_text("utf-8")
-    found = [re.search(rf"`(tar -{word} [^`]*)`", operating)[1].replace("\\|", "|") for word in ("xzf", "tzf")]
-    install, remove = (re.sub(r"keyreg-\S+\.tar\.gz", plain.name, text) for text in found)
+    texts = [re.search(rf"`(tar -{word} [^`]*)`", operating)[1].replace("\\|", "|") for word in ("xzf", "tzf")]
+    install, remove = (re.sub(r"keyreg-\S+\.tar\.gz", plain.name, text) for text in texts)
     return install, remove
 
 
@@ -383,47 +348,34 @@ def unpacked(root: pathlib.Path) -> None:
         call(*there(root), "sh", "-c", f"chown root:staff /usr/local/{name} && chmod 2775 /usr/local/{name}")
     before, modes = files_of(root), folders_of(root)
     shutil.copy(plain, root / "tmp" / plain.name)
-    done = call(*inside(root, "/tmp"), "sh", "-c", install)
-    fault(done.returncode == 0, f"{install}: {done.stderr}")
+    call_well(install, *inside(root, "/tmp"), "sh", "-c", install)
     fault(modes <= folders_of(root), f"the tar file changed folders: {sorted(modes - folders_of(root))}")
-    found = call(*inside(root, "/tmp"), "sh", "-c", "command -v keyreg").stdout
-    fault(found == "/usr/local/bin/keyreg\n", f"keyreg in the path is {found!r}")
+    place = call(*inside(root, "/tmp"), "sh", "-c", "command -v keyreg").stdout
+    fault(place == "/usr/local/bin/keyreg\n", f"keyreg in the path is {place!r}")
     completes(root)
     read_there(root, root / "usr/local/share/doc/keyreg")
     desk(root, root / "usr/local/share/doc/keyreg", root / "usr/local/lib/systemd/system")
     call(*as_root(root, "systemctl disable keyreg keyreg-list.timer"))
-    done = call(*inside(root, "/tmp"), "sh", "-c", remove)
-    fault(done.returncode == 0, f"{remove}: {done.stderr}")
+    call_well(remove, *inside(root, "/tmp"), "sh", "-c", remove)
     left = sorted(path for path in files_of(root) - before if not (root / path.lstrip("/")).is_dir())
     fault(not left, f"left behind of the tar file: {left}")
 
 
-def main() -> int:
-    words = argparse.ArgumentParser(description=__doc__.split("\n")[0])
-    words.add_argument("--base")
-    words.add_argument("--mirror", default="http://deb.debian.org/debian")
-    given = words.parse_args()
+def main() -> None:
+    given = options(__doc__, base="", mirror=MIRROR)
     missing = [tool for tool in TOOLS if not shutil.which(tool)]
-    if missing:
-        sys.exit(f"FAILED: not here: {' '.join(missing)}")
-    done = call(TOP / "package")
-    if done.returncode:
-        sys.exit(f"FAILED: ./package: {done.stderr}")
-    package = next(PACKAGES.glob("*.deb"))
-    summed = call("sha256sum", "--check", "SHA256SUMS", cwd=PACKAGES)
-    fault(summed.returncode == 0, f"the checksums are not those of the files: {summed.stdout}{summed.stderr}")
-    linted = call("lintian", "--allow-root", "--fail-on", "error", package)
-    fault(linted.returncode == 0, f"lintian: {linted.stdout}{linted.stderr}")
-    tells_options()
-    with tempfile.TemporaryDirectory() as folder:
-        root, trace = pathlib.Path(folder) / "root", pathlib.Path(folder) / "trace"
-        root.mkdir()
-        base_of(root, given.base, given.mirror)
+    expect(not missing, f"not here: {' '.join(missing)}")
+    package = made_package()
+    call_well("the checksums are not those of the files", "sha256sum", "--check", "SHA256SUMS", cwd=PACKAGES)
+    call_well("lintian", "lintian", "--allow-root", "--fail-on", "error", package)
+    with fresh_folder() as folder:
+        root, trace = folder / "root", folder / "trace"
+        make_base(root, given.base, given.mirror, MORE)
+        (root / "etc/hostname").write_text("packaged\n")
         go_alone()
         before = files_of(root)
         shutil.copy(package, root / "tmp" / package.name)
-        done = call(*there(root), "dpkg", "--install", f"/tmp/{package.name}")
-        fault(done.returncode == 0, f"dpkg --install: {done.stdout}{done.stderr}")
+        call_well("dpkg --install", *there(root), "dpkg", "--install", f"/tmp/{package.name}")
         runs(root)
         completes(root)
         depends(package, root)
@@ -434,15 +386,13 @@ def main() -> int:
         desk(root, root / "usr/share/doc/keyreg", root / "usr/lib/systemd/system")
         words = row_words(root / "usr/share/doc/keyreg/docs/OPERATING.md", "remove")
         words = words.replace("keyreg keyreg-", "keyreg keyreg-list.timer keyreg-", 1)
-        done = call(*as_root(root, words))
-        fault(done.returncode == 0, f"{words}: {done.stdout}{done.stderr}")
+        call_well(words, *as_root(root, words))
         left = sorted(files_of(root) - before)
         fault(not left, f"left behind: {left}")
         fault("keyreg" not in call(*there(root), "dpkg", "-l").stdout, "dpkg knows keyreg still")
         unpacked(root)
-    print(f"{package.name}: {len(faults)} faults")
-    return 1 if faults else 0
+    # Each fault was printed as it was found.
+    verdict(f"{package.name}: {len(faults)} faults", len(faults))
 
 
-if __name__ == "__main__":
-    sys.exit(main())
+main()

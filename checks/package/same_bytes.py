@@ -16,11 +16,11 @@ import pathlib
 import shutil
 import subprocess
 import sys
-import tempfile
+from typing import Any
 
 sys.path.insert(1, str(pathlib.Path(__file__).resolve().parents[1] / "shared"))
 from places import PROGRAM, TOP
-
+from script import expect, fresh_folder, verdict
 
 # What differs between the two: the folder, the umask, by how many seconds its files are younger, what tools are told
 # from outside, the cores.
@@ -32,25 +32,25 @@ PLACES = (("one", 0o022, 0, {"TZ": "UTC", "LC_ALL": "C"}, None),
 MOMENT = 4_102_444_800
 
 
-def digest(path):
+def digest(path: pathlib.Path) -> str:
     return hashlib.sha256(path.read_bytes()).hexdigest()
 
 
-def first_difference(one, other):
+def first_difference(one: pathlib.Path, other: pathlib.Path) -> str:
     """Where two files differ first."""
     a, b = one.read_bytes(), other.read_bytes()
     place = next((at for at, (x, y) in enumerate(zip(a, b)) if x != y), min(len(a), len(b)))
     return f"{one.name}: {len(a)} and {len(b)} bytes, other from byte {place} on"
 
 
-def sources():
+def sources() -> list[str]:
     """The files of the checkout, as git knows them or would take them."""
     words = ["git", "ls-files", "-z", "--cached", "--others", "--exclude-standard"]
-    told = subprocess.run(words, cwd=TOP, capture_output=True, text=True, check=True).stdout
-    return [name for name in told.split("\0") if name and (TOP / name).is_file()]
+    names = subprocess.run(words, cwd=TOP, capture_output=True, text=True, check=True).stdout.split("\0")
+    return [name for name in names if name and (TOP / name).is_file()]
 
 
-def packaged(base, place, program):
+def packaged(base: pathlib.Path, place: tuple[Any, ...], program: str) -> pathlib.Path:
     """The folder of packages that a copy of the checkout makes in a place of its own."""
     name, umask, shift, environment, cores = place
     folder = base / name
@@ -64,29 +64,27 @@ def packaged(base, place, program):
             os.utime(target, (MOMENT + shift, MOMENT + shift))
     finally:
         os.umask(before)
-    told = {**os.environ, "SOURCE_DATE_EPOCH": str(MOMENT), "KEYREG": os.path.abspath(program), **environment}
+    environment = {**os.environ, "SOURCE_DATE_EPOCH": str(MOMENT), "KEYREG": os.path.abspath(program), **environment}
 
-    def begins():
+    def begins() -> None:
         os.umask(umask)
         if cores:
             os.sched_setaffinity(0, cores)
 
-    done = subprocess.run(["./package"], cwd=folder, env=told, preexec_fn=begins, capture_output=True, text=True,
+    done = subprocess.run(["./package"], cwd=folder, env=environment, preexec_fn=begins, capture_output=True, text=True,
                           check=False)
-    if done.returncode:
-        sys.exit(f"FAILED: ./package in {name}: {done.stderr}")
+    expect(done.returncode == 0, f"./package in {name}: {done.stderr}")
     return folder / "packages"
 
 
-def main():
-    programs = sys.argv[1:] or [PROGRAM, PROGRAM]
-    if len(programs) != 2 or not all(os.access(path, os.X_OK) for path in programs):
-        sys.exit(f"FAILED: two programs, or one that is built: {' '.join(programs)}")
-    faults = []
+def main() -> None:
+    programs, faults = sys.argv[1:] or [PROGRAM, PROGRAM], list[str]()
+    are_there = len(programs) == 2 and all(os.access(path, os.X_OK) for path in programs)
+    expect(are_there, f"two programs, or one that is built: {' '.join(programs)}")
     if digest(pathlib.Path(programs[0])) != digest(pathlib.Path(programs[1])):
         faults.append("the programs differ: " + first_difference(*map(pathlib.Path, programs)))
-    with tempfile.TemporaryDirectory() as held:
-        one, other = (packaged(pathlib.Path(held), place, program) for place, program in zip(PLACES, programs))
+    with fresh_folder() as base:
+        one, other = (packaged(base, place, program) for place, program in zip(PLACES, programs))
         names = sorted({path.name for folder in (one, other) for path in folder.iterdir()})
         for name in names:
             if not all((folder / name).is_file() for folder in (one, other)):
@@ -96,11 +94,8 @@ def main():
         summed = {line.split()[1] for line in (one / "SHA256SUMS").read_text().splitlines()}
         if summed != set(names) - {"SHA256SUMS"}:
             faults.append(f"SHA256SUMS names {sorted(summed)} of {names}")
-    print(*faults, sep="\n", end="\n" if faults else "")
     of = "of two builds" if sys.argv[1:] else "of one program"
-    print(f"{len(names)} files made twice, {of}: {len(faults)} faults")
-    return 1 if faults else 0
+    verdict(f"{len(names)} files made twice, {of}: {len(faults)} faults", faults)
 
 
-if __name__ == "__main__":
-    sys.exit(main())
+main()

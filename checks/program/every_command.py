@@ -8,8 +8,8 @@
 - Each command of docs/SPECIFICATION.md is accepted in it, in the short day and in each table; a revocation for
   compromise and another one count as two.
 - The tables in the tests of crates are its lines, as they are without the others: keys and the requests of each caller
-  count from 1. So are the rows of docs/FAULTS.md. The steps of the database that a test expects of each line are those
-  of the rule that stands there in words.
+  count from 1. The steps of the database that a test expects of each line are those of the rule that stands there in
+  words.
 
 Where the program is not built it is not asked, which is a fault too: ./keyreg </dev/null builds it.
 """
@@ -126,14 +126,6 @@ def step_faults(day: list[Asked]) -> Iterator[str]:
             yield f"{STEPS}: {asked.text}: {counts.get(asked.text)} stands there, and by the rule it takes {wanted}"
 
 
-def document_faults(day: list[Asked]) -> Iterator[str]:
-    """The lines of the trials that docs/FAULTS.md has not."""
-    text = read("docs/FAULTS.md")
-    first = next(place for place, asked in enumerate(day) if asked.request.word != "register")
-    yield from (f"docs/FAULTS.md: no row of `{asked.text}`" for asked in day[first - 1:]
-                if f"| `{asked.text}` |" not in text)
-
-
 def main() -> None:
     options(__doc__)
     steps, trials = alone("steps"), alone("requests")
@@ -141,7 +133,7 @@ def main() -> None:
     faults = [fault for name, day in days.items() for kind in (kind_faults, reply_faults) for fault in kind(name, day)]
     for path, day in ((STEPS, steps), (TRIALS, trials)):
         faults += table_faults(path, rows_in(path, "DAY"), [(asked.text, asked.reply) for asked in day])
-    faults += [*step_faults(steps), *document_faults(trials)]
+    faults += step_faults(steps)
     faults += [] if HAS_PROGRAM else [f"no program at {PROGRAM}, so it was not asked: ./keyreg </dev/null builds it"]
     verdict(f"{len(DAY)} lines with {len(document_kinds())} kinds of request, of which tables of crates have "
             f"{len(steps)} and {len(trials)}: {len(faults)} faults", faults)

@@ -13,8 +13,7 @@ def reply_line(register: Register, *request: Any) -> str:
         accepted = register.answer(Request(*request))
         return f"ok {accepted.key_no} {STATES[accepted.state]} {accepted.moment}"
     except Refused as refused:
-        return " ".join([f"refused {refused.number} {refused.name}",
-                         *(f"{name}={value}" for name, value in refused.told.items())])
+        return refused.line
 
 
 # ---- JSON
@@ -95,7 +94,7 @@ def post_reply(register: Register, *request: Any) -> bytes:
     try:
         accepted = register.answer(Request(*request))
     except Refused as refused:
-        return refusal_reply(refused.number, **refused.told)
+        return refusal_reply(refused.number, **refused.details)
     state = STATES[accepted.state] if accepted.key_no else None
     return reply(200, {"key": accepted.key_no, "moment": accepted.moment, "state": state})
 

@@ -8,8 +8,7 @@ begin at the top is one of the crates that the section named, the last of them f
 part in the files that its step names, then in those crates, or in all where none is named.
 
 The other way: KINDS has for each recipe one thing that was added so. Each file that mentions it is named by the recipe,
-or by one that it sends on to, or it stands there with the reason why it is left. What is proved of a function is named
-with the function.
+or by one that it sends on to, or it stands there with the reason why it is left. Proofs are left: a red one leads there.
 """
 import fnmatch
 import os
@@ -47,6 +46,7 @@ class Kind(NamedTuple):
 ALWAYS = {
     "the recipes": "docs/RECIPES.md checks/sources/recipes.py",
     "the page that checks/sources/theorem.py makes": "docs/DEFINITIONS.md",
+    "proofs, of which a red one leads there": "crates/*/proofs/*",
     "wrong bodies, of which rt and wrong_bodies.py name those whose lines changed": "crates/*/*must-fail/*",
 }
 KINDS = (
@@ -57,7 +57,7 @@ KINDS = (
                                             "checks/program/large_office.py checks/program/exchanges_by_curl.py",
     }),
     Kind("Add a command", r"\b(Activate|Assign|AddCustodian|Approve)\b", {
-        "they stand for their shapes": "*/Commands.antt */Within/Fields.antt",
+        "they stand for their shapes": "*/Within/Fields.antt",
         "their refusals": "*/CustodyRefusal.antt crates/register_core/src/decision.rt",
         "any command would do": "docs/COSTS.md checks/desk/keyboard.py",
     }),
@@ -81,22 +81,22 @@ KINDS = (
          r"compromised\W+occurrence\W+purpose|\"occurrence\"(, \"\"\)|: (date|moment)_text|\) \(λ d)", {}),
     Kind("Add a command about no key", r"\bSetPeriod\b|set-period|\bset_period\b|\bPeriodSet\b", {
         "a day or a year of an office": "docs/AUDIT.md samples/office.txt samples/year.txt",
-        "what a period means for keys": "*/UnsetPeriods.antt */register_core/src/laws.rt */KeyRowsOf.antt */exports.rt "
-                                        "*/test_desk_trials/src/desks.rt "
-                                        "*/ListedRows.antt bench/tables.py checks/program/rules_tried.py",
+        "what a period means for keys": "*/register_core/src/laws.rt */exports.rt */test_desk_trials/src/desks.rt "
+                                        "bench/tables.py checks/program/rules_tried.py",
         "who the office is": "checks/office/behind_nginx.py checks/office/client_tried.py",
         "what they look at beside the day": "checks/program/want_of_memory.py checks/program/large_office.py "
                                             "checks/program/mutated.py checks/program/exchanges_by_curl.py",
-        "it stands for its shape": "*/Commands.antt */Within/Fields.antt",
+        "it stands for its shape": "*/Within/Fields.antt",
         "what comes of one that is left out": "docs/OPERATING.md",
         "what version 1 has not": "checks/office/rebuild_tried.py",
         "it came with version 2": "*/migrations.rt checks/sqlite/by_sqlite3.py",
     }, ("Add a command", "Add a shape of fields", "Add a table")),
     Kind("Add a command of the program", r"Task::Report|\breport_file\b|keyreg report|\[\"report\"|\"report\":|"
                                          r"\n +report\)|from report'", {
-        "they ask for a report": "checks/office/audit_page.py checks/sqlite/copied_while_served.py "
+        "they ask for a report": "checks/office/audit_views.py checks/sqlite/copied_while_served.py "
                                  "checks/office/advance_tried.py checks/package/in_systemd.sh "
-                                 "checks/program/full_register.py checks/office/replay_tried.py docs/CHECKS.md "
+                                 "checks/program/full_register.py checks/office/replay_tried.py "
+                                 "checks/office/rebuild_tried.py docs/CHECKS.md "
                                  "office/units/keyreg.service bench/tables.py",
     }),
     Kind("Add a crate", r"\bregister_report\b", {
@@ -107,7 +107,7 @@ KINDS = (
     Kind("Add a version of the tables",
          r"Version::Second|Version\.TheVariants\.\{[^}]*Second|first_version|\bmigrate\b|\bversion_1\b",
          {"it copies the file": "checks/shared/document_commands.py packaging/pages.py",
-          "it says where things stand": "checks/shared/places.py docs/CHECKS.md"}),
+          "it says where things stand": "checks/shared/places.py"}),
     Kind("Add a test", r"\btable_wrongly_imported\b", {"its module": "*/imports.rt"}),
 )
 
@@ -170,8 +170,7 @@ def names(step: Step, path: str) -> bool:
     """Whether the step names this file of the repository, or a folder that it lies in."""
     file = TOP / path
     named = [place for place in step.paths.values() if place not in CRATES.values()]
-    is_proof = file.name in ("Answers.antt", "Invariants.antt")
-    return any(place in (file, *file.parents) for place in named) or is_proof and file.parent.name in step.items
+    return any(place in (file, *file.parents) for place in named)
 
 
 def one_way(all_recipes: Recipes) -> tuple[list[str], int, int]:
