@@ -1,5 +1,5 @@
-"""What the benchmarks share: registers that SQLite's own library writes, bare programs over the kit's `sqlite`, what a
-run of a program uses, and tables. Importing this puts the folder that the checks share on the path of modules."""
+"""What the benchmarks share: bare programs over the kit's `sqlite`, what a run of a program uses, and tables. Importing
+this puts the folder that the checks share on the path of modules."""
 import itertools
 import os
 import pathlib
@@ -12,7 +12,7 @@ import time
 from typing import Any, Iterable, NamedTuple, Sequence
 
 sys.path.insert(1, str(pathlib.Path(__file__).resolve().parents[1] / "checks" / "shared"))
-from registers import FIRST_TABLES, INDEXES, TABLES, VERSION, File, all_rows, columns_of, database  # noqa: E402
+from registers import File  # noqa: E402
 from script import expect  # noqa: E402
 
 # So often a program's first byte is looked for, and so late it may be seen, in seconds.
@@ -28,25 +28,6 @@ class Used(NamedTuple):
     processor: float
     wall: float
     memory: float
-
-
-# ---- registers
-
-
-def write_register(file: File, latest: int, count: int, version: int = VERSION, **rows: Iterable[Any]) -> None:
-    """A register of so many keys at this moment, with these rows of its tables."""
-    with database(file) as connection:
-        connection.executescript("PRAGMA synchronous = OFF; PRAGMA journal_mode = OFF;"
-                                 + (TABLES if version == VERSION else FIRST_TABLES))
-        for name, of_table in {"meta": [(1, version, latest, count)], **rows}.items():
-            cells = ", ".join("?" * len(columns_of(name)))
-            connection.executemany(f"INSERT INTO {name} VALUES ({cells})", of_table)
-        connection.executescript(INDEXES)
-
-
-def rows_of(file: File) -> dict[str, list[tuple]]:
-    with database(file) as connection:
-        return all_rows(connection)
 
 
 # ---- programs

@@ -13,9 +13,9 @@ import shutil
 import sys
 import tempfile
 
-from measuring import Used, built, measured, table, write_register
+from measuring import Used, built, measured, table
 from places import PROGRAM
-from registers import UNSET, VERSION
+from registers import UNSET, VERSION, write_register
 
 ROUNDS = 3
 # A master key's usage period is twelve months, of both parties.

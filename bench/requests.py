@@ -55,10 +55,10 @@ import tempfile
 import time
 from typing import Iterable, Iterator, NamedTuple, Sequence
 
-from measuring import STEP, built, clock_of, measured as run_whole, rows_of, table, write_register
+from measuring import STEP, built, clock_of, measured as run_whole, table
 from places import PROGRAM
 from python_register import STATEMENTS, PythonRegister
-from registers import STATES, UNSET, new_register
+from registers import STATES, UNSET, new_register, table_rows, write_register
 from register_rules import ACTIVE, PRE_ACTIVE, Refused
 from script import expect, show
 
@@ -333,7 +333,7 @@ def over_files(runs: type[Run], keys: int, count: int, rounds: int) -> dict[str,
             for program, file in files.items():
                 shutil.copy(prepared, file)
                 figures[program].append(measured(runs, program, file, keys, count))
-            wanted, *others = map(rows_of, files.values())
+            wanted, *others = map(table_rows, files.values())
             expect(all(other == wanted for other in others), "the files hold other rows")
     show()
     return figures

@@ -47,11 +47,11 @@ import sys
 import tempfile
 from typing import Any, Iterator, Mapping, Sequence, TextIO
 
-from measuring import STEP, Used, built, measured, measured_behind, rows_of, table, write_register
+from measuring import STEP, Used, built, measured, measured_behind, table
 from opened import opened
 from places import PROGRAM
-from registers import (
-    EXPORT_COLUMNS, EXPORT_DATES, IMPORT_COLUMNS, STATES, TYPES, UNSET, columns_of, database, new_register)
+from registers import EXPORT_COLUMNS, EXPORT_DATES, IMPORT_COLUMNS, STATES, TYPES, UNSET
+from registers import columns_of, database, new_register, table_rows, write_register
 from register_rules import LAST, PERIODS, is_long, state_at, text_of
 from script import expect, show
 
@@ -313,7 +313,7 @@ def import_rounds(keys: int, rounds: int) -> dict[str, list[Used]]:
                 written = os.path.join(folder, f"{name}_{number}")
                 uses[name].append(measured([PROGRAM, name, "--file", left[name], *words], source, written))
                 expect(filecmp.cmp(written, replies, shallow=False), f"{name}: other replies")
-            expect(rows_of(left["import"]) == rows_of(left["run"]), "import and run leave other rows")
+            expect(table_rows(left["import"]) == table_rows(left["run"]), "import and run leave other rows")
     show()
     return uses
 

@@ -9,7 +9,7 @@ from typing import Any, Callable, Iterator, Optional, Union
 
 from answers import get_reply, post_reply, request_object
 from openapi import Interface
-from registers import all_rows, database
+from registers import table_rows
 from register_rules import Register, Request, line
 from rules_shown import tables
 from script import expect
@@ -153,8 +153,7 @@ class Compared:
     def look_at_tables(self) -> None:
         """Ends the program and compares the tables with the rules' register."""
         self.served.kill()
-        with database(self.served.file) as connection:
-            rows, wanted = all_rows(connection), tables(self.register)
+        rows, wanted = table_rows(self.served.file), tables(self.register)
         for name in wanted:
             if rows[name] != wanted[name]:
                 self.fail(f"{self.name}: table {name}\n    is        {rows[name]}\n    should be {wanted[name]}")

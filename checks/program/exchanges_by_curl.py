@@ -21,6 +21,7 @@ import socket
 import sys
 import threading
 import time
+from typing import NamedTuple
 
 sys.path.insert(1, str(pathlib.Path(__file__).resolve().parents[1] / "shared"))
 from answers import BAD, LENGTH_REQUIRED, MEMBERS, NO_ROUTE, TOO_LARGE
@@ -55,74 +56,82 @@ def day_of_every_command():
             both.get(request.named or 1)
 
 
-def requests_of(now):
-    """Each refusal but 1, 3 and 20, which other parts and full_register.py have, each type, and dates that are given,
-    filled and trimmed; with the number of the refusal."""
-    purpose = 'payroll disks, "site A" \\ \u03b2\u2028\U0001f511'
-    first = ("register", "data-encryption", "bob", now - DAY, None, None, purpose)
-    return [
-        ("ann", 1, first, None),
-        ("ann", 1, first, None),
-        ("ann", 1, ("register", "data-encryption", "bob", now - DAY, None, None, "other"), 2),
-        ("ann", 1, ("advance",), 2),
-        ("ann", 2, ("register", "master", "bob", None, None, None, "spare"), None),
-        ("ann", 3, ("register", "data-encryption", "bob", now - 900 * DAY, None, None, "x" * 200), None),
-        ("ann", 4, ("register", "private-signature", "eve", 0, 500, 500, "\u00e9" * 100), None),
-        ("ann", 5, ("register", "private-authentication", "b" * 64, now + 10 * YEAR, None, None, "later"), None),
-        ("ann", 6, ("register", "key-wrapping", "bob", None, now + 20 * YEAR, now + 22 * YEAR, "trimmed"), None),
-        ("ann", 7, ("register", "private-transport", "bob", now, None, None, "today"), None),
-        ("ann", 8, ("register", "authentication", "A.-_@9", LAST - DAY, LAST, LAST, "end of days"), None),
-        ("ann", GREATEST_NUMBER, ("register", "master", "bob", now, None, now + DAY, "a day"), None),
-        ("ann", 9, ("register", "master", "bob", 500, 400, 600, "x"), 9),
-        ("ann", 9, ("register", "data-encryption", "bob", 0, 63072001, None, "x"), 10),
-        ("ann", 9, ("register", "data-encryption", "bob", LAST, None, None, "x"), 11),
-        ("bob", 2, ("activate", 4294967295), 4),
-        ("zed", 1, ("set", 6, "=", "=", "="), 5),
-        ("zed", 1, ("approve", 2), 6),
-        # The key that is trimmed as it is activated.
-        ("bob", 2, ("activate", 6), None),
-        ("bob", 3, ("activate", 6), 7),
-        ("bob", 3, ("set", 6, now, "=", "="), 8),
-        ("bob", 3, ("set", 6, "=", None, None), None),
-        ("bob", 4, ("set", 6, "=", now + DAY, None), None),
-        ("b" * 64, 1, ("set", 5, None, None, None), None),
-        ("bob", 5, ("add-custodian", 2, "cat"), None),
-        ("bob", 6, ("add-custodian", 2, "cat"), 12),
-        ("bob", 6, ("add-custodian", 2, "bob"), 15),
-        ("bob", 6, ("remove-custodian", 2, "dan"), 13),
-        ("bob", 6, ("destroy", 2), 18),
-        ("cat", 1, ("withdraw", 2), 17),
-        ("cat", 1, ("approve", 2), None),
-        ("cat", 2, ("approve", 2), 16),
-        ("bob", 6, ("add-custodian", 2, "dan"), None),
-        ("dan", 1, ("approve", 2), None),
-        ("dan", 2, ("withdraw", 2), None),
-        ("bob", 7, ("remove-custodian", 2, "dan"), None),
-        ("bob", 8, ("add-custodian", 2, "dan"), None),
-        ("bob", 9, ("destroy", 2), 18),
-        ("dan", 3, ("approve", 2), None),
-        ("bob", 9, ("set-quorum", 2, 3), None),
-        ("bob", 10, ("destroy", 2), 18),
-        ("bob", 10, ("set-quorum", 2, 2), None),
-        ("bob", 11, ("assign", 2, "eve"), None),
-        ("eve", 1, ("destroy", 2), None),
-        ("eve", 1, ("destroy", 2), None),
-        ("zed", 1, ("revoke", 2, 3, LAST), 19),
-        ("zed", 1, ("revoke", 2, 3, 17), None),
-        *(("eve", 10 + n, ("add-custodian", 4, f"c{n}"), None) for n in range(16)),
-        ("eve", 30, ("add-custodian", 4, "c16"), 14),
-        ("zed", 2, ("revoke", 5, 2, now), None),
-        *(("bob", 20 + reason, ("revoke", key, reason, None), None)
-          for key, reason in ((1, 1), (3, 4), (6, 5), (7, 6), (9, 7))),
-        # The period of a type: what comes after it goes by it, and the dates that keys have stay.
-        ("zed", 4, ("set-period", "master", 24, 12), 21),
-        ("office", 1, ("set-period", "master", 24, 12), None),
-        ("office", 1, ("set-period", "master", 24, 13), 2),
-        ("ann", 31, ("register", "master", "bob", now, now + 600 * DAY, None, "two years"), None),
-        ("ann", 32, ("register", "master", "bob", now, now + 800 * DAY, None, "x"), 10),
-        ("ann", 30, ("advance",), None),
-        ("ann", 30, ("advance",), None),
-    ]
+class FromNow(NamedTuple):
+    """A date so many seconds from now."""
+    seconds: int
+
+
+FIRST_KEY = ("register", "data-encryption", "bob", FromNow(-DAY), None, None,
+             'payroll disks, "site A" \\ \u03b2\u2028\U0001f511')
+# Each refusal but 1, 3 and 20, which other parts and full_register.py have, each type, and dates that are given, filled
+# and trimmed; with the number of the refusal.
+REQUESTS = [
+    ("ann", 1, FIRST_KEY, None),
+    ("ann", 1, FIRST_KEY, None),
+    ("ann", 1, ("register", "data-encryption", "bob", FromNow(-DAY), None, None, "other"), 2),
+    ("ann", 1, ("advance",), 2),
+    ("ann", 2, ("register", "master", "bob", None, None, None, "spare"), None),
+    ("ann", 3, ("register", "data-encryption", "bob", FromNow(-900 * DAY), None, None, "x" * 200), None),
+    ("ann", 4, ("register", "private-signature", "eve", 0, 500, 500, "\u00e9" * 100), None),
+    ("ann", 5, ("register", "private-authentication", "b" * 64, FromNow(10 * YEAR), None, None, "later"), None),
+    ("ann", 6, ("register", "key-wrapping", "bob", None, FromNow(20 * YEAR), FromNow(22 * YEAR), "trimmed"), None),
+    ("ann", 7, ("register", "private-transport", "bob", FromNow(0), None, None, "today"), None),
+    ("ann", 8, ("register", "authentication", "A.-_@9", LAST - DAY, LAST, LAST, "end of days"), None),
+    ("ann", GREATEST_NUMBER, ("register", "master", "bob", FromNow(0), None, FromNow(DAY), "a day"), None),
+    ("ann", 9, ("register", "master", "bob", 500, 400, 600, "x"), 9),
+    ("ann", 9, ("register", "data-encryption", "bob", 0, 63072001, None, "x"), 10),
+    ("ann", 9, ("register", "data-encryption", "bob", LAST, None, None, "x"), 11),
+    ("bob", 2, ("activate", 4294967295), 4),
+    ("zed", 1, ("set", 6, "=", "=", "="), 5),
+    ("zed", 1, ("approve", 2), 6),
+    # The key that is trimmed as it is activated.
+    ("bob", 2, ("activate", 6), None),
+    ("bob", 3, ("activate", 6), 7),
+    ("bob", 3, ("set", 6, FromNow(0), "=", "="), 8),
+    ("bob", 3, ("set", 6, "=", None, None), None),
+    ("bob", 4, ("set", 6, "=", FromNow(DAY), None), None),
+    ("b" * 64, 1, ("set", 5, None, None, None), None),
+    ("bob", 5, ("add-custodian", 2, "cat"), None),
+    ("bob", 6, ("add-custodian", 2, "cat"), 12),
+    ("bob", 6, ("add-custodian", 2, "bob"), 15),
+    ("bob", 6, ("remove-custodian", 2, "dan"), 13),
+    ("bob", 6, ("destroy", 2), 18),
+    ("cat", 1, ("withdraw", 2), 17),
+    ("cat", 1, ("approve", 2), None),
+    ("cat", 2, ("approve", 2), 16),
+    ("bob", 6, ("add-custodian", 2, "dan"), None),
+    ("dan", 1, ("approve", 2), None),
+    ("dan", 2, ("withdraw", 2), None),
+    ("bob", 7, ("remove-custodian", 2, "dan"), None),
+    ("bob", 8, ("add-custodian", 2, "dan"), None),
+    ("bob", 9, ("destroy", 2), 18),
+    ("dan", 3, ("approve", 2), None),
+    ("bob", 9, ("set-quorum", 2, 3), None),
+    ("bob", 10, ("destroy", 2), 18),
+    ("bob", 10, ("set-quorum", 2, 2), None),
+    ("bob", 11, ("assign", 2, "eve"), None),
+    ("eve", 1, ("destroy", 2), None),
+    ("eve", 1, ("destroy", 2), None),
+    ("zed", 1, ("revoke", 2, 3, LAST), 19),
+    ("zed", 1, ("revoke", 2, 3, 17), None),
+    *(("eve", 10 + n, ("add-custodian", 4, f"c{n}"), None) for n in range(16)),
+    ("eve", 30, ("add-custodian", 4, "c16"), 14),
+    ("zed", 2, ("revoke", 5, 2, FromNow(0)), None),
+    *(("bob", 20 + reason, ("revoke", key, reason, None), None)
+      for key, reason in ((1, 1), (3, 4), (6, 5), (7, 6), (9, 7))),
+    # The period of a type: what comes after it goes by it, and the dates that keys have stay.
+    ("zed", 4, ("set-period", "master", 24, 12), 21),
+    ("office", 1, ("set-period", "master", 24, 12), None),
+    ("office", 1, ("set-period", "master", 24, 13), 2),
+    ("ann", 31, ("register", "master", "bob", FromNow(0), FromNow(600 * DAY), None, "two years"), None),
+    ("ann", 32, ("register", "master", "bob", FromNow(0), FromNow(800 * DAY), None, "x"), 10),
+    ("ann", 30, ("advance",), None),
+    ("ann", 30, ("advance",), None),
+]
+
+
+def at_time(command, now):
+    return tuple(now + value.seconds if isinstance(value, FromNow) else value for value in command)
 
 
 def commands():
@@ -130,8 +139,8 @@ def commands():
     now = int(time.time())
     with compared("commands", has_key=False) as both:
         both.get(1)
-        for place, (caller, number, command, refusal) in enumerate(requests_of(now)):
-            both.post(caller, number, command, refusal, WAYS[place % len(WAYS)])
+        for place, (caller, number, command, refusal) in enumerate(REQUESTS):
+            both.post(caller, number, at_time(command, now), refusal, WAYS[place % len(WAYS)])
             if len(command) > 1 and command[1] in both.register.keys:
                 both.get(command[1], WAYS[place % 5])
         for key in range(1, len(both.register.keys) + 2):
@@ -172,18 +181,12 @@ def late():
 # ---- routes and heads
 
 # Targets that lead nowhere, by curl, and those that curl cannot ask.
-NO_ROUTES = [
-    "/", "//", "/nothing", "/requests/", "/requests?", "/requests?x=1", "/Requests", "/request", "/requestss",
-    "//requests", "/keys", "/keys/", "/keys//", "/keys/0", "/keys/01", "/keys/00", "/keys/1/", "/keys/1?",
-    "/keys/1?x=1", "/keys/4294967296", "/keys/4294967297", "/keys/18446744073709551617", "/keys/" + "9" * 300,
-    "/keys/+1", "/keys/-1",
-    "/keys/1.0", "/keys/1e0", "/keys/0x1", "/keys/x", "/keys/%31", "/%6beys/1", "/keys/1%2fusage", "/Keys/1",
-    "/keys/1/Usage", "/keys/1/usage/", "/keys/1/usage?", "/keys/1/usage?x", "/keys/1/use", "/keys/1/usages",
-    "/keys/0/usage", "/keys/01/usage", "/keys/4294967296/usage", "/keys//usage", "/keys/usage", "/keys/1//usage",
-    "/keys/./1", "/keys/1/../1", "/./keys/1", "/keys/1/usage/usage", "/keys/1;a", "/keys/1,2",
-]
-NO_TARGETS = ["http://localhost/keys/1", "localhost:80", "*", "keys/1", "/keys/1#a", "/requests#", "/keys/\u0661"]
-OTHER_METHODS = ["PUT", "DELETE", "PATCH", "OPTIONS", "BREW", "get", "Get", "GETS", "post"]
+NO_ROUTES = ["/", "/requests/", "/requests?x=1", "/Requests", "//requests", "/keys/", "/keys/0", "/keys/01", "/keys/1/",
+             "/keys/1?", "/keys/4294967296", "/keys/18446744073709551617", "/keys/" + "9" * 300, "/keys/+1",
+             "/keys/1e0", "/keys/%31", "/keys/1%2fusage", "/keys/1/Usage", "/keys/1/usage?x", "/keys/0/usage", "/keys//usage",
+             "/keys/./1", "/keys/1/../1", "/keys/1/usage/usage"]
+NO_TARGETS = ["http://localhost/keys/1", "localhost:80", "*", "keys/1", "/keys/1#a", "/keys/\u0661"]
+OTHER_METHODS = ["PUT", "DELETE", "OPTIONS", "BREW", "get", "GETS"]
 ALLOWED = {"/requests": "POST", "/keys/1": "GET", "/keys/9": "GET", "/keys/1/usage": "GET"}
 
 
@@ -224,47 +227,33 @@ LONG = get("/keys/1", "Fill: " + "x" * (SPARE + 4))
 # Heads that ask for the key, with how they are sent; heads that are too large; and those that are none.
 GOOD_HEADS = {
     "HTTP/1.0 without Host": (b"GET /keys/1 HTTP/1.0\r\n\r\n", {}),
-    "HTTP/1.0, two Hosts": (head("GET /keys/1 HTTP/1.0", "Host: a", "Host: b"), {}),
     "an empty Host": (head("GET /keys/1 HTTP/1.1", "Host:"), {}),
-    **{name: (head("GET /keys/1 HTTP/1.1", f"{name}: localhost"), {}) for name in ("host", "HOST", "hOsT")},
     "GET with a body": (get("/keys/1", "Content-Length: 5") + b"hello", {}),
     "GET with a length that is none": (get("/keys/1", "Content-Length: x", "Content-Length: y"), {}),
-    "GET with Transfer-Encoding": (get("/keys/1", "Transfer-Encoding: chunked"), {}),
     "two requests at once": (WHOLE + get("/keys/2"), {}),
     "a byte at a time": (get("/keys/1", "X: y"), {"pieces": 1}),
     "open to the reply": (WHOLE, {"ends": False}),
     "an empty line first": (b"\r\n" + WHOLE, {}),
     "lines that end with LF": (WHOLE.replace(b"\r\n", b"\n"), {}),
     "64 headers": (get("/keys/1", *HEADERS), {}),
-    "a head of 8192 bytes": (get("/keys/1", "Fill: " + "x" * SPARE), {}),
-    "and its body's bytes after": (get("/keys/1", "Fill: " + "x" * SPARE) + b"x" * 5000, {}),
+    "a head of 8192 bytes and a body": (get("/keys/1", "Fill: " + "x" * SPARE) + b"x" * 5000, {}),
 }
 LARGE_HEADS = {
     "a head of 8193 bytes": (get("/keys/1", "Fill: " + "x" * (SPARE + 1)), {}),
-    "8192 bytes without an end": (LONG[:MOST_HEAD], {}),
-    "the same, open": (LONG[:MOST_HEAD], {"ends": False}),
-    "a long head without an end": (get("/keys/1", "Fill: " + "x" * 30000), {}),
+    "8192 bytes without an end, open": (LONG[:MOST_HEAD], {"ends": False}),
     "a long value by a byte at a time": (get("/keys/1", "Fill: " + "x" * 9000), {"pieces": 1}),
 }
 NO_HEADS = {
     "no Host": b"GET /keys/1 HTTP/1.1\r\n\r\n",
-    "two Hosts": head("GET /keys/1 HTTP/1.1", "Host: a", "Host: a"),
     "two Hosts, one in capitals": head("GET /keys/1 HTTP/1.1", "HOST: a", "host: b"),
     "65 headers": get("/keys/1", *HEADERS, "Last: 1"),
-    "65 headers, no end": get("/keys/1", *HEADERS, "Last: 1", "More: 2")[:-2],
-    "200 headers": get("/keys/1", *HEADERS, *HEADERS, *HEADERS),
     "8191 bytes without an end": LONG[:MOST_HEAD - 1],
     **{f"{length} bytes of a head": WHOLE[:length] for length in range(1, len(WHOLE))},
-    "no version": b"GET /keys/1\r\n\r\n", "no target": b"GET\r\n\r\n", "no method": b" /keys/1 HTTP/1.1\r\n\r\n",
-    **{version: head(f"GET /keys/1 {version}", "Host: a")
-       for version in ("HTTP/2.0", "HTTP/1.2", "HTTP/0.9", "http/1.1", "HTTP/1.10", "HTTP/1.1 x")},
-    "a space in the target": head("GET /keys/ 1 HTTP/1.1", "Host: a"),
+    "no version": b"GET /keys/1\r\n\r\n", "no target": b"GET\r\n\r\n",
+    **{version: head(f"GET /keys/1 {version}", "Host: a") for version in ("HTTP/2.0", "HTTP/1.2", "HTTP/1.1 x")},
     **{f"a header {field!r}": get("/keys/1", field)
-       for field in ("Header", ": x", "Name : x", "Na me: x", "Name: x\r\n y", "N(m: x", "Name: a\0b", "Na\0me: b",
-                     "Name: a\rb")},
-    "a method that is no token": head("G(T /keys/1 HTTP/1.1", "Host: a"),
+       for field in ("Header", ": x", "Name : x", "Name: x\r\n y", "N(m: x", "Name: a\0b", "Name: a\rb")},
     "zeros": b"\0" * 100, "TLS": b"\x16\x03\x01\x02\x00\x01\x00\x01\xfc\x03\x03" + b"\r\n\r\n",
-    "a request line": b"100 ann 1 advance\n\r\n\r\n",
 }
 
 
@@ -288,19 +277,16 @@ def heads():
 # ---- lengths and callers
 
 NO_LENGTHS = [
-    "18\r\nContent-Length: 18", "18\r\ncontent-length: 18", "", "x", "-18", "+18", "18, 18", "1 8", "0x12", "18.0",
-    "18;", " \t ", "1e1", '"18"', "1_8", "\u0661\u0668",
+    "18\r\ncontent-length: 18", "", "x", "-18", "+18", "18, 18", "0x12", "18.0", '"18"', "\u0661\u0668",
     # Those of another body than the one that comes.
-    "0", "00", "1", "17", "19", "20", "65535", "65536",
+    "0", "17", "19", "65536",
 ]
-LARGE_LENGTHS = ["65537", "00065537", "100000000", "9" * 19, "9" * 20, "9" * 400, "4294967314", "18446744073709551634"]
-NO_CALLERS = ["", " ", "a b", "a/b", "a,b", "ann\t2", "\u00e4nn", "a" * 65, '"ann"', "ann;", "a:b", "*"]
-NO_NUMBERS = ["", "0", "00", "01", "+1", "-1", "1.0", "1e0", "0x1", "1 2", "1,2", "x", "\u0661", '"1"',
-              "9007199254740992", "9" * 20, "18446744073709551617", "9" * 300]
+LARGE_LENGTHS = ["65537", "00065537", "9" * 20, "9" * 400, "4294967314", "18446744073709551634"]
+NO_CALLERS = ["", "a b", "a/b", "a,b", "\u00e4nn", "a" * 65]
+NO_NUMBERS = ["", "0", "01", "+1", "1.0", "1 2", "\u0661", "9007199254740992", "18446744073709551617", "9" * 300]
 NO_SENDERS = {
-    "no Caller": ["Request-Number: 1"], "no Request-Number": ["Caller: ann"], "neither": [],
-    "two Callers": [*ANN, "Caller: ann"], "two Callers, cases": [*ANN, "CALLER: bob"],
-    "two Request-Numbers": [*ANN, "Request-Number: 1"], "two Request-Numbers, cases": [*ANN, "request-number: 2"],
+    "no Caller": ["Request-Number: 1"], "no Request-Number": ["Caller: ann"],
+    "two Callers": [*ANN, "CALLER: bob"], "two Request-Numbers": [*ANN, "Request-Number: 1"],
     **{f"Caller {caller!r}": [f"Caller: {caller}", "Request-Number: 1"] for caller in NO_CALLERS},
     **{f"Request-Number {number[:30]!r}": ["Caller: ann", f"Request-Number: {number}"] for number in NO_NUMBERS},
 }

@@ -8,11 +8,12 @@ request.
 With fewer keys a further registration is accepted. SQLite's own library writes the file, by the formats of
 docs/SPECIFICATION.md. Build the program first: ./keyreg </dev/null
 """
+import itertools
 import pathlib
 import sys
 
 sys.path.insert(1, str(pathlib.Path(__file__).resolve().parents[1] / "shared"))
-from registers import EXPORT_COLUMNS, INDEXES, TABLES, UNSET, VERSION, database, expect_replies, export_row, keyreg
+from registers import EXPORT_COLUMNS, UNSET, expect_replies, export_row, keyreg, write_register
 from register_rules import MOST_KEYS
 from script import expect, fresh_folder, options, show, verdict
 
@@ -25,17 +26,11 @@ COMMAND = f"register data-encryption bob {ACTIVATION} {PROTECT_STOP} {DEACTIVATI
 
 
 def write(file, keys):
-    with database(file) as connection:
-        connection.executescript(TABLES + INDEXES)
-        connection.execute("INSERT INTO meta VALUES (1, ?, ?, ?)", (VERSION, REGISTERED, keys))
-        connection.executemany(
-            "INSERT INTO keys VALUES (?, 1, 'bob', 'disks', 2, ?, ?, ?, ?, ?, ?, ?)",
-            ((number, REGISTERED, ACTIVATION, PROTECT_STOP, DEACTIVATION, UNSET, UNSET, UNSET)
-             for number in range(1, keys + 1)))
-        connection.executemany("INSERT INTO request VALUES ('ann', ?, ?, ?, 2, ?)",
-                               ((number, COMMAND, number, REGISTERED) for number in range(1, keys + 1)))
-        connection.executemany("INSERT INTO request VALUES ('zed', ?, 'advance', 0, 0, ?)",
-                               ((number, REGISTERED) for number in range(1, MORE + 1)))
+    numbers, dates = range(1, keys + 1), (REGISTERED, ACTIVATION, PROTECT_STOP, DEACTIVATION, UNSET, UNSET, UNSET)
+    write_register(file, REGISTERED, keys, keys=((number, 1, "bob", "disks", 2, *dates) for number in numbers),
+                   request=itertools.chain(
+                       (("ann", number, COMMAND, number, 2, REGISTERED) for number in numbers),
+                       (("zed", number, "advance", 0, 0, REGISTERED) for number in range(1, MORE + 1))))
 
 
 def look_at_export(file, keys):

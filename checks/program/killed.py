@@ -19,8 +19,8 @@ import time
 
 sys.path.insert(1, str(pathlib.Path(__file__).resolve().parents[1] / "shared"))
 from places import PROGRAM
-from registers import FIRST_TABLES, INDEXES, STATES, UNSET, VERSION
-from registers import are_sound, copy_files, database, expect_replies, keyreg, new_register
+from registers import STATES, UNSET, VERSION
+from registers import copy_files, expect_replies, keyreg, new_register, sound_rows, write_register
 from script import expect, fresh_folder, options, show, verdict
 
 # So many requests are given to a life, more than it serves before it is killed.
@@ -66,10 +66,9 @@ def killed_life(file, before, seconds):
 def kept(file):
     """The version and the number of requests in a copy of the file and its log, which are the first ones."""
     copy = copy_files(file, file.with_name("copy.keyreg"))
-    with database(copy) as connection:
-        expect(are_sound(connection), "SQLite finds the file unsound")
-        texts = connection.execute("SELECT number, command, moment FROM request ORDER BY number").fetchall()
-        [(_, version, *counts)] = connection.execute("SELECT * FROM meta")
+    rows = sound_rows(copy)
+    [(_, version, *counts)] = rows["meta"]
+    texts = [(number, command, moment) for _, number, command, _, _, moment in rows["request"]]
     copy_files(None, copy)
     count = len(texts)
     expect(texts == [(place, request(place)[1], 100 + place) for place in range(1, count + 1)],
@@ -110,13 +109,9 @@ def write_older_file(file):
         left.unlink()
     places = range(1, BEFORE + 1)
     registrations = [place for place in places if place % 10 == 1]
-    with database(file) as connection:
-        connection.executescript(FIRST_TABLES + INDEXES)
-        connection.execute("INSERT INTO meta VALUES (1, 1, ?, ?)", (100 + BEFORE, len(registrations)))
-        connection.executemany(
-            "INSERT INTO keys VALUES (?, 7, 'bob', ?, 1, ?, ?, ?, ?, ?, ?, ?)",
-            ((number, f"key {number}", 100 + place, *[UNSET] * 6) for number, place in enumerate(registrations, 1)))
-        connection.executemany("INSERT INTO request VALUES (?, ?, ?, ?, ?, ?)", map(row_of, places))
+    write_register(file, 100 + BEFORE, len(registrations), 1, request=map(row_of, places), keys=(
+        (number, 7, "bob", f"key {number}", 1, 100 + place, *[UNSET] * 6)
+        for number, place in enumerate(registrations, 1)))
 
 
 def killed_migration(file, seconds):

@@ -26,7 +26,7 @@ sys.path.insert(1, str(pathlib.Path(__file__).resolve().parents[1] / "shared"))
 from answers import get_reply, post_reply, reply_line
 from command_day import SHORT
 import first_version
-from registers import INDEXES, all_rows, are_sound, database, keyreg, new_register, run_program
+from registers import INDEXES, keyreg, new_register, run_program, sound_rows
 from register_rules import FORMS, PERIODS, Register, line
 from rules_shown import DAY, export_text, import_table, report_text, tables
 from script import expect, fresh_folder, in_memory, options, show, verdict
@@ -194,9 +194,7 @@ def in_order(lines: list, wanted: list, name: str) -> None:
 
 
 def look_at_rows(file: File, register: Register, name: str) -> None:
-    with database(file) as connection:
-        expect(are_sound(connection), f"{name}: SQLite finds the file unsound")
-        rows, wanted = all_rows(connection), tables(register)
+    rows, wanted = sound_rows(file), tables(register)
     for table in wanted:
         in_order(rows[table], wanted[table], f"{name}, table {table}")
 

@@ -18,7 +18,7 @@ import time
 
 sys.path.insert(1, str(pathlib.Path(__file__).resolve().parents[1] / "shared"))
 from command_day import SHORT
-from registers import all_rows, are_sound, copy_files, database, new_register, run_program
+from registers import copy_files, new_register, run_program, sound_rows
 from script import expect, fresh_folder, options, show, verdict
 from serving import Served, get, post
 
@@ -86,9 +86,7 @@ def end_of(words, given):
 
 def look_at(file, given):
     """The file opens, for SQLite and for the program, and every key has a request."""
-    with database(file) as connection:
-        expect(are_sound(connection), f"the file is not sound; given {given!r}")
-        rows = all_rows(connection)
+    rows = sound_rows(file)
     registered = [row for row in rows["request"] if row[2].startswith("register ")]
     expect(len(rows["keys"]) == len(registered) == rows["meta"][0][3], f"{len(rows['keys'])} keys; given {given!r}")
     status, _ = end_of(["export", "--file", file], b"")

@@ -35,8 +35,7 @@ from answers import MEMORY, STORE, get_reply, post_reply, reply_line
 from command_day import SHORT
 from refusing import End, Place
 from registers import APPROVED_ANEW, APPROVED_ANEW_ROWS, EXPORT_COLUMNS, IMPORT_COLUMNS, VERSION
-from registers import all_rows, are_sound, copy_files, database, expect_replies, export_row, keyreg, new_register
-from registers import run_program
+from registers import copy_files, database, expect_replies, export_row, keyreg, new_register, run_program, sound_rows
 from register_rules import Register, Request, line
 from script import expect, fresh_folder, options, show, verdict
 from serving import PATIENCE, Served, get, post_command
@@ -78,12 +77,6 @@ DAY += [(f"{SHORT[-1].request.moment} zed {text}", reply) for text, reply in (
     ("99 destroy 99", "refused 4 UnknownKey"))]
 OF_MEMORY, OF_STORE = b"keyreg: Memory\n", b"keyreg: Store\n"
 ENDS = [(status, error) for status in (2, 3) for error in (OF_MEMORY, OF_STORE)]
-
-
-def rows_in(file: str) -> dict[str, Any]:
-    with database(file) as connection:
-        expect(are_sound(connection), "SQLite finds the file unsound")
-        return all_rows(connection)
 
 
 def end_of(words: list[str], given: bytes, environment: Optional[dict[str, str]] = None) -> End:
@@ -161,7 +154,7 @@ class OverRegister(Part):
     def make(self, file: str) -> None:
         self.made = file
         new_register(file, self.lines)
-        self.before = rows_in(file)
+        self.before = sound_rows(file)
 
     def first(self, file: str, here: Place) -> int:
         """Learns what the register is to become, and counts the allocations of the opening."""
@@ -180,7 +173,7 @@ class OverRegister(Part):
             end = end_of(self.words_over(file), b"".join(pieces[:heads + count]))
             is_step = end == (0, end.output, b"") and end.output.count(b"\n") == count
             expect(is_step and self.wanted.startswith(end.output), f"{count}: {end}")
-            self.steps.append(rows_in(file))
+            self.steps.append(sound_rows(file))
 
     def look(self, end: End, file: str, here: Place) -> str:
         if end.status == 0:
@@ -194,7 +187,7 @@ class OverRegister(Part):
         return "as asked" if end.status == 0 else shown(end)
 
     def look_at_file(self, file: str, end: End) -> None:
-        rows = rows_in(file)
+        rows = sound_rows(file)
         if not self.is_writing:
             expect(rows == self.before, "the rows changed")
             keyreg(["run", "--file", file])
@@ -204,7 +197,7 @@ class OverRegister(Part):
         allowed = self.steps[answered:answered + (2 if (end.status, end.error) == (3, OF_STORE) else 1)]
         expect(rows in allowed, f"the rows after {answered} answers")
         again = end_of(self.words_over(file), self.given)
-        expect(again == (0, self.wanted, b"") and rows_in(file) == self.steps[-1], f"again: {again}")
+        expect(again == (0, self.wanted, b"") and sound_rows(file) == self.steps[-1], f"again: {again}")
         expect(self.name != "run" or self.steps[-1] == APPROVED_ANEW_ROWS, "the rows at last")
 
 
@@ -271,7 +264,7 @@ class Opening(Part):
     def make(self, file: str) -> None:
         self.made = file
         new_register(file, LINES)
-        self.before = rows_in(file)
+        self.before = sound_rows(file)
         # The port is taken, so that the program ends once all is opened.
         self.taken = socket.create_server(("127.0.0.1", 0))
 
@@ -282,7 +275,7 @@ class Opening(Part):
         as_asked = end == (4, b"", b"keyreg: ReadFault\n")
         expect(as_asked or (end.status, end.error) in ENDS, f"{end}")
         if here.is_new(file, "opening"):
-            expect(rows_in(copy_files(file, here.path("left.keyreg"))) == self.before, "the rows changed")
+            expect(sound_rows(copy_files(file, here.path("left.keyreg"))) == self.before, "the rows changed")
         return "as asked" if as_asked else shown(end)
 
 

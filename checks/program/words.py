@@ -29,7 +29,7 @@ from typing import Any, Iterator, Sequence
 sys.path.insert(1, str(pathlib.Path(__file__).resolve().parents[1] / "shared"))
 from places import PROGRAM, TOP
 from registers import APPROVED_ANEW, APPROVED_ANEW_ROWS, EXPORT_COLUMNS, IMPORT_COLUMNS, VERSION, File
-from registers import all_rows, answered_and_killed, database, export_row, new_register, run_program
+from registers import answered_and_killed, database, export_row, new_register, run_program, table_rows
 from script import fresh_folder, options, verdict
 from serve_words import look_at_serve
 
@@ -118,11 +118,6 @@ def made(file: File, lines: str = LINES) -> File:
     return file
 
 
-def rows_of(file: File) -> Any:
-    with database(file) as connection:
-        return all_rows(connection)
-
-
 # ---- words that are no command
 
 
@@ -204,7 +199,7 @@ def look_at_terms(folder: pathlib.Path) -> None:
         words = words_for("import", file, moment=moment, caller=caller, first=first)
         second = "refused 1 BadLine\n" if first == greatest else f"ok 2 Pre-Active {moment}\n"
         look(f"an import at {moment}", words, WELL, f"ok 1 Pre-Active {moment}\n{second}", HEADER + ROW + ROW)
-        kept = [row for row in rows_of(file)["request"] if row[1] == int(first)]
+        kept = [row for row in table_rows(file)["request"] if row[1] == int(first)]
         wanted = [(caller, int(first), "register master bob - - - spare", 1, 1, int(moment))]
         Differences.hold(kept == wanted, f"an import at {moment} kept {kept}")
     file = made(folder / "report")
@@ -227,7 +222,7 @@ def look_at_commands(folder: pathlib.Path) -> None:
         look(f"run {where}", ["run", "--file", file], WELL, REPLIES, LINES)
         # SQLite's library opens no path of more than 512 bytes.
         shutil.copy(file, folder / "copy")
-        Differences.hold(rows_of(folder / "copy") == APPROVED_ANEW_ROWS, f"run {where}: the rows")
+        Differences.hold(table_rows(folder / "copy") == APPROVED_ANEW_ROWS, f"run {where}: the rows")
         look(f"export {where}", ["export", "--file", file], WELL, EXPORTED)
         look(f"report {where}", words_for("report", file), WELL, REPORTED)
         look(f"import {where}", words_for("import", file, moment="110", caller="imp"), WELL, "ok 2 Pre-Active 110\n",
@@ -271,7 +266,7 @@ ODD_NAMES = ("a?b", "a#b", "a%41", "a ", " a", "  a  ", "a-wal")
 def holds_rows(file: File) -> bool:
     """Whether the file alone has the rows of the lines."""
     try:
-        return all(rows_of(file)[table] == rows for table, rows in APPROVED_ANEW_ROWS.items())
+        return all(table_rows(file)[table] == rows for table, rows in APPROVED_ANEW_ROWS.items())
     except sqlite3.Error:
         return False
 
@@ -342,7 +337,7 @@ def look_at_streams(folder: pathlib.Path) -> None:
         look("init, output full", ["init", "--file", file], WELL, stdout=full)
         look("run, output full", ["run", "--file", file], WRITE_FAULT, given=LINES, stdout=full)
         # The request in hand was applied, and none after it.
-        kept = rows_of(file)["request"]
+        kept = table_rows(file)["request"]
         Differences.hold(kept == APPROVED_ANEW_ROWS["request"][:1], f"run, output full: {kept}")
         look("no words, output full", [], WRITE_FAULT, given=LINES, stdout=full)
         look("export, output full", ["export", "--file", file], WRITE_FAULT, stdout=full)
@@ -351,7 +346,7 @@ def look_at_streams(folder: pathlib.Path) -> None:
              stdout=full)
         look("run of nothing, output full", ["run", "--file", file], WELL, stdout=full)
         look("words, output full", ["run"], CLAPS, stdout=full)
-    before = rows_of(file)
+    before = table_rows(file)
     unread = os.open(folder, os.O_RDONLY)
     for name, words in (("no words", []), ("run", ["run", "--file", file]), ("import", words_for("import", file))):
         look(f"{name}, input unreadable", words, READ_FAULT, given=unread)
@@ -360,7 +355,7 @@ def look_at_streams(folder: pathlib.Path) -> None:
     for name, given in {"nothing": "", "no header row": ROW, "an export": EXPORTED,
                         "a header too long": "more," + HEADER + ROW}.items():
         look(f"import of {name}", words_for("import", file), BAD_HEADER, given=given)
-    Differences.hold(rows_of(file) == before, "input that could not be read changed the rows")
+    Differences.hold(table_rows(file) == before, "input that could not be read changed the rows")
     look("lines that are refused", ["run", "--file", file], WELL, "refused 1 BadLine\nrefused 4 UnknownKey\n",
          "x\n200 zed 1 destroy 9\n")
     look("bytes after the last line", ["run", "--file", file], WELL, given="200 ann 1 advance")
@@ -485,9 +480,9 @@ def look_at_log(folder: pathlib.Path) -> None:
         new_register(file)
         answered_and_killed(file, LINES.splitlines())
         shutil.copy(file, alone)
-        Differences.hold(rows_of(alone)["request"] == [], f"{command}: the log is copied before the end")
+        Differences.hold(table_rows(alone)["request"] == [], f"{command}: the log is copied before the end")
         look(f"{command} after a kill", words_for(command, file, **values), WELL, output, given)
-        rows = rows_of(shutil.copy(file, alone))
+        rows = table_rows(shutil.copy(file, alone))
         same = all(rows[table] == APPROVED_ANEW_ROWS[table] for table in rows
                    if keys == 1 or table in ("custodian", "approval"))
         Differences.hold(same and len(rows["keys"]) == keys, f"the database of {command} alone: {rows}")

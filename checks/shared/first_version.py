@@ -2,7 +2,7 @@
 import sqlite3
 from typing import Any, Mapping, Sequence
 
-from registers import APPROVED_ANEW_ROWS, FIRST_TABLES, VERSION, File, are_sound, database, put_rows
+from registers import APPROVED_ANEW_ROWS, VERSION, File, are_sound, database, write_register
 from script import expect
 
 # The tables that version 2 added.
@@ -13,13 +13,8 @@ ROWS = {name: rows for name, rows in APPROVED_ANEW_ROWS.items() if name not in A
 
 def write(file: File, more: str = "", tables: Mapping[str, Sequence[tuple]] = ROWS) -> None:
     """A file of version 1 with the rows of these tables, those of version 2 aside, and with what an office has."""
-    with database(file) as connection:
-        connection.executescript(FIRST_TABLES)
-        for name in ROWS:
-            rows = tables[name] if name != "meta" else [(row[0], 1, *row[2:]) for row in tables[name]]
-            put_rows(connection, name, rows[::-1])
-        connection.commit()
-        connection.executescript(more)
+    [(_, _, latest, count)] = tables["meta"]
+    write_register(file, latest, count, 1, more, **{name: tables[name][::-1] for name in ROWS if name != "meta"})
 
 
 def others_of(connection: sqlite3.Connection) -> tuple[Any, Any]:

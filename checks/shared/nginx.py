@@ -32,7 +32,8 @@ def program():
 def certified(folder):
     """A certificate for the host and its key, in the folder."""
     words = ["openssl", "req", "-x509", "-newkey", "rsa:2048", "-nodes", "-days", "2", "-subj", f"/CN={HOST}",
-             "-addext", f"subjectAltName=DNS:{HOST}", "-keyout", f"{folder}/key.pem", "-out", f"{folder}/certificate.pem"]
+             "-addext", f"subjectAltName=DNS:{HOST}", "-keyout", f"{folder}/key.pem", "-out",
+             f"{folder}/certificate.pem"]
     done = subprocess.run(words, capture_output=True, text=True, check=False)
     expect(done.returncode == 0, f"openssl: {done.stderr}")
 

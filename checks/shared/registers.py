@@ -178,3 +178,30 @@ def put_rows(connection: sqlite3.Connection, name: str, rows: Iterable[tuple]) -
     """Puts the rows into the table, which may be none."""
     for row in rows:
         connection.execute(f"INSERT INTO {name} VALUES ({', '.join('?' * len(row))})", row)
+
+
+def table_rows(file: File) -> dict[str, list[tuple]]:
+    """The rows of each table of a file, in order."""
+    with database(file) as connection:
+        return all_rows(connection)
+
+
+def sound_rows(file: File) -> dict[str, list[tuple]]:
+    """The same of a file in which SQLite's own library finds nothing wrong."""
+    with database(file) as connection:
+        expect(are_sound(connection), f"SQLite finds {file} unsound")
+        return all_rows(connection)
+
+
+def write_register(file: File, latest: int, count: int, version: int = VERSION, more: str = INDEXES,
+                   **rows: Iterable[Any]) -> None:
+    """A register of so many keys at this moment that SQLite's own library writes, with these rows of its tables, and
+    with what more statements make."""
+    with database(file) as connection:
+        connection.executescript("PRAGMA synchronous = OFF; PRAGMA journal_mode = OFF;"
+                                 + (TABLES if version == VERSION else FIRST_TABLES))
+        for name, of_table in {"meta": [(1, version, latest, count)], **rows}.items():
+            cells = ", ".join("?" * len(columns_of(name)))
+            connection.executemany(f"INSERT INTO {name} VALUES ({cells})", of_table)
+        connection.commit()
+        connection.executescript(more)

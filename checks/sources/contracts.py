@@ -1,10 +1,7 @@
-"""What checks/sources/documents.py reads of the code: functions with their clauses, the words that these
-cite, and definitions.
+"""What the checks of sources read of the code: crates, functions with their clauses and bodies.
 
-A function is told by its lines: from `fn` to the line that opens its body or ends it with a
-semicolon.
+A function's head goes from `fn` to the line that opens its body or ends it with a semicolon.
 """
-import os
 import pathlib
 import re
 from dataclasses import dataclass, field
@@ -15,8 +12,6 @@ from places import listed, read
 FUNCTION = re.compile(r"\s*(pub(?:\(\w+\))? )?(?:const )?fn (\w+)")
 CLAUSE = re.compile(r"\s*(?:requires|ensures)(?: (\w+))? \{")
 OWNER = re.compile(r"(?:impl|(?:pub )?trait|pub\(crate\) trait)\b(?:<[^{]*?>)? (.*?)\{")
-DEFINITION = re.compile(r"\s*(?:[a-z]+ )*pub (?:(?:record|data|filled|inverse) )?([\w◌]+)")
-FIELD = re.compile(r"\s+pub (\w+) :")
 
 
 @dataclass
@@ -28,13 +23,18 @@ class Function:
     is_public: bool
     takes_self: bool = False
     parameters: int = 0
-    clauses: set = field(default_factory=set)
-    contract: str = ""
+    clauses: set[str] = field(default_factory=set)
+    # The lines between its braces, without comments.
+    body: list[str] = field(default_factory=list)
+
+
+def bare(line: str) -> str:
+    """A line of code without its comment."""
+    return line.split("//")[0].rstrip()
 
 
 def code_of(path: pathlib.Path) -> list[str]:
-    """The lines of a file of code, without what stands behind //."""
-    return [line.split("//")[0].rstrip() for line in path.read_text(encoding="utf-8").split("\n")]
+    return [bare(line) for line in path.read_text(encoding="utf-8").split("\n")]
 
 
 def stands_on() -> dict[str, list[str]]:
@@ -108,33 +108,20 @@ def functions_of(path: str) -> list[Function]:
         match = FUNCTION.match(line)
         if not match or line.lstrip().startswith("//"):
             continue
-        text = "\n".join(part for part in head_of(lines, at) if not part.lstrip().startswith("//"))
+        head = head_of(lines, at)
+        text = "\n".join(part for part in head if not part.lstrip().startswith("//"))
         taken = parts(between_brackets(text, text.index("(", match.end())))
         is_self = bool(taken) and re.fullmatch(r"&?(mut )?self(: .*)?", taken[0]) is not None
-        cut = re.search(r"\n\s*(?:requires|ensures)\b", text)
-        function = Function(path.split("/")[1], path, owner, match.group(2),
-                            match.group(1) == "pub ", is_self, len(taken) - is_self)
-        function.contract = text[cut.start():] if cut else ""
-        function.clauses = {name for name in CLAUSE.findall(text) if name}
-        all_functions.append(function)
+        begun, body = at + len(head), []
+        if head[-1].rstrip().endswith("{"):
+            closing = " " * (len(line) - len(line.lstrip())) + "}"
+            body = [bare(part) for part in lines[begun:lines.index(closing, begun)]]
+        all_functions.append(Function(
+            path.split("/")[1], path, owner, match.group(2), match.group(1) == "pub ", is_self, len(taken) - is_self,
+            {name for name in CLAUSE.findall(text) if name}, body))
     return all_functions
 
 
 def functions() -> list[Function]:
     return [function for path in listed("crates/*/src/**/*.rt")
             for function in functions_of(path)]
-
-
-def definitions(crates: set[str]) -> tuple[set[tuple[str, str, str]], set[str]]:
-    """Each definition of the specs of these crates: crate, file, name; and all names of fields."""
-    defined, fields = set(), set()
-    for path in listed("crates/*/specs/**/*.antt"):
-        crate, module = path.split("/")[1], os.path.basename(path)[:-5]
-        for line in read(path).split("\n"):
-            part = FIELD.match(line)
-            match = None if part else DEFINITION.match(line)
-            if part:
-                fields.add(part.group(1))
-            elif match and match.group(1) != "mod" and crate in crates:
-                defined.add((crate, module, match.group(1)))
-    return defined, fields

@@ -7,6 +7,7 @@ from typing import Iterator
 
 from places import listed, read
 import contracts
+from contracts import bare
 
 ITEM = re.compile(r"(?:pub(?:\([\w ]+\))? )?(struct|enum|trait|const|static|type) (\w+)")
 IMPL = re.compile(r"impl\b(?:<.*?>)? (\w+)(?:<.*>)? for (\w+)")
@@ -21,11 +22,6 @@ def traits_within(crate: str) -> set[str]:
     """The traits of a crate that those above it do not see."""
     files = listed(f"crates/{crate}/src/**/*.rt")
     return {name for file in files for name in re.findall(r"^(?:pub\([\w ]+\) )?trait (\w+)", read(file), re.M)}
-
-
-def bare(line: str) -> str:
-    """A line without its comment."""
-    return re.sub(r"//.*", "", line)
 
 
 def depth_of(line: str) -> int:

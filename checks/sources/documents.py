@@ -110,8 +110,9 @@ def functions_named(text: str, owner: str = "") -> list[Function]:
 @functools.lru_cache
 def code_names() -> set[str]:
     """Each name that the code or its contracts define."""
-    defined, fields = contracts.definitions(set(contracts.stands_on()))
-    names = {name for _, _, name in defined} | fields | set(by_name()) | set(contracts.stands_on())
+    names = {key.name for key in definitions.spec_keys()} | set(by_name()) | set(contracts.stands_on())
+    for path in listed("crates/*/specs/**/*.antt"):
+        names |= set(re.findall(r"(?m)^\s+pub (\w+) :", read(path)))
     names |= {crate for uses in contracts.stands_on().values() for crate in uses}
     names |= {clause for function in all_functions() for clause in function.clauses}
     for path in listed("crates/*/src/*.rt"):

@@ -8,7 +8,8 @@ begin at the top is one of the crates that the section named, the last of them f
 part in the files that its step names, then in those crates, or in all where none is named.
 
 The other way: KINDS has for each recipe one thing that was added so. Each file that mentions it is named by the recipe,
-or by one that it sends on to, or it stands there with the reason why it is left. Proofs are left: a red one leads there.
+or by one that it sends on to, or it stands there with the reason why it is left. Proofs are left: a red one leads
+there.
 """
 import fnmatch
 import os

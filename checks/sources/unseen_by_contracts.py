@@ -24,7 +24,7 @@ from typing import Iterator
 
 sys.path.insert(1, str(pathlib.Path(__file__).resolve().parents[1] / "shared"))
 from places import TOP
-from contracts import code_of
+from contracts import code_of, functions_of
 from script import options, verdict
 
 CRATES = TOP / "crates"
@@ -117,22 +117,8 @@ CALL = re.compile(r"(?:\.|::|(?<!fn )\b)"
 
 
 def bodies(path: pathlib.Path) -> dict[str, list[str]]:
-    """The lines of the body of each function, as `rt fmt` sets them."""
-    lines: dict[str, list[str]] = {}
-    name, indent, begun = "", "", False
-    for line in code_of(path):
-        head = re.match(r"( *)(?:pub(?:\(\w+\))? )?fn (\w+)", line)
-        if head:
-            indent, name, begun = head[1], head[2], line.endswith("{")
-            if begun:
-                lines[name] = []
-        elif name and not begun and re.fullmatch(re.escape(indent) + r"(\).*)?\{", line):
-            lines[name], begun = [], True
-        elif name and line == indent + "}":
-            name, begun = "", False
-        elif begun:
-            lines[name].append(line)
-    return lines
+    """The lines of the body of each function of a file."""
+    return {function.name: function.body for function in functions_of(str(path.relative_to(TOP)))}
 
 
 def mark_faults() -> Iterator[str]:

@@ -21,7 +21,8 @@ from places import VERSION_1
 import first_version
 from first_version import contents_of, look, others_of
 from registers import APPROVED_ANEW, APPROVED_ANEW_ROWS, INDEXES, STATES, TABLES, VERSION
-from registers import all_rows, are_sound, database, expect_replies, keyreg, new_register, put_rows, run_program
+from registers import all_rows, database, expect_replies, keyreg, new_register, put_rows, run_program, sound_rows
+from registers import write_register
 from script import expect, fresh_folder, options, verdict
 
 ACCEPTED = [(line, reply) for line, reply in APPROVED_ANEW if reply.startswith("ok ")]
@@ -31,13 +32,6 @@ MORE = [
     ("111 ann 2 register master eve 0 - - root", "ok 2 Active 111"),
     ("31536111 zed 2 advance", "ok 0 - 31536111"),
 ]
-
-
-def sound_rows(file):
-    """The rows of a file in which SQLite finds nothing wrong."""
-    with database(file) as connection:
-        expect(are_sound(connection), f"{file} is not sound")
-        return all_rows(connection)
 
 
 def approved_anew(folder):
@@ -58,11 +52,8 @@ def read(folder):
 
 
 def written(folder):
-    file = folder / "office.keyreg"
-    with database(file) as connection:
-        connection.executescript(TABLES)
-        for name, rows in APPROVED_ANEW_ROWS.items():
-            put_rows(connection, name, reversed(rows))
+    file, rows = folder / "office.keyreg", {name: rows[::-1] for name, rows in APPROVED_ANEW_ROWS.items()}
+    write_register(file, 109, 1, more="", **rows)
     expect_replies(file, ACCEPTED)
     expect_replies(file, MORE[:2])
     rows = sound_rows(file)
