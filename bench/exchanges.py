@@ -6,11 +6,11 @@ journal modes.
 
 Two kinds are asked: GET of a key, keys out of their order, and POST of a registration, each a new one. *python* is the
 standard library's `http.server` over python_register.py, on a copy of the same file: it reads what it is given by
-office/register_rules.py, writes the same rows in one transaction a POST, and forms the same JSON. All hold the file's lock as long as they run and sync at each commit (synchronous =
-FULL). *python, delete* has the rollback journal that `sqlite3` has where nothing else is said: as the kit, it trusts no
-checksum to refuse a torn write, and it syncs four times at a commit. *python, wal* keeps a log beside the file, as the
-kit does, but syncs it once, where the kit syncs twice. Neither tests anything as it opens the file; no start and no
-opening is in a figure.
+office/register_rules.py, writes the same rows in one transaction a POST, and forms the same JSON. All hold the file's
+lock as long as they run and sync at each commit (synchronous = FULL). *python, delete* has the rollback journal that
+`sqlite3` has where nothing else is said: as the kit, it trusts no checksum to refuse a torn write, and it syncs four
+times at a commit. *python, wal* keeps a log beside the file, as the kit does, but syncs it once, where the kit syncs
+twice. Neither tests anything as it opens the file; no start and no opening is in a figure.
 
 First so many exchanges of each kind are asked one after the other, and each reply is compared with the expected one.
 Then all are timed in one run, in rounds that take turns, so many seconds for each kind, by `wrk` with two threads: each

@@ -273,7 +273,7 @@ def main() -> None:
     grown = sum(most) / sum(few)
     expect(grown <= 2 * MANY / FEW, f"{MANY} changed rows took {grown:.1f} times as long as {FEW}: {most}, {few}")
     print(office)
-    verdict(f"{len(RECORDED)} recorded conversions, {len(REFUSED)} refused rows and {known} rows of keys were reported; "
+    verdict(f"{len(RECORDED)} conversions, {len(REFUSED)} refused rows and {known} rows of keys were reported; "
             f"{MANY} rows took {alike:.1f} seconds, and {MANY} changed ones {max(most):.1f} at most, {grown:.1f} times "
             f"as long as {FEW}")
 
