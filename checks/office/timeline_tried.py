@@ -1,15 +1,9 @@
 #!/usr/bin/env python3
-"""Looks at what office/timeline.py draws of an export, in chromium. Each key is drawn once; at moments drawn at
-random its line is high, low, waiting or not there as the states and the usage of office/register_rules.py say, a
-destroyed key's ends where it was destroyed, and its marks and what is due are there. Every text of a key stays a text,
-and nothing is loaded: the page has one style, one script and its data, all of this file, and its policy allows no
-other.
-
-At 380, 800 and 1600 wide, light and dark, nothing runs over its neighbour or past the edge, the columns have their
-headings, the page links stand on one line, the count is a live region, and each row's button gives all texts and dates
-of its key. Colours stand out from the paper as WCAG asks. Printed, each sheet has the axis, and each row stands whole
-on one sheet. Ten thousand keys are sorted, filtered, and turned over by pages, and are shown in at most
-TIMES the time that a thousand take.
+"""Looks at what office/timeline.py draws of an export, in chromium. Each key is drawn once; at moments drawn at random its
+line is as the states and the usage of office/register_rules.py say. Every text of a key stays a text, and nothing is
+loaded. At 380, 800 and 1600 wide, light and dark, nothing runs over its neighbour or past the edge, and each row's
+button gives all texts and dates of its key. Printed, each row stands whole on one sheet. Ten thousand keys are sorted,
+filtered, and turned over by pages, and are shown in at most TIMES the time that a thousand take.
 
     checks/office/timeline_tried.py [--screenshots FOLDER]
 
