@@ -20,7 +20,7 @@ import time
 sys.path.insert(1, str(pathlib.Path(__file__).resolve().parents[1] / "shared"))
 from places import PROGRAM
 from registers import STATES, UNSET, VERSION
-from registers import copy_files, expect_replies, keyreg, new_register, sound_rows, write_register
+from registers import are_sound, copy_files, database, expect_replies, keyreg, new_register, write_register
 from script import expect, fresh_folder, options, show, verdict
 
 # So many requests are given to a life, more than it serves before it is killed.
@@ -66,9 +66,10 @@ def killed_life(file, before, seconds):
 def kept(file):
     """The version and the number of requests in a copy of the file and its log, which are the first ones."""
     copy = copy_files(file, file.with_name("copy.keyreg"))
-    rows = sound_rows(copy)
-    [(_, version, *counts)] = rows["meta"]
-    texts = [(number, command, moment) for _, number, command, _, _, moment in rows["request"]]
+    with database(copy) as connection:
+        expect(are_sound(connection), "SQLite finds the file unsound")
+        texts = connection.execute("SELECT number, command, moment FROM request ORDER BY number").fetchall()
+        [(_, version, *counts)] = connection.execute("SELECT * FROM meta")
     copy_files(None, copy)
     count = len(texts)
     expect(texts == [(place, request(place)[1], 100 + place) for place in range(1, count + 1)],
