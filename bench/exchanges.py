@@ -5,26 +5,20 @@ journal modes.
     bench/exchanges.py [--rounds N] [--seconds N] [--exchanges N] [--keys N] [--connections N] [--directory FOLDER]
 
 Two kinds are asked: GET of a key, keys out of their order, and POST of a registration, each a new one. *python* is the
-standard library's `http.server` over python_register.py, on a copy of the same file: it reads what it is given by
-office/register_rules.py, writes the same rows in one transaction a POST, and forms the same JSON. All hold the file's lock as long as they run and sync at each commit (synchronous =
-FULL). *python, delete* has the rollback journal that `sqlite3` has where nothing else is said: as the kit, it trusts no
-checksum to refuse a torn write, and it syncs four times at a commit. *python, wal* keeps a log beside the file, as the
-kit does, but syncs it once, where the kit syncs twice. Neither tests anything as it opens the file; no start and no
-opening is in a figure.
+standard library's `http.server` over python_register.py, on a copy of the same file. All hold the file's lock as long
+as they run and sync at each commit (synchronous = FULL). *python, delete* has the rollback journal that `sqlite3` has
+where nothing else is said: as the kit, it trusts no checksum to refuse a torn write. *python, wal* keeps a log beside
+the file, as the kit does, but syncs it once, where the kit syncs twice. No start and no opening is in a figure.
 
 First so many exchanges of each kind are asked one after the other, and each reply is compared with the expected one.
-Then all are timed in one run, in rounds that take turns, so many seconds for each kind, by `wrk` with two threads: each
-connection takes one exchange, and so many stand at once that others wait while one is served. Each reply is to have the
-status 200. After the last round the rows that the compared exchanges left are compared, and the number of keys with
-what `wrk` counted.
+Then `wrk` asks all in rounds that take turns, so many seconds for each kind, one exchange a connection, so many at
+once. Each reply is to have the status 200. After the last round the rows that the compared exchanges left are compared,
+and the number of keys with what `wrk` counted.
 
-The figures are the exchanges a second by the wall, and the processor time (user and system) of the server and of the
-clients for each exchange; the clients bound nothing where their two threads have time for more. The mark is at least
-three times the exchanges a second of Python; each ratio is the median of those of the rounds.
-
-The folder for the files is one for temporary files where none is named; where it is a disk, a POST costs its syncs.
-Build the register's own program first: ./keyreg </dev/null. It needs `wrk` (Debian's package of that name), and Linux,
-for the clock of another process.
+The figures are the exchanges a second by the wall, and the processor time of the server and of the clients for each
+exchange. The mark is at least three times the exchanges a second of Python; each ratio is the median of those of the
+rounds. In a FOLDER that is a disk a POST costs its syncs. Build the register's own program first: ./keyreg </dev/null.
+It needs `wrk` (Debian's package of that name), and Linux, for the clock of another process.
 """
 import argparse
 import http.server

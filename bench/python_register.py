@@ -40,8 +40,8 @@ class PythonRegister:
         self.connection = sqlite3.connect(file, isolation_level=None)
         self.run = self.connection.execute
         # The journal comes after the lock, so that a log has its index in memory of its own.
-        for pragma in ("locking_mode = EXCLUSIVE", "synchronous = FULL", "wal_autocheckpoint = 1000", "cache_size = 2000",
-                       "foreign_keys = ON", f"journal_mode = {journal}"):
+        for pragma in ("locking_mode = EXCLUSIVE", "synchronous = FULL", "wal_autocheckpoint = 1000",
+                       "cache_size = 2000", "foreign_keys = ON", f"journal_mode = {journal}"):
             self.run(f"PRAGMA {pragma}").fetchall()
         self.latest, self.count = self.run("SELECT latest, key_count FROM meta").fetchone()
         self.judges = {"register": self.registration, "assign": self.assignment, "advance": lambda *_: (0, 0, "", ())}

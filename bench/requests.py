@@ -15,32 +15,25 @@ Pre-Active and half Active, each with the request that made it:
     advance, none due  the moment alone
     advance, one due   the same, and one key becomes Active
 
-The moments are *level*, all the latest one, or *rising*, each later than the one before it; but for the last kind no
-key is due then. Keys are taken out of their order, so that each stands on another page of the file, but for the third
-kind; each caller's numbers rise.
+The moments are *level*, all the latest one, or *rising*, each later than the one before it. Keys are taken out of their
+order, so that each stands on another page of the file.
 
-`keyreg` reads lines, decides and writes replies, each before the next line is read. *python* does the same over
-`sqlite3`, by python_register.py. The *bare* program, bare_requests.rt.txt, gives the
-statements of an accepted request to the kit's `sqlite`: it knows the values before, has nothing to decide and writes no
-reply. All three hold the file's lock as long as they run, keep a log beside the file, copy it into the file when it has
-1000 pages, keep 2000 pages in memory, and sync at each commit: the kit twice, since it trusts no checksum to refuse a
-torn write, and SQLite once (synchronous = FULL).
+`keyreg` reads lines, decides and writes replies, each before the next line is read, and *python* does the same by
+python_register.py. The *bare* program, bare_requests.rt.txt, gives the statements of an accepted request to the kit's
+`sqlite`: it knows the values before, has nothing to decide and writes no reply. All three hold the file's lock, keep a
+log beside the file, copy it into the file when it has 1000 pages, keep 2000 pages in memory, and sync at each commit:
+the kit twice, since it trusts no checksum to refuse a torn write, and SQLite once (synchronous = FULL).
 
-One run serves a kind after the other. Its clock of processor time (user and system) and the time of day are read where
-the first requests of a kind are answered and where the counted ones after them are, so no start, opening or making of a
-register is in a figure. The least of the rounds counts. Each reply of `keyreg` and of *python* is compared with the
-expected one, and after a run the rows that the three programs left.
+One run serves a kind after the other. Its clocks are read where the first requests of a kind are answered and where the
+counted ones after them are, so no start and no opening is in a figure; the least of the rounds counts. Each reply is
+compared with the expected one, and after a run the rows that the three programs left.
 
-With --over memory KEYS are registrations, whose dates come out of their order: the program serves them in one run over
-no file, and in one over a new file in /dev/shm. The figures are the processor time of the whole run, the least of the
-rounds, and the most resident memory.
+With --over memory KEYS are registrations, whose dates come out of their order, in one run over no file, and in one over
+a new file in /dev/shm. With --instructions valgrind's callgrind (Debian's package valgrind) counts what each program
+executes in place of time, without what the system does for it; a run takes some fifty times as long.
 
-With --instructions valgrind's callgrind (Debian's package valgrind) counts what each program executes in place of time,
-in thousands, without what the system does for a program. A run takes some fifty times as long.
-
-The bare program is proved and built in a folder for temporary files, where it is not there as it stands; that takes
-some minutes, and so does the rest. Build the register's own program first: ./keyreg </dev/null. It needs Linux, for the
-clock of another process.
+The bare program is proved and built in a folder for temporary files; that takes some minutes. Build the register's own
+program first: ./keyreg </dev/null. It needs Linux, for the clock of another process.
 """
 import argparse
 import filecmp

@@ -4,11 +4,10 @@
 
     bench/tables.py [--rounds N] [--days N] [KEYS]
 
-*Exports and reports.* A register of so many keys, each with the request that made it, has keys of all types and in all
-states but Destroyed, most with all their dates. About half are Active, and with 30 days about half of these are due,
-their dates out of the order of numbers, every eighth key with the date of the one before it. The line *report, periods
-set* is of a second register of the same keys, in which the office has set shorter periods of two types at the latest
-moment, so that the report has long keys too, and goes over all Active keys. The same rows are read by
+*Exports and reports.* A register of so many keys has keys of all types and in all states but Destroyed, most with all
+their dates. About half are Active, and with 30 days about half of these are due, their dates out of the order of
+numbers. *report, periods set* is of the same keys, where the office has set shorter periods of two types, so that the
+report has long keys too, and goes over all Active keys. The same rows are read by
 
     keyreg           the command, by its own searches, each line flushed before the next row is read
     bare             bare_tables.rt.txt: one SELECT given to the kit's `sqlite`; it adds its cells up and writes none
@@ -16,26 +15,20 @@ moment, so that the report has long keys too, and goes over all Active keys. The
     python, flushed  the same, each line flushed before the next row is read
     python, tested   as python, over a register that it opens as opened.py does: all rows are put to the tests first
 
-each into a file. What Python writes is to be what `keyreg` writes, byte for byte, and the sum of the bare program's
-cells the one that SQLite's own library gives.
-
 *Whole* is the run of a program from its start to its end. *After the opening* is the whole without what the same run
-had used when its first byte was in the file: that is the header of the export, the head of the report, or the bare
-program's line `opened`, each written and flushed where the file is open and no row is read. That byte is looked for
-some four times a millisecond; the program is then stopped, its clock of processor time (user and system) and the time
-of day are read, and it goes on. A run in which that came more than 1 ms late is repeated.
+had used when its first byte was in the file, which each writes where the file is open and no row is read. That byte is
+looked for some four times a millisecond; the program is then stopped, its clocks are read, and it goes on. A run in
+which that came more than 1 ms late is repeated.
 
 *Imports.* `import` reads the registrations of these keys from CSV, `run` reads them as request lines, each into a new
-file. They are to write the same replies, those of the rules, and to leave the same rows. The figures are of the whole
-runs.
+file. They are to write the replies of the rules, and to leave the same rows.
 
-*Memory.* The greatest resident memory of an export and of a report beside that of `run` on no input, which opens the
-same file and no more. The kernel counts for a program also what this script had when it started it, so no figure is
-below the script's own memory, which is printed.
+*Memory.* The greatest resident memory beside that of `run` on no input, which opens the same file and no more. The
+kernel counts for a program also what this script had when it started it, so no figure is below the script's own.
 
 The programs take turns, and each figure is the least of the rounds. The bare program is proved and built in a folder
-for temporary files, where it is not there as it stands; that takes some minutes. Build the register's own program
-first: ./keyreg </dev/null. It needs Linux, for the clock of another process.
+for temporary files; that takes some minutes. Build the register's own program first: ./keyreg </dev/null. It needs
+Linux, for the clock of another process.
 """
 import argparse
 import csv

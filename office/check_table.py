@@ -86,7 +86,7 @@ def is_close(one, other):
 @functools.lru_cache(maxsize=None)
 def days_of(text):
     """Each day that the text may stand for, as month and day, in one form or another; the year may be gone."""
-    plain, found = " ".join(re.sub(r"[TZ]", " ", text).split()), set()
+    plain, days = " ".join(re.sub(r"[TZ]", " ", text).split()), set()
     for form in SHAPED.get(re.sub(r"[^\W\d_]+", "a", re.sub(r"\d+", "0", plain)), ()):
         with contextlib.suppress(ValueError):
             # A day without a year is one of a leap year.
@@ -94,8 +94,8 @@ def days_of(text):
                 day = datetime.strptime(f"2000 {plain}", f"%Y {form}")
             else:
                 day = datetime.strptime(plain, form)
-            found.add((day.month, day.day))
-    return found
+            days.add((day.month, day.day))
+    return days
 
 
 def other_bytes(text):
@@ -141,8 +141,8 @@ def rows_of(path, columns):
     records = [record for record in csv.reader(io.StringIO(text, newline="")) if record]
     header = records[0] if records else []
     if not set(columns) <= set(header):
-        told = "its fields are parted by `;`" if ";" in "".join(header) else f"its header row is {','.join(header)!r}"
-        raise Unreadable(f"{path}: {told}, and should have {','.join(columns)}")
+        fault = "its fields are parted by `;`" if ";" in "".join(header) else f"its header row is {','.join(header)!r}"
+        raise Unreadable(f"{path}: {fault}, and should have {','.join(columns)}")
     return [dict(zip(header, record)) if len(record) == len(header) else None for record in records[1:]]
 
 
@@ -214,14 +214,14 @@ class Keys:
             least = (0, other in self.taken, len(differs), other != place)
             if len(differs) >= len(COLUMNS) - 1 or best and least >= best[0]:
                 continue
-            told = {}
+            changes = {}
             for column in differs:
-                told[column] = became(key[column], row[column])
-                if not told[column]:
+                changes[column] = became(key[column], row[column])
+                if not changes[column]:
                     break
             else:
-                rank = (list(told.values()).count(FORMULA), *least[1:])
-                best = min(best, (rank, other, told), key=lambda one: one[0]) if best else (rank, other, told)
+                rank = (list(changes.values()).count(FORMULA), *least[1:])
+                best = (rank, other, changes) if best is None or rank < best[0] else best
                 # Of no key less differs: one that has all fields was looked for before.
                 if rank <= (0, False, 1, False):
                     break
@@ -260,13 +260,13 @@ def looked_at(rows, keys):
             counts["repeated"] += 1
             yield f"row {place + 1}: it is row {first + 1} again, and its import makes a second key"
             continue
-        key, told = keys.changed(row, place) if row else (None, {})
-        for column, how in told.items():
+        key, changes = keys.changed(row, place) if row else (None, {})
+        for column, how in changes.items():
             yield f"row {place + 1} (key {key['number']}): {column} was {key[column]!r} and is {row[column]!r}: {how}"
-        others = [why for why in refusals(row) if why.split(" ")[0] not in told]
+        others = [why for why in refusals(row) if why.split(" ")[0] not in changes]
         for why in others:
             yield f"row {place + 1}: {why}"
-        counts["changed by a spreadsheet" if told else "of another form" if others else "new"] += 1
+        counts["changed by a spreadsheet" if changes else "of another form" if others else "new"] += 1
     yield counts["new"] == len(rows), ", ".join(f"{counts[sort]} {sort}" for sort in SORTS)
 
 
@@ -303,8 +303,9 @@ def main():
         is_new, counts = line
         if words.copy:
             last = next_first(words.copy, words.caller)
-            told = f"--first {last + 1}" if last + len(rows) <= GREATEST_NUMBER else "none above: take one that is free"
-            print(f"the next first number of {words.caller}: {told}")
+            has_room = last + len(rows) <= GREATEST_NUMBER
+            first = f"--first {last + 1}" if has_room else "none above: take one that is free"
+            print(f"the next first number of {words.caller}: {first}")
     except Unreadable as fault:
         print(fault)
         return 2

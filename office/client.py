@@ -45,10 +45,10 @@ UNTOLD = (500, 502, 503, 504)
 class Refused(Exception):
     """keyreg refused the request, which changed nothing: `number` and `name` of the refusal, and its `values`."""
 
-    def __init__(self, told):
-        super().__init__(f"{told['refused']} {told['name']}")
-        self.number, self.name = told["refused"], told["name"]
-        self.values = {name: value for name, value in told.items() if name not in ("refused", "name")}
+    def __init__(self, reply):
+        super().__init__(f"{reply['refused']} {reply['name']}")
+        self.number, self.name = reply["refused"], reply["name"]
+        self.values = {name: value for name, value in reply.items() if name not in ("refused", "name")}
 
 
 class Unexpected(Exception):
@@ -142,14 +142,14 @@ class Client:
             return None
         headers = {**self.headers, "Request-Number": str(self.numbers.last), "Content-Type": "application/json"}
         try:
-            told = self.answer("POST", "/requests", json.dumps(request).encode(), headers)
+            reply = self.answer("POST", "/requests", json.dumps(request).encode(), headers)
         except Refused:
             self.forget()
             raise
-        if set(told) != {"key", "moment", "state"}:
-            raise Unexpected(200, json.dumps(told).encode())
+        if set(reply) != {"key", "moment", "state"}:
+            raise Unexpected(200, json.dumps(reply).encode())
         self.forget()
-        return Reply(told["key"], told["moment"], told["state"])
+        return Reply(reply["key"], reply["moment"], reply["state"])
 
     def forget(self):
         """Gives up the request that has no answer, which may have acted."""
@@ -241,13 +241,13 @@ class Client:
             try:
                 status, text = self.exchange(method, target, body, headers)
             except (OSError, http.client.HTTPException) as lost:
-                told = lost
+                fault = str(lost)
             else:
                 if status not in UNTOLD:
                     return meant(status, text)
-                told = f"status {status}"
+                fault = f"status {status}"
             if late is not None and time.monotonic() + pause > late:
-                raise NoAnswer(str(told)) from None
+                raise NoAnswer(fault) from None
             time.sleep(pause)
             pause = min(pause * 2, self.slowest)
 
@@ -255,13 +255,13 @@ class Client:
 def meant(status, text):
     """The object of an answer of keyreg's own; a refusal is raised, and so is what keyreg does not write."""
     try:
-        told = json.loads(text)
+        reply = json.loads(text)
     except ValueError:
         raise Unexpected(status, text) from None
-    if status == 200 and isinstance(told, dict):
-        return told
-    if isinstance(told, dict) and isinstance(told.get("refused"), int):
-        raise Refused(told)
+    if status == 200 and isinstance(reply, dict):
+        return reply
+    if isinstance(reply, dict) and isinstance(reply.get("refused"), int):
+        raise Refused(reply)
     raise Unexpected(status, text)
 
 

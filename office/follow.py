@@ -142,16 +142,12 @@ def main():
     words.add_argument("standby")
     words.add_argument("--keyreg", metavar="PROGRAM", default="keyreg")
     words = words.parse_args()
-    status, told = 0, ""
+    status = 0
     try:
-        told = follow(words.register, words.standby, words.keyreg)
-    except Differs as fault:
-        status, told = 1, fault
-    except Unread as fault:
-        status, told = 2, fault
-    except Ended as fault:
-        status, told = 3, fault
-    line = f"{words.standby}: {told}".encode(errors="backslashreplace").decode()
+        end = follow(words.register, words.standby, words.keyreg)
+    except (Differs, Unread, Ended) as fault:
+        status, end = {Differs: 1, Unread: 2, Ended: 3}[type(fault)], fault
+    line = f"{words.standby}: {end}".encode(errors="backslashreplace").decode()
     print(line, file=sys.stderr if status else sys.stdout)
     return status
 

@@ -5,7 +5,7 @@ that. Of each key the orders of its requests at one moment are tried, the rows' 
 accepted with the state that is kept and which ends in the key's rows. New keys go by their numbers. At most 20000
 steps are tried for a key and 2000000 for all, and 24 orders of the periods of a type. Of a key with more than 64
 requests at one moment, and of a type with more than four periods at one, the rows' order alone is. Where the bound was
-met, which is told, no order that is found says little.
+met, which is reported, no order that is found says little.
 """
 import bisect
 import collections

@@ -12,7 +12,7 @@ which they were accepted.
     --until MOMENT            leaves out each request with a later moment: seconds since 1970, or YYYY-MM-DDTHH:MM:SSZ
     --without CALLER NUMBER   leaves out this request; may be given again
 
-The requests that are left out, and what that does to the others, are told on standard error before anything is written:
+The requests that are left out, and what that does to the others, are on standard error before anything is written:
 
     left out:   a request that was asked to be left out, or a row that is no request, or comes a second time
     refused:    a request that is written and that keyreg will refuse, with the refusal's name and what is lacking
@@ -86,12 +86,12 @@ def read_request(row):
 
 
 def shown(row):
-    """A row as it is told. Characters that a terminal obeys are escaped."""
+    """A row as it is printed. Characters that a terminal obeys are escaped."""
     caller, number, command, *_, moment = row
     return f"{moment} {caller if type(caller) is str and caller.isprintable() else repr(caller)} {number!r} {command!r}"
 
 
-def told_of(request):
+def text_of_request(request):
     return shown((request.caller, request.number, command_text(request.command), request.moment))
 
 
@@ -130,19 +130,20 @@ class Foreseen:
         except Refused as refused:
             cause = self.cause(request, refused.name)
             self.leave_out(request, cause)
-            return f"refused: {told_of(request)}: {refused.name}" + (f", for want of {told_of(cause)}" if cause else "")
+            want = f", for want of {text_of_request(cause)}" if cause else ""
+            return f"refused: {text_of_request(request)}: {refused.name}{want}"
         if request.word == "register":
             self.old[key_no] = request.key_no
         elif key_no and self.old[key_no] != request.named:
-            return f"otherwise: {told_of(request)}: it reaches key {key_no}, which was key {self.old[key_no]}"
+            return f"otherwise: {text_of_request(request)}: it reaches key {key_no}, which was key {self.old[key_no]}"
         if (key_no, state) != (request.key_no, request.state):
-            told = " and ".join(f"ok {key} {STATES[code] if code in range(7) else code}{when}" for key, code, when in
-                                ((key_no, state, ","), (request.key_no, request.state, " before")))
-            return f"otherwise: {told_of(request)}: {told}"
+            replies = " and ".join(f"ok {key} {STATES[code] if code in range(7) else code}{when}" for key, code, when in
+                                   ((key_no, state, ","), (request.key_no, request.state, " before")))
+            return f"otherwise: {text_of_request(request)}: {replies}"
         return None
 
 
-def told(choice):
+def foretold(choice):
     """What is to be said of the choice: its lines, and whether nothing but what was asked for is amiss."""
     foreseen, counts, is_well = Foreseen(), dict.fromkeys(("written", "left out", "refused", "otherwise"), 0), True
     latest = 0
@@ -219,7 +220,7 @@ def main():
     try:
         with opened(words.copy) as connection:
             choice = Choice(connection, words.until, words.without)
-            *lines, (counts, latest, is_well) = told(choice)
+            *lines, (counts, latest, is_well) = foretold(choice)
             missing = sorted(words.without - choice.named)
             for caller, number in missing:
                 say(f"{words.copy}: no accepted request of {caller} has the number {number}")

@@ -8,7 +8,7 @@ import calendar
 import re
 import time
 from datetime import date, datetime, timedelta
-from typing import NamedTuple, Optional
+from typing import Any, NamedTuple, Optional, Sequence
 
 # ---- moments and usage periods
 
@@ -36,31 +36,31 @@ REFUSALS = (
 class Refused(Exception):
     """A request that the rules do not accept, with the name of its refusal and the details of its reply."""
 
-    def __init__(self, name, **details):
+    def __init__(self, name: str, **details: Any) -> None:
         super().__init__(name)
         self.name, self.number, self.details = name, REFUSALS.index(name) + 1, details
 
     @property
-    def line(self):
+    def line(self) -> str:
         """The line of the reply."""
         return " ".join([f"refused {self.number} {self.name}", *(f"{name}={of}" for name, of in self.details.items())])
 
 
-def refuse(holds, name, **details):
+def refuse(holds: bool, name: str, **details: Any) -> None:
     if holds:
         raise Refused(name, **details)
 
 
-def text_of(moment):
+def text_of(moment: float) -> str:
     return time.strftime(MOMENT_FORM, time.gmtime(moment))
 
 
-def moment_of(text):
+def moment_of(text: str) -> int:
     """The moment of such a text; ValueError where it has no such day or second."""
     return (datetime.strptime(text, MOMENT_FORM) - EPOCH) // timedelta(seconds=1)
 
 
-def plus_months(moment, months):
+def plus_months(moment: int, months: int) -> Optional[int]:
     """The same day so many months later, or that month's last; None past the range of moments."""
     day = date.fromordinal(EPOCH_DAY + moment // 86400)
     year, month = divmod(day.year * 12 + day.month - 1 + months, 12)
@@ -70,7 +70,7 @@ def plus_months(moment, months):
     return moment + 86400 * (date(year, month + 1, min(day.day, last)) - day).days
 
 
-def fitted(dates, period, trims):
+def fitted(dates: Sequence[Optional[int]], period: tuple[int, int], trims: bool) -> dict[str, Optional[int]]:
     """The three dates after Fill, or after Trim, by a usage period."""
     activation, stop, end = dates
     originator, recipient = period
@@ -97,7 +97,7 @@ def fitted(dates, period, trims):
     return {"activation": activation, "stop": stop, "end": end}
 
 
-def is_long(dates, period):
+def is_long(dates: Sequence[Optional[int]], period: tuple[int, int]) -> bool:
     """Whether the three dates go past a limit of a usage period. One that is past the range limits nothing."""
     activation, stop, end = dates
     for first, last, months in ((activation, stop, period[0]), (stop, end, period[1])):
@@ -116,7 +116,8 @@ NOT_DESTROYED, STILL = ALL[:4], (PRE_ACTIVE, DEACTIVATED, COMPROMISED)
 MOST_KEYS, MOST_CUSTODIANS = 1_000_000, {1: 8, 2: 16}
 
 
-def state_at(moment, activation, end, destroyed, compromised):
+def state_at(moment: int, activation: Optional[int], end: Optional[int], destroyed: Optional[int],
+             compromised: Optional[int]) -> int:
     if destroyed is not None:
         return DESTROYED if compromised is None else DESTROYED_COMPROMISED
     if compromised is not None:
@@ -143,13 +144,13 @@ class Key(NamedTuple):
     need: int = 2
     has_set_need: bool = False
 
-    def state(self, moment):
+    def state(self, moment: int) -> int:
         return state_at(moment, self.activation, self.end, self.destroyed, self.compromised)
 
-    def protects(self, moment):
+    def protects(self, moment: int) -> bool:
         return self.state(moment) == ACTIVE and self.stop is not None and self.stop > moment
 
-    def processes(self, moment):
+    def processes(self, moment: int) -> str:
         return {ACTIVE: "yes", DEACTIVATED: "special", COMPROMISED: "special"}.get(self.state(moment), "no")
 
 
@@ -164,7 +165,7 @@ WHO = {
 }
 
 
-def look_at(key, request):
+def look_at(key: Key, request: "Request") -> None:
     """Refuses a caller who may not give the command, and a state that it is not for."""
     if request.word == "revoke" and request.values[0] in COMPROMISES:
         who, states = "anybody", (PRE_ACTIVE, ACTIVE, DEACTIVATED, DESTROYED)
@@ -176,7 +177,7 @@ def look_at(key, request):
     refuse(state not in states, "WrongState", state=STATES[state])
 
 
-def revoked(key, moment, reason, occurrence):
+def revoked(key: Key, moment: int, reason: int, occurrence: Optional[int]) -> Key:
     if reason not in COMPROMISES:
         return key._replace(end=moment, stop=min(key.stop, moment))
     refuse(occurrence is not None and occurrence > moment, "OccurrenceLater")
@@ -184,7 +185,7 @@ def revoked(key, moment, reason, occurrence):
                         approvals=frozenset() if key.destroyed is None else key.approvals)
 
 
-def dated(key, request, period):
+def dated(key: Key, request: "Request", period: tuple[int, int]) -> Key:
     """After `activate` or `set`."""
     dates, edits, moment = (key.activation, key.stop, key.end), request.values, request.moment
     if request.word == "activate":
@@ -194,7 +195,7 @@ def dated(key, request, period):
     return key._replace(**fitted([date if edit == "=" else edit for date, edit in zip(dates, edits)], period, False))
 
 
-def after(key, request, period, version):
+def after(key: Optional[Key], request: "Request", period: tuple[int, int], version: int) -> Key:
     """The key after a request that names it, by its type's period. A `register` has no key before."""
     word, caller = request.word, request.caller
     if word == "register":
@@ -256,25 +257,25 @@ class Request(NamedTuple):
     key_no: int = 0
     state: int = 0
 
-    def __str__(self):
+    def __str__(self) -> str:
         return f"request {(self.caller, self.number)} {command_text(self.command)!r}"
 
     @property
-    def word(self):
+    def word(self) -> str:
         return self.command[0]
 
     @property
-    def named(self):
+    def named(self) -> Optional[int]:
         """The number of the key that it names, or None."""
         return self.command[1] if FORMS[self.command[0]][:1] == ("key",) else None
 
     @property
-    def values(self):
+    def values(self) -> tuple:
         """The values of its other fields."""
         return self.command[1 if self.named is None else 2:]
 
 
-def field_of(form, text):
+def field_of(form: str, text: str) -> Any:
     """The value of a field's text; ValueError where it is none."""
     if form in RANGES:
         if text == "-" and form in ("date", "edit"):
@@ -293,7 +294,7 @@ def field_of(form, text):
     raise ValueError(text)
 
 
-def command_of(text, version=2):
+def command_of(text: str, version: int = 2) -> tuple:
     """The command of its text; ValueError where it is none."""
     word, *rest = text.split(" ", 1)
     if word not in FORMS or version == 1 and word in OF_VERSION_2:
@@ -308,16 +309,16 @@ def command_of(text, version=2):
     return (word, *values)
 
 
-def command_text(command):
+def command_text(command: Sequence[Any]) -> str:
     return " ".join("-" if value is None else str(value) for value in command)
 
 
-def line(moment, caller, number, command, *_):
+def line(moment: int, caller: str, number: int, command: tuple, *_: Any) -> str:
     """The line of a request."""
     return f"{moment} {caller} {number} {command_text(command)}"
 
 
-def request_of(text):
+def request_of(text: str) -> Request:
     """The request of a line; ValueError where it is none."""
     moment, caller, number, command = text.split(" ", 3)
     if len(text.encode()) > LONGEST_LINE or moment == "-":
@@ -330,12 +331,12 @@ def request_of(text):
 class Register:
     """What requests make that are put to it one after the other, by the rules of a version."""
 
-    def __init__(self, version=2):
+    def __init__(self, version: int = 2) -> None:
         self.version, self.latest, self.set_periods = version, 0, {}
         # Keys by their numbers, and the accepted requests by caller and number.
         self.keys, self.kept = {}, {}
 
-    def answer(self, request):
+    def answer(self, request: Request) -> Request:
         """The request with its reply; where it comes again, that which was accepted. A refused one changes nothing."""
         place = request.caller, request.number
         if place in self.kept:
@@ -346,7 +347,7 @@ class Register:
         self.latest, self.kept[place] = request.moment, request._replace(key_no=key_no, state=state)
         return self.kept[place]
 
-    def accept(self, request):
+    def accept(self, request: Request) -> tuple[int, int]:
         """Does what a request says that is no repeat and not behind; the key and the state of its reply."""
         if request.word == "advance":
             return 0, 0
@@ -366,14 +367,14 @@ class Register:
         self.keys[number] = key
         return number, key.state(request.moment)
 
-    def next_number(self, _):
+    def next_number(self, _: Request) -> int:
         """The number of a key that this request registers."""
         return len(self.keys) + 1
 
-    def period(self, kind):
+    def period(self, kind: str) -> tuple[int, int]:
         return self.set_periods.get(kind, PERIODS[kind])
 
-    def copy(self):
+    def copy(self) -> "Register":
         other = type(self)(self.version)
         other.latest, other.set_periods = self.latest, dict(self.set_periods)
         other.keys, other.kept = dict(self.keys), dict(self.kept)
@@ -382,7 +383,7 @@ class Register:
 
 # ---- its rows
 
-def key_rows(number, key, latest):
+def key_rows(number: int, key: Key, latest: int) -> dict[str, list[tuple]]:
     """The rows of a key, by table."""
     dates = (key.activation, key.stop, key.end, key.destroyed, key.compromised, key.occurrence)
     row = (number, TYPES.index(key.kind) + 1, key.owner, key.purpose, key.state(latest), key.initial,
@@ -391,7 +392,7 @@ def key_rows(number, key, latest):
             "approval": [(number, name) for name in key.approvals], "quorum": [(number, key.need)] * key.has_set_need}
 
 
-def other_rows(register):
+def other_rows(register: Register) -> dict[str, list[tuple]]:
     """The rows that are about no key."""
     return {"meta": [(1, register.version, register.latest, len(register.keys))],
             "period": [(TYPES.index(kind) + 1, *months) for kind, months in register.set_periods.items()]}

@@ -30,7 +30,7 @@ A file that was taken from version 1 to version 2 does not tell when. All its re
 from any moment on. A file of version 1 is put to its own rules.
 
 What keyreg reads is read: tables and columns by their names, in any case and order, and no column more is looked at.
-Of the log it is told which part of it counts (log_frames.py). No more than one row of a request, and each key in few
+It reports which part of the log counts (log_frames.py). No more than one row of a request, and each key in few
 bytes, are held: a million registrations took 240 MB, and it takes more where another order is looked for.
 """
 import argparse
@@ -131,8 +131,7 @@ class File:
         if versions not in ([(1,)], [(2,)]):
             raise Unreadable(f"of versions 1 and 2 it has {versions}")
         self.version = versions[0][0]
-        told = [told for told, in connection.execute("PRAGMA integrity_check")]
-        self.faults += [f"file: {line}" for line in told if line != "ok"]
+        self.faults += [f"file: {line}" for line, in connection.execute("PRAGMA integrity_check") if line != "ok"]
         self.kept = list(TABLES)[:5 if self.version == 1 else 7]
         self.faults += [f"{name}: a table of version 2 in a file of version 1" for name in TABLES
                         if name in made and name not in self.kept]
@@ -144,10 +143,10 @@ class File:
 
     def place_of(self, name, sql):
         """The name under which a row's place is read. The table has the columns, and none is made of others."""
-        found, wanted = columns_of(self.connection, name), TABLES[name.lower()][0]
-        if not found.keys() >= set(wanted) or any(found.values()) or not sql.upper().startswith("CREATE TABLE"):
+        columns, wanted = columns_of(self.connection, name), TABLES[name.lower()][0]
+        if not columns.keys() >= set(wanted) or any(columns.values()) or not sql.upper().startswith("CREATE TABLE"):
             raise Unreadable(f"it has no table {name} with the columns {wanted}")
-        return row_place(found)
+        return row_place(columns)
 
     @staticmethod
     def is_mistyped(name):
@@ -255,8 +254,8 @@ def replayed(file, requests):
             print(f"{place} of {count} requests", end="\r", file=sys.stderr, flush=True)
         register.take(request)
     wanted = other_rows(register)
-    told = [line for name in wanted if name in file.kept for line in differences(name, file.rows(name), wanted[name])]
-    return register.faults + told + list(key_differences(file, register))
+    other = [line for name in wanted if name in file.kept for line in differences(name, file.rows(name), wanted[name])]
+    return register.faults + other + list(key_differences(file, register))
 
 
 class Groups:
@@ -291,18 +290,18 @@ def key_differences(file, register):
         if number == wanted:
             rows, wanted = key_rows(number, register.keys.get(number), register.latest), next(numbers, END)
         for name, group in groups.items():
-            found, given = group.take(number), rows.get(name, ())
-            if found != given:
-                yield from differences(name, found, given)
+            in_file, given = group.take(number), rows.get(name, ())
+            if in_file != given:
+                yield from differences(name, in_file, given)
     for name in groups:
         yield from differences(name, file.rows(name, where=f"typeof({TABLES[name][0][0]}) <> 'integer'"), ())
 
 
-def differences(name, found, wanted):
+def differences(name, rows, wanted):
     """A line for each cell and each row of a table that is not as the requests give."""
     columns, width = TABLES[name]
     given, seen = {row[:width]: row for row in wanted}, set()
-    for row in found:
+    for row in rows:
         place = row[:width]
         label = f"{name} {place if width > 1 else place[0]}"
         if place in seen or place not in given:
@@ -322,7 +321,7 @@ def by_moment(requests):
     return [list(group) for _, group in itertools.groupby(requests, lambda request: request.moment)]
 
 
-def order_told(file, ordered, met_bound):
+def lines_of_order(file, ordered, met_bound):
     """Lines that say where the file tells no order, and which one was taken."""
     moments, requests, first = file.shared
     if not file.goes_by_moments:
@@ -332,7 +331,7 @@ def order_told(file, ordered, met_bound):
                f"first {text_of(first)}): of these the file tells no order but that of its rows")
     if ordered:
         groups = zip(by_moment(file.requests()), by_moment(ordered))
-        moved = [one[0].moment for one, other in groups if one != other]
+        moved = [by_rows[0].moment for by_rows, taken in groups if by_rows != taken]
         yield f"order: another one than the rows' is taken (moments: {len(moved)}, the first {text_of(moved[0])})"
     if met_bound:
         yield "order: the bound was met: not all orders of requests at one moment were tried"
@@ -350,7 +349,7 @@ def since(earlier, file):
 
 def since_in_detail(earlier, file):
     """The same of copies that are known to differ, whose rows are all held."""
-    now, then = ({row[:2]: row for row in one.rows("request")} for one in (file, earlier))
+    now, then = ({row[:2]: row for row in copy.rows("request")} for copy in (file, earlier))
     latest = max((row[5] for row in then.values()), default=0)
     for place, row in then.items():
         if now.get(place) != row:
@@ -359,7 +358,7 @@ def since_in_detail(earlier, file):
         if place not in then and row[5] < latest:
             yield f"request {place}: it came in since the earlier copy, at {row[5]}, below its latest moment {latest}"
     stood, stands = [place for place in then if place in now], [place for place in now if place in then]
-    moved = [(one, other) for one, other in zip(stood, stands) if one != other]
+    moved = [(before, after) for before, after in zip(stood, stands) if before != after]
     if moved:
         yield (f"request {moved[0][1]}: its row stands where that of {moved[0][0]} stood in the earlier copy; so "
                f"{len(moved)} rows stand in another order")
@@ -372,33 +371,33 @@ def since_in_detail(earlier, file):
 
 def judged(file):
     """What differs, and what is to be said of the order; whether it is another one than the rows'."""
-    found, ordered, met_bound = replayed(file, file.requests(file.faults)), None, False
-    if found and file.shared[0]:
+    faults, ordered, met_bound = replayed(file, file.requests(file.faults)), None, False
+    if faults and file.shared[0]:
         try:
             # It stands beside this file. Where it does not, no other order is looked for.
             from other_order import Search
         except ImportError:
-            told = "order: no other was looked for: other_order.py is not beside this file"
-            return file.faults + found, [told], False
+            line = "order: no other was looked for: other_order.py is not beside this file"
+            return file.faults + faults, [line], False
         search = Search(file, list(file.requests()))
         other = search.order()
         again = replayed(file, other)
         met_bound = search.met_bound and bool(again)
-        if len(again) < len(found):
-            found, ordered = again, other
-    order = list(order_told(file, ordered, met_bound))
-    return file.faults + found, order, bool(ordered) or not file.goes_by_moments
+        if len(again) < len(faults):
+            faults, ordered = again, other
+    order = list(lines_of_order(file, ordered, met_bound))
+    return file.faults + faults, order, bool(ordered) or not file.goes_by_moments
 
 
-def log_told(path):
+def lines_of_log(path):
     """What is to be said of the log: how much of it counts."""
     if not os.path.exists(path + "-wal"):
         return ["log: none is beside it. If it had one, requests may be missing that stood there alone"]
     try:
-        from log_frames import told
+        import log_frames
     except ImportError:
         return []
-    return told(path + "-wal")
+    return log_frames.lines_of_log(path + "-wal")
 
 
 def main():
@@ -415,19 +414,19 @@ def main():
                 with opened(path) as other:
                     before = since(File(other), file)
                 path = words.copy
-            told, order, is_another_order = judged(file)
+            faults, order, is_another_order = judged(file)
             counts = f"{file.count('request')} requests, {file.count('keys')} keys, version {file.version}"
-            order += log_told(path)
+            order += lines_of_log(path)
     except Unreadable as fault:
         print(f"{path}: it cannot be read as a register: {fault}")
         return 2
-    told += before
-    for line in told + order:
+    faults += before
+    for line in faults + order:
         print(line.encode(errors="backslashreplace").decode())
     verdict = "each row of each table is as the requests give"
     verdict += ", in another order than that of their rows" * is_another_order
-    print(f"{words.copy}: {counts}: {f'{len(told)} differences' if told else verdict}")
-    return 1 if told else 3 if is_another_order else 0
+    print(f"{words.copy}: {counts}: {f'{len(faults)} differences' if faults else verdict}")
+    return 1 if faults else 3 if is_another_order else 0
 
 
 if __name__ == "__main__":

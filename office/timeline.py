@@ -6,7 +6,7 @@
 The page stands alone: it loads nothing, and its own script draws the rows, sorts and filters them by owner, type and
 state, and turns the pages of 1000 keys. A key's bar is high from its Activation to its Protect Stop Date, where it may
 protect data, and low from there to its Deactivation Date. A compromise ends the high part, a destruction the line. A
-state has a colour and a pattern, so that it is told in grey too. Marked are the moments of a compromise and a
+state has a colour and a pattern, so that it is seen in grey too. Marked are the moments of a compromise and a
 destruction, and what is due within so many days. A row that is clicked, touched, or opened by its button from the
 keyboard, has all texts and dates of its key. Printed, the axis stands on each sheet, and no row is cut.
 
@@ -161,10 +161,10 @@ function toggle(row, button, key) {
   button.setAttribute('aria-expanded', !is_open);
   if (is_open) return row.nextSibling.remove();
   const more = document.createElement('tr'), all = cell('all', ''), list = document.createElement('dl');
-  const told = [['key', key[NUMBER]], ['owner', key[OWNER]], ['type', key[TYPE]],
+  const facts = [['key', key[NUMBER]], ['owner', key[OWNER]], ['type', key[TYPE]],
     ['state', states[key[STATE]] + (key[DUE] && ', ' + key[DUE])], ['purpose', key[PURPOSE]],
     ...dates.map((name, place) => [name.replace('_', ' '), moment(key[MOMENTS][place])]).filter(([, text]) => text)];
-  for (const [name, text] of told) {
+  for (const [name, text] of facts) {
     const term = document.createElement('dt'), value = document.createElement('dd');
     term.textContent = name;
     value.textContent = text;
@@ -213,8 +213,8 @@ def shown(text):
     """A text of a key for the page: what would not be seen, or would move other text, stands by its number."""
     if text.isascii() and text.isprintable():
         return text
-    return "".join(f"\\u{ord(one):04x}" if unicodedata.category(one) in ("Cc", "Cf", "Zl", "Zp") else one
-                   for one in text)
+    return "".join(f"\\u{ord(mark):04x}" if unicodedata.category(mark) in ("Cc", "Cf", "Zl", "Zp") else mark
+                   for mark in text)
 
 
 def state_of(key, moment):
@@ -308,8 +308,8 @@ def row_of(key, moment, days, scale):
     if state == "Active" and stop is not None and stop <= moment + days * DAY:
         due = "overdue" if stop <= moment else "due"
     drawn = list(lines_of(key, scale))
-    lines = [one for one in drawn if len(one) == 3]
-    marks = [*(one for one in drawn if len(one) == 2), *marks_of(key, due, scale)]
+    lines = [shape for shape in drawn if len(shape) == 3]
+    marks = [*(shape for shape in drawn if len(shape) == 2), *marks_of(key, due, scale)]
     return [int(key["number"]), shown(key["owner"]), key["type"], list(STATES).index(state), due, shown(key["purpose"]),
             [key[name] for name in DATES], lines, marks]
 
@@ -323,12 +323,12 @@ def legend():
     for place, state in enumerate(STATES):
         yield (f'<span><svg viewBox="0 0 34 14"><rect x="1" y="1" width="32" height="12" fill="url(#s{place})" '
                f'stroke="var(--s{place})"/></svg> {state}</span>')
-    for drawn, told in (('<path class="mark" d="M12 2l10 10M12 12l10-10"/>', "compromise, from its occurrence on"),
+    for drawn, name in (('<path class="mark" d="M12 2l10 10M12 12l10-10"/>', "compromise, from its occurrence on"),
                         ('<rect class="solid" x="12" y="2" width="10" height="10"/>', "destruction"),
                         ('<path class="solid" d="M11 2h12l-6 9z"/>', "due or overdue"),
                         ('<path class="today" d="M17 0v14"/>', "the moment"),
                         ('<path class="wait" d="M0 7h34"/>', "not yet Active")):
-        yield f'<span><svg viewBox="0 0 34 14">{drawn}</svg> {told}</span>'
+        yield f'<span><svg viewBox="0 0 34 14">{drawn}</svg> {name}</span>'
 
 
 def style_of():

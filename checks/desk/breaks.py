@@ -8,6 +8,7 @@ import re
 import time
 
 from day import register
+from parts import Reader
 from script import expect
 
 HOSTILE = [
@@ -21,14 +22,14 @@ HOSTILE = [
 NO_SUCH = "img, iframe, object, embed, style, b, i, form[action], script:not([src='desk.js'])"
 
 
-def waits(reader, *words):
+def waits(reader: Reader, *words: str) -> str:
     """The page says that a request waits, and how it is sent. Gives its number."""
     for word in ("Not answered yet", *words):
         reader.says(word, "#kept")
     return re.search(r"number (\d+)", reader.text("#kept"))[1]
 
 
-def sent_again(reader, key):
+def sent_again(reader: Reader, key: int) -> None:
     """Each thing that may come between a request and its answer, and several of them after one another."""
     line = reader.desk.line
     turns = (["cut"], ["500"], ["503"], ["refuse"], ["cut", "503", "cut", "lose"], ["reset"], ["lose"])
@@ -51,7 +52,7 @@ def sent_again(reader, key):
         reader.does(f"remove-custodian {key} {name}", [("Custodian", name)])
 
 
-def over_reload(reader, key):
+def over_reload(reader: Reader, key: int) -> None:
     """A request waits, and the page is loaded anew: it is sent again under its number. Another user's is not sent."""
     line = reader.desk.line
     for what in ("cut", "reset", "lose", "503"):
@@ -78,14 +79,14 @@ def over_reload(reader, key):
     expect(reader.answer()[1].startswith("Given up"), "it is not given up")
 
 
-def keep(reader, number, caller, command):
+def keep(reader: Reader, number: int, caller: str, command: dict) -> None:
     """Puts a request that is not answered into the window's store, and loads the page anew."""
     entry = json.dumps([{"number": number, "caller": caller, "body": json.dumps(command)}])
     reader.run("sessionStorage.setItem('keyreg.kept', arguments[0])", entry)
     reader.reload()
 
 
-def killed(reader, key):
+def killed(reader: Reader, key: int) -> None:
     """keyreg is killed before a request comes, and right after one acted; it is started again meanwhile."""
     desk = reader.desk
     reader.key(key)
@@ -105,7 +106,7 @@ def killed(reader, key):
     expect("5 that its destruction needs" in reader.text(), reader.text())
 
 
-def refused_after_a_cut(reader, key):
+def refused_after_a_cut(reader: Reader, key: int) -> None:
     """A refusal whose answer is lost is shown as a refusal, and one of a number that was used as what it is."""
     line = reader.desk.line
     reader.key(key)
@@ -118,7 +119,7 @@ def refused_after_a_cut(reader, key):
     reader.refused("RequestReused", "This one did nothing")
 
 
-def two_pages(reader, other, key):
+def two_pages(reader: Reader, other: Reader, key: int) -> None:
     """Two pages at one key: the second gets the refusal in words, and the key as it stands now."""
     reader.key(key)
     other.key(key)
@@ -132,7 +133,7 @@ def two_pages(reader, other, key):
     expect(not other.find("details[data-kind='set']"), "dates may still be set")
 
 
-def is_text(reader, text):
+def is_text(reader: Reader, text: str) -> None:
     """The text stands in the page as a text, with a code for each character that is not seen, and became nothing
     else."""
     texts = reader.run("return [...document.querySelectorAll('#main .text')].map((place) => place.textContent)")
@@ -145,7 +146,7 @@ def is_text(reader, text):
     expect(wide <= 0, f"{text!r} makes the page wider by {wide}")
 
 
-def hostile_texts(reader):
+def hostile_texts(reader: Reader) -> None:
     """Purposes that are markup, quotes, marks of direction or long words."""
     for text in HOSTILE:
         reader.anew("register")
@@ -163,7 +164,7 @@ def hostile_texts(reader):
     expect(reader.driver.title.startswith("Find"), f"the title is {reader.driver.title}")
 
 
-def hostile_list(reader):
+def hostile_list(reader: Reader) -> None:
     """A list that no register gives, with markup for names: it is shown as texts all the same."""
     place = pathlib.Path(reader.desk.guard.list_folder, "list.json")
     given = json.loads(place.read_text(encoding="utf-8"))
@@ -180,7 +181,7 @@ def hostile_list(reader):
     reader.forget_all()
 
 
-def without_a_list(reader, key):
+def without_a_list(reader: Reader, key: int) -> None:
     """Where the list is gone, or is of too many keys, keys are asked for by their numbers, and the page says so."""
     place = pathlib.Path(reader.desk.guard.list_folder, "list.json")
     kept = place.read_bytes()
@@ -197,7 +198,7 @@ def without_a_list(reader, key):
     reader.reload()
 
 
-def all_breaks(ann, bob, second):
+def all_breaks(ann: Reader, bob: Reader, second: Reader) -> None:
     """All of it, over the register of a day; the second is another page of ann."""
     key = register(ann, "master", "ann", "a key of breaks")
     sent_again(ann, key)

@@ -7,23 +7,23 @@ import os
 import pathlib
 import time
 
-from parts import By
-from registers import STATES, TYPES, UNSET, database
+from parts import By, Reader
+from registers import STATES, TYPES, UNSET, File, database
 from register_rules import ACTIVE, ALL, STILL, Key
 from script import expect
 
 
-def second(text):
+def second(text: str) -> int:
     """The second of a text in UTC."""
     return calendar.timegm(time.strptime(text, "%Y-%m-%dT%H:%M:%S"))
 
 
-def day(days, clock="T23:30:00"):
+def day(days: int, clock: str = "T23:30:00") -> str:
     """The text of a moment so many days from now, near midnight: in another time zone it is another day."""
     return time.strftime("%Y-%m-%d", time.gmtime(time.time() + days * 86400)) + clock
 
 
-def register(reader, kind, owner, purpose, *dates):
+def register(reader: Reader, kind: str, owner: str, purpose: str, *dates: str) -> int:
     """Registers a key by its form; `dates` are texts in UTC, empty where none is given."""
     reader.anew("register")
     names = ("Activation (UTC)", "Protect Stop (UTC)", "Deactivation (UTC)")
@@ -34,7 +34,7 @@ def register(reader, kind, owner, purpose, *dates):
     return int(reader.driver.current_url.split("#key/")[1])
 
 
-def destroyed(ann, bob, cat):
+def destroyed(ann: Reader, bob: Reader, cat: Reader) -> None:
     """A key that is registered, approved by two others and destroyed: the smallest form of a day."""
     key = register(ann, "master", "ann", "root of vault 2")
     ann.adds(key, "bob", "cat")
@@ -47,7 +47,7 @@ def destroyed(ann, bob, cat):
     expect("Destroyed" in words and "Destroyed" in ann.text("h1"), words)
 
 
-def custody(ann, bob, cat):
+def custody(ann: Reader, bob: Reader, cat: Reader) -> None:
     """Custodians, approvals and the quorum, with what waits for whom."""
     key = register(ann, "key-wrapping", "ann", "wrapping keys of site B")
     ann.adds(key, "bob", "cat", "dan")
@@ -72,7 +72,7 @@ def custody(ann, bob, cat):
     ann.key(key).does(f"destroy {key}")
 
 
-def dates(ann, cat):
+def dates(ann: Reader, cat: Reader) -> int:
     """Dates that are set, defaults that are shown before they are taken, an activation, a revocation and a
     compromise. Gives the number of a key that was activated."""
     key = register(ann, "data-encryption", "ann", "disks of site C", day(-40), day(200))
@@ -104,7 +104,7 @@ def dates(ann, cat):
     return third
 
 
-def periods(ann, office):
+def periods(ann: Reader, office: Reader) -> None:
     """The office sets a period. A page with an older list foretells otherwise, and shows what the register said."""
     ann.desk.make_list()
     ann.reload()
@@ -130,7 +130,7 @@ def periods(ann, office):
     ann.refused("PeriodTooLong")
 
 
-def moved_on(bob, key):
+def moved_on(bob: Reader, key: int) -> None:
     """The register is brought to now, and the answer of its own moves on to it."""
     bob.key(key)
     bob.forget()
@@ -142,7 +142,7 @@ def moved_on(bob, key):
 
 # ---- finding
 
-def keys_of(file):
+def keys_of(file: File) -> dict[int, Key]:
     """The keys of the register's tables by their numbers, by SQLite."""
     with database(file) as connection:
         rows = connection.execute("SELECT number, kind, owner, purpose, initial, activation, protect_stop, "
@@ -159,7 +159,7 @@ def keys_of(file):
     return keys
 
 
-def finds(reader, file):
+def finds(reader: Reader, file: File) -> None:
     """What is found by number, owner, type, state, purpose, what is due and what waits. The list may be older than
     what the page did: a copy of the register's files is the measure."""
     now, keys = int(time.time()), keys_of(file)
@@ -198,7 +198,7 @@ def finds(reader, file):
 HEAD = "type,owner,activation,protect_stop,deactivation,purpose\n"
 
 
-def table_text(good):
+def table_text(good: int) -> tuple[str, list[str], list[str]]:
     """A table with good rows and others, and what its good rows ask for."""
     bad = ["master,ann,2026-02-01,,,a day without its time", "Master,ann,,,,no such type", "master,a b,,,,no name",
            'master,<img src=x onerror="document.title=1">,,,,markup in an owner', "master,ann,,,," + "x" * 1000,
@@ -210,7 +210,7 @@ def table_text(good):
     return text, wanted, bad
 
 
-def wrong_files(reader, folder):
+def wrong_files(reader: Reader, folder: File) -> None:
     """Of files that are no table it is said why, and nothing is sent."""
     files = (("utf16.csv", HEAD.encode("utf-16"), "no UTF-8"), ("other.csv", b"a,b\n", "header row"),
              ("tabs.csv", HEAD.replace(",", "\t").encode(), "header row"), ("empty.csv", b"", "header row is empty"))
@@ -221,7 +221,7 @@ def wrong_files(reader, folder):
         reader.says(why)
 
 
-def chosen(reader, folder, text):
+def chosen(reader: Reader, folder: File, text: str) -> None:
     """A table's file is chosen on its page."""
     pathlib.Path(folder, "keys.csv").write_text(text, encoding="utf-8")
     reader.anew("table")
@@ -229,12 +229,12 @@ def chosen(reader, folder, text):
     reader.says("judged before")
 
 
-def put_away(reader):
+def put_away(reader: Reader) -> None:
     reader.press("Put the table away")
     reader.one("input[type='file']")
 
 
-def given_back(reader, folder):
+def given_back(reader: Reader, folder: File) -> str:
     """The table that the page gives back of the rows that are not registered."""
     back = pathlib.Path(folder, "not-registered-keys.csv")
     back.unlink(missing_ok=True)
@@ -244,11 +244,11 @@ def given_back(reader, folder):
     return back.read_text(encoding="utf-8")
 
 
-def taken_in(reader, folder, good=40):
+def taken_in(reader: Reader, folder: File, good: int = 40) -> None:
     """A table is judged row by row, sent, stopped, gone on with after a reload, and its other rows are given back."""
     wrong_files(reader, folder)
     text, wanted, bad = table_text(good)
-    reader.driver.execute_cdp_cmd("Browser.setDownloadBehavior", {"behavior": "allow", "downloadPath": folder})
+    reader.downloads_to(folder)
     chosen(reader, folder, text)
     reader.says(f"{good + 7} rows, judged before they are sent: {good} would be accepted, 1 refused, "
                 "6 of another form, 0 there already, 0 repeated, 0 changed by a spreadsheet")
@@ -283,7 +283,7 @@ def taken_in(reader, folder, good=40):
     put_away(reader)
 
 
-def whole_day(ann, bob, cat, office, folder):
+def whole_day(ann: Reader, bob: Reader, cat: Reader, office: Reader, folder: File) -> None:
     """All of it, as four users."""
     destroyed(ann, bob, cat)
     custody(ann, bob, cat)

@@ -2,29 +2,21 @@
 """The desk in Chromium: people go through a day of every command, and after it the register is exactly what the pages
 said.
 
-    checks/desk/in_browser.py [--least] [--screens FOLDER] [PART..]
+    checks/desk/in_browser.py [--least] [--screens FOLDER] [--rows N] [PART..]
     checks/desk/in_browser.py --picture docs/desk.png
 
 keyreg is served behind nginx with office/units/nginx-keyreg.conf, and a browser for each user goes through a day by
-forms, keys and lists (day.py): no second since 1970 is typed, nor a line of JSON. Connections are cut within an answer
-and before it, answers are 500 and 503, pages are loaded anew, keyreg is killed and started again, two pages stand at
-one key, and texts are meant to disturb (breaks.py). Each page is looked at by Chromium's accessibility tree, for
-contrast, by Tab, at three widths, light, dark and printed, and with a list of 100,000 keys (looks.py).
+forms, keys and lists (day.py), by the keyboard alone (keyboard.py), and by tables (sheets.py, tables.py). What may break
+breaks (breaks.py, users.py), and what is typed stays (typed.py). Each page is looked at by Chromium's accessibility
+tree, for contrast, by Tab, at several widths, light, dark and printed (looks.py, waiting.py).
 
-After it each request of which a page said that it was accepted is in the register's table `request`, with the number
-that the page showed, and no other is; and by office/replay.py all else in the register follows from them. The console
-has nothing but what Chromium writes of statuses of refusals and of connections that were cut on purpose; nothing was
-asked of another place.
+After it each request of which a page said that it was accepted is in the register under the number that the page
+showed, and no other is; and by office/replay.py all else in the register follows from them. The console has nothing but
+what Chromium writes of refusals and of connections that were cut on purpose.
 
-One key lives by Tab, arrows, Enter and typed text alone (keyboard.py). Tables that a spreadsheet changed are shown
-field by field (sheets.py). What waits for a custodian, a table with its answers and a request without an answer
-are looked at as the pages are (waiting.py).
-
-The parts are day, breaks, looks and large, all where none is named. --least does the smallest form alone, as the gate
-has it: a key is registered, approved by two and destroyed. --screens keeps the pictures; --picture takes that of the
-documents alone.
-It needs Debian's chromium, chromium-driver, python3-selenium and nginx-light, and Linux. Build the program first:
-./keyreg </dev/null
+The parts are day, breaks, typed, tables, looks and large, all where none is named. --least does the smallest form
+alone, as the gate has it. --screens keeps the pictures; --picture takes that of the documents alone. It needs Debian's
+chromium, chromium-driver, python3-selenium and nginx-light, and Linux. Build the program first: ./keyreg </dev/null
 """
 import collections
 import contextlib

@@ -4,7 +4,7 @@ import json
 import time
 
 from day import day, second
-from parts import ActionChains, Keys
+from parts import ActionChains, Keys, Reader
 from script import expect
 
 # What is so of the part that has the focus: whether it is another than the last one, and stands after it; its outline;
@@ -118,7 +118,7 @@ def registered(hands):
     return int(hands.reader.driver.current_url.split("#key/")[1])
 
 
-def life(ann, bob, cat):
+def life(ann: Reader, bob: Reader, cat: Reader) -> tuple[int, int]:
     """Registered, activated, revoked, approved by two others and destroyed; how many parts were met, by how many
     Tabs."""
     hands, others = Hands(ann), (Hands(bob), Hands(cat))

@@ -7,7 +7,8 @@ import time
 from typing import NamedTuple
 
 from browser import as_seen, as_usual, print_page
-from registers import TABLES, UNSET, VERSION, database, put_rows
+from parts import Desk, Reader
+from registers import UNSET, File, write_register
 from script import expect
 
 WIDTHS = (320, 380, 800, 1200)
@@ -88,7 +89,7 @@ def focused(reader, page):
     expect(came == list(range(len(places))), f"{page}: Tab goes {came}, of {len(places)} parts: {places}")
 
 
-def looked_at(reader, page, folder=None):
+def looked_at(reader: Reader, page: str, folder: str = "") -> int:
     """Looks at the page as it stands at three widths, light and dark and printed; a picture of each goes into the
     folder, and the page as it goes to a printer."""
     as_seen(reader.driver, 1000)
@@ -111,7 +112,7 @@ def looked_at(reader, page, folder=None):
     return parts
 
 
-def all_pages(reader, pages, folder=None):
+def all_pages(reader: Reader, pages: dict[str, str], folder: str = "") -> int:
     """Looks at each page."""
     parts = 0
     for page, address in pages.items():
@@ -125,7 +126,7 @@ def all_pages(reader, pages, folder=None):
     return parts
 
 
-def picture(reader, place, height=None):
+def picture(reader: Reader, place: str, height: int = 0) -> None:
     """The whole page, or its first pixels, as a PNG."""
     size = reader.run("return [window.innerWidth, document.scrollingElement.scrollHeight]")
     clip = {"x": 0, "y": 0, "width": size[0], "height": height or size[1], "scale": 1}
@@ -142,25 +143,20 @@ TIMES = 20
 
 def many(file, count=KEYS):
     """The tables of a large office, by SQLite: each key has two custodians, an approval and five requests."""
-    with database(file) as connection:
-        connection.executescript("PRAGMA synchronous = OFF; PRAGMA journal_mode = OFF;" + TABLES)
-        keys, custodians, requests = [], [], []
-        for key in range(1, count + 1):
-            moment, owner = BEGUN + key, f"team-{key % 200}.of.the.office@example"
-            dates = (moment - 9 * DAY, moment + key % 2000 * DAY, moment + (key % 2000 + 400) * DAY)
-            purpose = f"disks of volume {key}, hall {key % 97}, rack {key % 41}"
-            names = (f"officer-{key % 30}", f"officer-{key % 30 + 30}")
-            keys.append((key, 1, owner, purpose, 2, moment, *dates, UNSET, UNSET, UNSET))
-            custodians += [(key, name) for name in names]
-            commands = (f"register data-encryption {owner} - - - {purpose}", f"set {key} {dates[0]} = -",
-                        *(f"add-custodian {key} {name}" for name in names))
-            requests += [(owner, 10 * key + place, text, key, 2, moment) for place, text in enumerate(commands)]
-            requests.append((names[0], key, f"approve {key}", key, 2, moment))
-        connection.execute("INSERT INTO meta VALUES (1, ?, ?, ?)", (VERSION, BEGUN + count, count))
-        put_rows(connection, "keys", keys)
-        put_rows(connection, "custodian", custodians)
-        put_rows(connection, "approval", custodians[::2])
-        put_rows(connection, "request", requests)
+    keys, custodians, requests = [], [], []
+    for key in range(1, count + 1):
+        moment, owner = BEGUN + key, f"team-{key % 200}.of.the.office@example"
+        dates = (moment - 9 * DAY, moment + key % 2000 * DAY, moment + (key % 2000 + 400) * DAY)
+        purpose = f"disks of volume {key}, hall {key % 97}, rack {key % 41}"
+        names = (f"officer-{key % 30}", f"officer-{key % 30 + 30}")
+        keys.append((key, 1, owner, purpose, 2, moment, *dates, UNSET, UNSET, UNSET))
+        custodians += [(key, name) for name in names]
+        commands = (f"register data-encryption {owner} - - - {purpose}", f"set {key} {dates[0]} = -",
+                    *(f"add-custodian {key} {name}" for name in names))
+        requests += [(owner, 10 * key + place, text, key, 2, moment) for place, text in enumerate(commands)]
+        requests.append((names[0], key, f"approve {key}", key, 2, moment))
+    write_register(file, BEGUN + count, count, keys=keys, custodian=custodians, approval=custodians[::2],
+                   request=requests)
 
 
 LETTER = """const [box, text, done] = arguments; const begun = performance.now();
@@ -217,7 +213,7 @@ def taken(desk, reader, folder, count):
     return Taken(size, packed, first, max(searches), max(letters) / 1000)
 
 
-def large(desk, reader, folder):
+def large(desk: Desk, reader: Reader, folder: File) -> Taken:
     """What a list of 100,000 keys takes, beside one of a tenth."""
     few, all_of_them = (taken(desk, reader, folder, count) for count in (KEYS // 10, KEYS))
     expect(all_of_them.size <= 400 * KEYS and all_of_them.packed <= 80 * KEYS, f"the list is too large: {all_of_them}")

@@ -257,6 +257,10 @@ class Reader:
         self.run("sessionStorage.clear()")
         self.reload()
 
+    def downloads_to(self, folder: File) -> None:
+        behaviour = {"behavior": "allow", "downloadPath": str(folder)}
+        self.driver.execute_cdp_cmd("Browser.setDownloadBehavior", behaviour)
+
     # ---- doing
 
     def press(self, words: str, selector: str = "button") -> None:

@@ -1,14 +1,10 @@
 #!/usr/bin/env python3
-"""The rules that the desk in the browser knows, desk/rules.js, are those of docs/SPECIFICATION.md and of the program.
+"""The rules that the desk in the browser knows, desk/rules.js, are those of docs/SPECIFICATION.md and of the program. Its
+tables are compared with the document's. Then N requests are drawn, of all commands in states that requests before them
+made, and each is judged under node with what a page would know: the judgement, and the key afterwards, have to be those
+of office/register_rules.py. Some hundreds more are put to the program itself.
 
     checks/desk/rules.py [--requests N]
-
-Its tables of types, commands, reasons, refusals and members are compared with the document's. Then N requests are
-drawn, 10,000 where nothing is said, of all commands in states that requests before them made. Each is judged by
-desk/rules.js under node, with what a page would know: the key, the periods and the latest moment. Where it makes a
-judgement, it has to be what office/register_rules.py says, with the limit, the counts and the state that it tells,
-and the key afterwards has to be the same, date by date; likewise its state and its usage at that moment. Some hundreds
-more are put to the program itself.
 
 It needs node 18 or later (Debian's `nodejs`). Build the program first: ./keyreg </dev/null
 """

@@ -5,6 +5,7 @@ import pathlib
 import re
 
 from day import HEAD, chosen, put_away
+from parts import Reader
 from places import use
 from script import expect
 
@@ -82,7 +83,7 @@ def with_list(reader, file=None):
     reader.forget_all()
 
 
-def all_tables(reader, folder):
+def all_tables(reader: Reader, folder: pathlib.Path) -> int:
     """Nothing of it is sent."""
     before = len(reader.desk.line.posts)
     changed(reader, folder)

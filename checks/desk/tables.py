@@ -5,6 +5,8 @@ import csv
 import time
 
 from day import HEAD, chosen, day, given_back, put_away, second
+from parts import Reader
+from registers import File
 from script import expect
 
 SORTS = ("would be accepted", "refused", "of another form", "there already", "repeated", "changed by a spreadsheet")
@@ -168,9 +170,9 @@ def long_table(reader, folder, count):
             f"the store has {letters} letters")
 
 
-def all_taken(reader, other, folder, count):
+def all_taken(reader: Reader, other: Reader, folder: File, count: int) -> str:
     """All of it, the long table by another browser; what is said of that."""
-    reader.driver.execute_cdp_cmd("Browser.setDownloadBehavior", {"behavior": "allow", "downloadPath": folder})
+    reader.downloads_to(folder)
     both_of_spreadsheets(reader, folder)
     taken_twice(reader, folder)
     all_reached(reader, folder)

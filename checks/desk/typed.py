@@ -7,7 +7,7 @@ import time
 
 from browser import as_seen, as_usual
 from day import day, register, second
-from parts import By, Keys
+from parts import By, Keys, Reader
 from script import expect
 
 # As long as a purpose was in which numbers and names broke.
@@ -237,7 +237,7 @@ def order_kept(reader, other):
     reader.wait(lambda: not reader.find("#newer button"), "the newer list is not shown")
 
 
-def all_typed(ann, bob):
+def all_typed(ann: Reader, bob: Reader) -> None:
     """All of it."""
     key = stays(ann)
     half_a_date(ann)

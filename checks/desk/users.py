@@ -7,7 +7,7 @@ import http.client
 from nginx import HOST
 from breaks import waits
 from day import register
-from parts import PASSWORDS
+from parts import PASSWORDS, Reader
 from script import expect
 
 
@@ -125,7 +125,7 @@ def signs_out(reader):
     reader.open("find")
 
 
-def all_users(reader):
+def all_users(reader: Reader) -> None:
     """Each story; what the other user's requests are is looked at with all others afterwards."""
     key = register(reader, "master", reader.user, "a key of one user")
     other_beside(reader)

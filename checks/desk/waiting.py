@@ -5,6 +5,8 @@ import contextlib
 
 from day import HEAD, chosen, day, register, second
 from looks import looked_at
+from parts import Reader
+from registers import File
 from script import expect
 
 
@@ -59,7 +61,7 @@ def unanswered(ann):
     ann.accepted(f"set-quorum {key} 3")
 
 
-def all_screens(ann, bob, cat, folder, pictures=None):
+def all_screens(ann: Reader, bob: Reader, cat: Reader, folder: File, pictures: str = "") -> int:
     """Looks at each; how many parts they have."""
     waiting(ann, bob, cat)
     parts = looked_at(bob, "waits-with-entries", pictures)

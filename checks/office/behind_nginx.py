@@ -1,13 +1,8 @@
 #!/usr/bin/env python3
-"""A register behind nginx with office/units/nginx-keyreg.conf, and what reaches it without. Behind it a request has the
-name of the user who sent it, whatever `Caller` it bears: another user than `office` gets NotOffice. Who has no
-password, and who names another host, is refused by nginx, and nothing of it reaches the register. A client that stalls
-holds up nobody. Without nginx the register takes the same requests, with a foreign host and a forged name, as
-docs/OPERATING.md says; what a browser asks before it sends another page's request it refuses. The desk, the user's name
-and the list are for users alone, and the desk comes with its content policy.
-
-All of it is tried twice: with the file as it stands, and by TLS, after the edit that the file's head names, with a
-certificate that is made here. By TLS a client that names another host in its first message gets no connection.
+"""A register behind nginx with office/units/nginx-keyreg.conf, and what reaches it without, as docs/OPERATING.md says: who
+a request is from, who is refused, and what a page of another site may ask. A client that stalls holds up nobody. All of
+it is tried with the file as it stands, and by TLS, after the edit that the file's head names, with a certificate that
+is made here.
 
     checks/office/behind_nginx.py
 

@@ -1,10 +1,7 @@
 #!/usr/bin/env python3
-"""Puts tables to office/check_table.py that went out by `keyreg export` and came back. What a spreadsheet made of a
-field is reported, with its row and its key: of conversions that were recorded, and of what LibreOffice writes where it
-is installed. A table whose columns it read as text comes back byte for byte. A row that is a key already is reported,
-one that `keyreg import` refuses for its form is, and of a table that is none what is wrong with it. The next first
-number that it prints is one by which an import is accepted. Of ten thousand rows that were all changed each is reported
-as it is found, in at most twice the time that a quarter of them takes for each.
+"""Puts tables to office/check_table.py that went out by `keyreg export` and came back: with what spreadsheets were seen
+to make of fields, and with what LibreOffice does where it is installed; with rows that are keys already, that an import
+refuses, and that stand twice; and of ten thousand rows that were all changed each is reported as it is found.
 
     checks/office/check_table_tried.py
 
@@ -273,7 +270,7 @@ def main() -> None:
     grown = sum(most) / sum(few)
     expect(grown <= 2 * MANY / FEW, f"{MANY} changed rows took {grown:.1f} times as long as {FEW}: {most}, {few}")
     print(office)
-    verdict(f"{len(RECORDED)} recorded conversions, {len(REFUSED)} refused rows and {known} rows of keys were reported; "
+    verdict(f"{len(RECORDED)} conversions, {len(REFUSED)} refused rows and {known} rows of keys were reported; "
             f"{MANY} rows took {alike:.1f} seconds, and {MANY} changed ones {max(most):.1f} at most, {grown:.1f} times "
             f"as long as {FEW}")
 

@@ -1,9 +1,8 @@
 #!/usr/bin/env python3
-"""office/client.py over a served register, with a network between that loses requests and answers, cuts answers
-short, and answers 500, 502 and 503 by itself; meanwhile the service is killed and started again, and so is the client.
-At the end each request that was asked has acted once: as many rows and keys as were asked, in their order. Numbers rise
-though the clock is set back; a refusal is raised with the values of the rules; what a proxy answers by itself is raised
-and not sent again, and the request stands until it is resumed or forgotten.
+"""office/client.py over a served register, with a network between that loses requests and answers, cuts answers short,
+and answers 500, 502 and 503 by itself; meanwhile the service is killed and started again, and so is the client. At the
+end each request that was asked has acted once, in its order. Numbers rise though the clock is set back, and refusals
+are raised with the values of the rules.
 
     checks/office/client_tried.py [--requests N]
 

@@ -1,9 +1,8 @@
 #!/usr/bin/env python3
-"""A standby follows a register by office/follow.py. While the register takes one request after the other, calls are
-begun and killed at random, some with the program that they called and some without it. After each kill the standby is
-a register of the first requests: its rows are those that office/register_rules.py gives for so many. After a last
-call, which is let go on to its end, it has the rows of the register in each table, and the same export. What is no
-standby of the register is reported, and left as it is.
+"""A standby follows a register by office/follow.py. While the register takes one request after the other, calls are begun
+and killed at random, some with the program that they called. After each kill the standby has the tables that
+office/register_rules.py gives for so many of the first requests; after a last call it has all. What is no standby of
+the register is reported, and left as it is.
 
     checks/office/follow_tried.py [--lines N] [--kills N] [--longest SECONDS] [--seed N]
 

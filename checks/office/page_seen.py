@@ -116,8 +116,8 @@ class Browser:
         sheets = self.folder / "printed.pdf"
         self.open(page)
         print_page(self.driver, sheets, printBackground=True, preferCSSPageSize=True)
-        text, boxes = (subprocess.run(["pdftotext", way, sheets, "-"], capture_output=True, text=True, check=True).stdout
-                       for way in ("-layout", "-bbox"))
+        words = (["pdftotext", way, sheets, "-"] for way in ("-layout", "-bbox"))
+        text, boxes = (subprocess.run(of_way, capture_output=True, text=True, check=True).stdout for of_way in words)
         filled = []
         for sheet in boxes.split("<page ")[1:]:
             height = float(re.search(r'height="([\d.]+)"', sheet)[1])

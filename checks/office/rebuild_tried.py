@@ -1,13 +1,8 @@
 #!/usr/bin/env python3
-"""Makes registers again from the requests that office/rebuild.py writes of a copy. Drawn registers of all commands,
-with purposes that a terminal, a shell or a spreadsheet takes for something else, files of both versions, and one of
-many requests: given to `keyreg run` on a new file, the lines make the same rows in the same order in each table, and
-the same export.
-
-With --until the tables are those that office/register_rules.py gives for the lines of that prefix. With --without
-each request that is said to be refused is refused by that name, each that is said to be answered otherwise is, and no
-other one. Rows that are no requests, one of which would be two lines, come through to no line. Of a damaged file what
-is whole comes. What cannot be read or written ends with its own status.
+"""Makes registers again from the lines that office/rebuild.py writes of a copy: drawn registers of all commands and of
+both versions, with purposes that a terminal, a shell or a spreadsheet takes for something else, prefixes of them
+(--until), and what is left without some requests (--without), foretold exactly. Rows that are no requests come through
+to no line, and of a damaged file what is whole comes.
 
     checks/office/rebuild_tried.py [--requests N] [--registers N] [--lines N] [--seed N]
 

@@ -1,11 +1,8 @@
 #!/usr/bin/env python3
-"""Puts registers to office/replay.py. Those that keyreg wrote are what their requests give: a file of version 1, the
-same taken on to version 2, a register with rows in each table, drawn requests, many of one moment. The rows of
-`request` in another order have a status of their own. Then one change is planted in each column of each table, a row
-too many and one too few in each, in a register of each version: each is found, by its table and column. So is a request
-that the rules refuse, by its refusal; so are rows that stand in another order than in an earlier copy, and not those
-that were rebuilt as they stood. What keyreg reads is read, under names in any case and order. Of a log the frames that
-count are those that SQLite counts. Last a register of many requests, for its time and memory.
+"""Puts registers to office/replay.py: those that keyreg wrote, of both versions, drawn ones, and many requests of one
+moment; one change in each column of each table, a row too many and one too few; requests that the rules refuse; rows in
+another order than in an earlier copy; tables as keyreg reads them, under other names and orders; logs of a killed
+program, whole and damaged. Last a register of many requests, for its time and memory.
 
     checks/office/replay_tried.py [--requests N] [--seed N]
 

@@ -1,15 +1,9 @@
 #!/usr/bin/env python3
-"""Looks at what office/timeline.py draws of an export, in chromium. Each key is drawn once; at moments drawn at
-random its line is high, low, waiting or not there as the states and the usage of office/register_rules.py say, a
-destroyed key's ends where it was destroyed, and its marks and what is due are there. Every text of a key stays a text,
-and nothing is loaded: the page has one style, one script and its data, all of this file, and its policy allows no
-other.
-
-At 380, 800 and 1600 wide, light and dark, nothing runs over its neighbour or past the edge, the columns have their
-headings, the page links stand on one line, the count is a live region, and each row's button gives all texts and dates
-of its key. Colours stand out from the paper as WCAG asks. Printed, each sheet has the axis, and each row stands whole
-on one sheet. Ten thousand keys are sorted, filtered, and turned over by pages, and are shown in at most
-TIMES the time that a thousand take.
+"""Looks at what office/timeline.py draws of an export, in chromium. Each key is drawn once; at moments drawn at random its
+line is as the states and the usage of office/register_rules.py say. Every text of a key stays a text, and nothing is
+loaded. At 380, 800 and 1600 wide, light and dark, nothing runs over its neighbour or past the edge, and each row's
+button gives all texts and dates of its key. Printed, each row stands whole on one sheet. Ten thousand keys are sorted,
+filtered, and turned over by pages, and are shown in at most TIMES the time that a thousand take.
 
     checks/office/timeline_tried.py [--screenshots FOLDER]
 
@@ -44,7 +38,7 @@ TEXTS = ["<script>alert(1)</script>", '"><img src=x onerror=alert(1)>', "</title
          "'; //", "a\u202eb", "</script><script src=http://evil.example/x>", "url(http://evil.example)"]
 # Days from now, who, under which number, and what, in which a date is a number of days behind a plus or a minus.
 REQUESTS = [
-    "-900 ann 1 register data-encryption bob -900 -500 -300 old", "-900 ann 2 register master eve -340 +20 +20 due soon",
+    "-900 ann 1 register data-encryption bob -900 -500 -300 old", "-900 ann 2 register master eve -340 +20 +20 soon",
     "-900 ann 3 register data-encryption bob -700 -10 - overdue", "-900 ann 4 register data-encryption bob -10 - - far",
     "-900 ann 5 register master eve - - - no date", "-900 ann 6 register master eve +100 - - later",
     "-900 ann 7 register master bob -800 - - gone", "-900 ann 8 register private-transport bob -800 - - lost",
@@ -157,7 +151,7 @@ def looked_at(page: Page, export: str, first_key: int = 0) -> dict[str, int]:
                  [row["owner"], row["type"], row["state"], due]),
                 ("says", [texts[name] for name in ("owner", "type", "state", "purpose")],
                  [row["owner"], row["type"], due or row["state"], plain(row["purpose"])]),
-                ("has the marks", [name in shapes for name in ("mark compromised", "solid destroyed", "solid rotation")],
+                ("has marks", [name in shapes for name in ("mark compromised", "solid destroyed", "solid rotation")],
                  [row["compromised"] is not None, row["destroyed"] is not None, bool(due)])):
             expect(shown == wanted, f"key {row['number']} {what} {shown}, not {wanted}")
         faults = list(line_faults(row, parts, scale, chance))
@@ -330,8 +324,8 @@ def main() -> None:
             browser.driver.save_screenshot(f"{screenshots}/{name}-{width}.png")
         browser.driver.quit()
     verdict(f"{sum(counts.values())} keys of all states at {len(WIDTHS)} widths, and 1000 keys on {sheets} sheets; "
-            f"10000 keys: drawn in {taken:.1f} seconds, {len(texts['ten']) / 1e6:.1f} MB, shown after {laid:.2f} seconds, "
-            f"1000 after {few:.2f}")
+            f"10000 keys: drawn in {taken:.1f} seconds, {len(texts['ten']) / 1e6:.1f} MB, shown after {laid:.2f} "
+            f"seconds, 1000 after {few:.2f}")
 
 
 main()

@@ -4,15 +4,9 @@ there what OPERATING and the heads of the units have a person do.
 
     checks/package/in_systemd.py [--base FOLDER] [--mirror URL] [PART..]
 
-The parts are units and accidents, both where none is named.
-
-units      The service starts by its own words; a port that is taken and a disk that is full while a client sends again
-           are not given up; several registers are served by keyreg@.service; the nightly look passes, and fails after
-           a change that no request made; upgrade and removal leave no unit behind.
-accidents  An office gets up again after a moment in the future, a request that should not have been accepted, a file
-           that is refused, a restore after a kill with a log beside, and with its standby: each time by the very blocks
-           of the installed OPERATING, with the path of the service in the place of theirs. At the end the service
-           serves and accepts, the nightly look is good, and the standby has each request.
+units      The service, its timers and its instances start, come back and go.
+accidents  An office gets up again after each accident of OPERATING, by the very blocks of the installed page, with the
+           path of the service in the place of theirs.
 
 As root, with debootstrap and systemd-container of Debian. The root is one that debootstrap fetches, or a copy of FOLDER
 with the packages of MORE. `./package` is called first. Not two at a time on a machine that no systemd manages: both

@@ -4,19 +4,14 @@
     checks/package/installed.py [--base FOLDER] [--mirror URL]
 
 As root, with debootstrap, lintian, strace, systemd, tmux, binutils and a browser of Debian (`apt-get install
-debootstrap lintian strace systemd tmux binutils zsh fish chromium chromium-driver python3-selenium nginx-light`).
-The root is Debian's base, which debootstrap fetches, or a copy of FOLDER with the packages of MORE.
-`./package` is called first, of the program that is built or of KEYREG.
+debootstrap lintian strace systemd tmux binutils zsh fish chromium chromium-driver python3-selenium nginx-light`). The
+root is Debian's base, which debootstrap fetches, or a copy of FOLDER with the packages of MORE. `./package` is called
+first, of the program that is built or of KEYREG.
 
-What is asked: lintian has no error; the package installs; the program is in the path there and runs the
-worked first row; `man keyreg` shows its page; bash, zsh and fish of the root complete (`checks/package/completion.py`);
-the package needs the libraries that the program loads and no more; one exchange is served; the service's
-exposure is at most 1.5 by systemd, and each call of the system that a served life makes is one that the
-service may make; the pages name no file that is not there, and the commands of the installed README,
-OPERATING and AUDIT print there what stands there; the desk is set up by the words of the installed OPERATING,
-and a user who is added so registers a key in a browser and finds it; after the removal, by the words too, no
-file is there that was not before. The tar file leaves the folders of /usr/local their owners and modes, runs
-and completes, its desk is set up and used likewise, and it goes by the words of OPERATING.
+lintian has no error; the program runs, has its man page, completes in three shells (completion.py), needs the libraries
+that the package names, and serves within what the unit allows; the pages name no file that is not there, and their
+commands print there what stands there; the desk is set up, used in a browser and removed by the words of the installed
+OPERATING; and after the removal no file is there that was not before.
 
 From the base on all is in a network of its own, in which the ports of the units and of nginx are free.
 """

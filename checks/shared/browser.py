@@ -14,8 +14,8 @@ except ImportError:
 
 
 def chromium(*words: str, is_logged: bool = True) -> webdriver.Chrome:
-    """A browser that is begun with these words besides. It writes down what the console says and what is asked for: with
-    each exchange that takes longer than the exchange."""
+    """A browser that is begun with these words besides. It writes down what the console says and what is asked for: of
+    an exchange that takes longer than the exchange."""
     options = webdriver.ChromeOptions()
     for word in ("--headless=new", "--no-sandbox", "--disable-dev-shm-usage", "--disable-gpu", "--lang=en-US",
                  "--window-size=1000,1400", *words):
@@ -28,7 +28,8 @@ def chromium(*words: str, is_logged: bool = True) -> webdriver.Chrome:
 def as_seen(driver: Any, width: int, height: int = 1400, dark: bool = False, printed: bool = False) -> None:
     """The page at a width, light or dark, on a screen or on paper."""
     scheme = [{"name": "prefers-color-scheme", "value": "dark" if dark else "light"}]
-    driver.execute_cdp_cmd("Emulation.setEmulatedMedia", {"media": "print" if printed else "screen", "features": scheme})
+    media = {"media": "print" if printed else "screen", "features": scheme}
+    driver.execute_cdp_cmd("Emulation.setEmulatedMedia", media)
     driver.execute_cdp_cmd("Emulation.setDeviceMetricsOverride", {
         "width": width, "height": height, "deviceScaleFactor": 1, "mobile": False})
 
