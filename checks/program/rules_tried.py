@@ -5,6 +5,7 @@ from answers import compact, post_reply, reply_line, shown, usage
 from places import read
 from register_rules import LAST, Register, Request, request_of
 from script import expect
+from worked_rows import worked_rows
 
 # Lines that are no request, by the bounds of the fields; of the last purpose a byte less would do.
 NO_REQUESTS = [
@@ -18,27 +19,6 @@ NO_REQUESTS = [
 ]
 # The fewest rows of the document that are lines with a reply each.
 FEWEST = 30
-INPUT = re.compile(r"(?:after \*(.*?)\*: )?((?:`[^`]+`(?:, )?)+)(?: \(\S+\))?")
-
-
-def replies_of(cell: str) -> list[str]:
-    """The lines of an output, of which some stand for several."""
-    text = re.sub(r"`([^`]*)` with (\d+) to (\d+)", lambda row: ", ".join(
-        f"`{row[1]} {moment}`" for moment in range(int(row[2]), int(row[3]) + 1)), cell.split(";")[0])
-    text = re.sub(r"`([^`]*)` with ((?:\d+, )*\d+ and \d+)", lambda row: ", ".join(
-        f"`{row[1]} {moment}`" for moment in re.findall(r"\d+", row[2])), text)
-    return re.findall(r"`([^`]*)`", re.sub(r"(`[^`]*`) twice", r"\1, \1", text))
-
-
-def worked_rows() -> dict[str, tuple[str, list[str], list[str]]]:
-    """The rows that are request lines with a reply each: the row before, the lines and the replies."""
-    rows = {}
-    for name, given, output in re.findall(r"(?m)^\| \*([^|]*)\* \| ([^|]*) \| ([^|]*) \|$", read("docs/WORKED.md")):
-        parts = INPUT.fullmatch(given)
-        lines, replies = re.findall(r"`([^`]*)`", parts[2]) if parts else [], replies_of(output)
-        if lines and len(lines) == len(replies):
-            rows[name] = (parts[1] or "", lines, replies)
-    return {name: row for name, row in rows.items() if not row[0] or row[0] in rows}
 
 
 def reply_to(register: Register, text: str) -> str:
@@ -58,7 +38,7 @@ def look_at_rules() -> None:
     for name, (before, lines, wanted) in rows.items():
         register = Register()
         while before:
-            lines, wanted, before = rows[before][1] + lines, rows[before][2] + wanted, rows[before][0]
+            lines, wanted, before = rows[before].lines + lines, rows[before].replies + wanted, rows[before].before
         replies = [reply_to(register, text) for text in lines]
         expect(replies == wanted, f"the rules give {replies} for *{name}*")
     advanced = re.search(r"(?s)```\n(HTTP/1.1 200 OK\n.*?)\n```", read("docs/WORKED.md"))[1]

@@ -98,8 +98,8 @@ def meet(name: str, end: tuple[Any, str, str], wanted: tuple[int, Any], output: 
         agrees = status == 1 and bool(error) and not error.startswith("keyreg: ")
     else:
         agrees = (status, error) == wanted
-    Differences.hold(agrees and written == output,
-                     f"{name}: {end}, where {(wanted[0], output, wanted[1] or 'some text')} is wanted")
+    shown = (wanted[0], output, "clap's account" if wanted is CLAPS else wanted[1])
+    Differences.hold(agrees and written == output, f"{name}: {end}, where {shown} is wanted")
 
 
 def look(name: str, words: list[Any], wanted: tuple[int, Any], output: str = "", given: Any = "", **how: Any) -> None:

@@ -9,6 +9,7 @@ from typing import Any, Iterable, Iterator, Optional, Sequence, Union
 from places import PROGRAM
 import register_rules
 from script import expect
+from worked_rows import worked_rows
 
 File = Union[str, os.PathLike]
 
@@ -59,20 +60,8 @@ CREATE INDEX keys_by_deactivation ON keys (state, deactivation);
 CREATE INDEX keys_by_protect_stop ON keys (state, protect_stop, number);
 """
 
-# The worked row "approved anew by one who was removed": each line with its reply.
-APPROVED_ANEW = [
-    ("100 ann 1 register master bob - - - spare", "ok 1 Pre-Active 100"),
-    ("101 bob 1 add-custodian 1 cat", "ok 1 Pre-Active 101"),
-    ("102 bob 2 add-custodian 1 dan", "ok 1 Pre-Active 102"),
-    ("103 cat 1 approve 1", "ok 1 Pre-Active 103"),
-    ("104 dan 1 approve 1", "ok 1 Pre-Active 104"),
-    ("105 bob 3 remove-custodian 1 dan", "ok 1 Pre-Active 105"),
-    ("106 bob 4 destroy 1", "refused 18 ApprovalsMissing have=1 need=2"),
-    ("106 bob 4 add-custodian 1 dan", "ok 1 Pre-Active 106"),
-    ("107 dan 2 approve 1", "ok 1 Pre-Active 107"),
-    ("108 bob 5 destroy 1", "ok 1 Destroyed 108"),
-    ("109 zed 1 revoke 1 2 -", "ok 1 Destroyed-Compromised 109"),
-]
+# A worked row: each line with its reply.
+APPROVED_ANEW = list(zip(*worked_rows()["approved anew by one who was removed"][1:]))
 
 # Its rows, by the formats: type 7 is master, state 1 Pre-Active, 5 Destroyed, 6 Destroyed-Compromised; a compromise
 # without an occurrence gets the Initial Date.
