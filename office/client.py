@@ -35,7 +35,7 @@ import os
 import sys
 import time
 import urllib.parse
-from typing import NamedTuple
+from typing import Any, Iterator, NamedTuple, Optional
 
 GREATEST_NUMBER = 9007199254740991
 # Statuses that do not tell whether a request acted: of keyreg, and of what stands before it.
@@ -74,7 +74,7 @@ class Numbers:
     """The last number of a caller, and the request that was sent under it as long as it has no answer, in a file. A
     stop leaves the file as it was before a change or as it is after it."""
 
-    def __init__(self, path):
+    def __init__(self, path: str) -> None:
         self.path = os.path.abspath(path)
         self.lock = os.open(self.path + ".lock", os.O_RDWR | os.O_CREAT, 0o600)
         try:
@@ -107,7 +107,8 @@ class Client:
     up to `slowest`; an exchange has `timeout` seconds. With a password it goes by HTTP's Basic scheme, as to nginx, and
     `context` is that of an `https` address."""
 
-    def __init__(self, address, caller, numbers, password=None, patience=60, slowest=5, timeout=30, context=None):
+    def __init__(self, address: str, caller: str, numbers: str, password: Optional[str] = None,
+                 patience: Optional[float] = 60, slowest: float = 5, timeout: float = 30, context: Any = None) -> None:
         self.address = urllib.parse.urlsplit(address)
         self.caller, self.patience, self.slowest = caller, patience, slowest
         self.timeout, self.context = timeout, context
@@ -117,7 +118,7 @@ class Client:
             self.headers["Authorization"] = f"Basic {pair}"
         self.numbers = Numbers(numbers)
 
-    def __enter__(self):
+    def __enter__(self) -> "Client":
         return self
 
     def __exit__(self, *_):
@@ -125,7 +126,7 @@ class Client:
 
     # ---- requests
 
-    def ask(self, kind, **members):
+    def ask(self, kind: str, **members: Any) -> Reply:
         """Sends a request under a number of its own until it is answered."""
         if self.numbers.request is not None:
             raise NoAnswer(f"request {self.numbers.last} has no answer yet: resume")
@@ -135,7 +136,7 @@ class Client:
         self.numbers.keep(number, {"kind": kind, **members})
         return self.resume()
 
-    def resume(self):
+    def resume(self) -> Optional[Reply]:
         """Sends what has no answer yet again, and gives its reply; None where all were answered."""
         request = self.numbers.request
         if request is None:
@@ -151,59 +152,60 @@ class Client:
         self.forget()
         return Reply(reply["key"], reply["moment"], reply["state"])
 
-    def forget(self):
+    def forget(self) -> None:
         """Gives up the request that has no answer, which may have acted."""
         self.numbers.keep(self.numbers.last, None)
 
-    def register(self, type, owner, purpose, activation=None, protect_stop=None, deactivation=None):
+    def register(self, type: str, owner: str, purpose: str, activation: Optional[int] = None,
+                 protect_stop: Optional[int] = None, deactivation: Optional[int] = None) -> Reply:
         return self.ask("register", type=type, owner=owner, purpose=purpose, activation=activation,
                         protect_stop=protect_stop, deactivation=deactivation)
 
-    def activate(self, key):
+    def activate(self, key: int) -> Reply:
         return self.ask("activate", key=key)
 
-    def set(self, key, activation="keep", protect_stop="keep", deactivation="keep"):
+    def set(self, key: int, activation: Any = "keep", protect_stop: Any = "keep", deactivation: Any = "keep") -> Reply:
         return self.ask("set", key=key, activation=activation, protect_stop=protect_stop, deactivation=deactivation)
 
-    def revoke(self, key, reason, occurrence=None):
+    def revoke(self, key: int, reason: int, occurrence: Optional[int] = None) -> Reply:
         return self.ask("revoke", key=key, reason=reason, occurrence=occurrence)
 
-    def assign(self, key, owner):
+    def assign(self, key: int, owner: str) -> Reply:
         return self.ask("assign", key=key, owner=owner)
 
-    def add_custodian(self, key, name):
+    def add_custodian(self, key: int, name: str) -> Reply:
         return self.ask("add-custodian", key=key, name=name)
 
-    def remove_custodian(self, key, name):
+    def remove_custodian(self, key: int, name: str) -> Reply:
         return self.ask("remove-custodian", key=key, name=name)
 
-    def approve(self, key):
+    def approve(self, key: int) -> Reply:
         return self.ask("approve", key=key)
 
-    def withdraw(self, key):
+    def withdraw(self, key: int) -> Reply:
         return self.ask("withdraw", key=key)
 
-    def destroy(self, key):
+    def destroy(self, key: int) -> Reply:
         return self.ask("destroy", key=key)
 
-    def set_quorum(self, key, need):
+    def set_quorum(self, key: int, need: int) -> Reply:
         return self.ask("set-quorum", key=key, need=need)
 
-    def set_period(self, type, originator, recipient):
+    def set_period(self, type: str, originator: int, recipient: int) -> Reply:
         return self.ask("set-period", type=type, originator=originator, recipient=recipient)
 
-    def advance(self):
+    def advance(self) -> Reply:
         return self.ask("advance")
 
     # ---- questions, which are answered as of the latest accepted moment
 
-    def key(self, number):
+    def key(self, number: int) -> dict[str, Any]:
         return self.answer("GET", f"/keys/{number}", None, self.headers)
 
-    def usage(self, number):
+    def usage(self, number: int) -> dict[str, Any]:
         return self.answer("GET", f"/keys/{number}/usage", None, self.headers)
 
-    def keys(self):
+    def keys(self) -> Iterator[dict[str, Any]]:
         """Each key in turn. There is no list of them: they have the numbers from 1 on."""
         number = 1
         while True:
@@ -217,7 +219,7 @@ class Client:
 
     # ---- exchanges
 
-    def exchange(self, method, target, body, headers):
+    def exchange(self, method: str, target: str, body: Optional[bytes], headers: dict[str, str]) -> tuple[int, bytes]:
         """The status and the body of one exchange."""
         secure = self.address.scheme == "https"
         kind = http.client.HTTPSConnection if secure else http.client.HTTPConnection
@@ -233,7 +235,7 @@ class Client:
         finally:
             connection.close()
 
-    def answer(self, method, target, body, headers):
+    def answer(self, method: str, target: str, body: Optional[bytes], headers: dict[str, str]) -> dict[str, Any]:
         """The object that the first answer has which tells something."""
         late = None if self.patience is None else time.monotonic() + self.patience
         pause = 0.05
@@ -252,7 +254,7 @@ class Client:
             pause = min(pause * 2, self.slowest)
 
 
-def meant(status, text):
+def meant(status: int, text: bytes) -> dict[str, Any]:
     """The object of an answer of keyreg's own; a refusal is raised, and so is what keyreg does not write."""
     try:
         reply = json.loads(text)

@@ -66,7 +66,7 @@ def counted(path):
         return counts, earlier, waiting, damaged, behind
 
 
-def lines_of_log(path):
+def lines_of_log(path: str) -> list[str]:
     """A line of a log that has frames, and a second where damage took some away."""
     counts, *others = counted(path)
     if not counts + sum(others):

@@ -11,9 +11,10 @@ import bisect
 import collections
 import graphlib
 import itertools
+from typing import Sequence
 
-from register_rules import PERIODS, TYPES, Refused, after, key_rows
-from replay import by_moment
+from register_rules import PERIODS, TYPES, Refused, Request, after, key_rows
+from replay import File, by_moment
 
 KEY_STEPS, ALL_STEPS, MOST_AT_ONCE, MOST_PERIODS, MOST_ORDERS = 20_000, 2_000_000, 64, 4, 24
 OF_DATES = ("register", "set", "activate")
@@ -22,7 +23,7 @@ OF_DATES = ("register", "set", "activate")
 class Search:
     """Looks for an order in which each key ends in its rows. It only proposes: the replay decides."""
 
-    def __init__(self, file, requests):
+    def __init__(self, file: File, requests: Sequence[Request]) -> None:
         self.version, self.all, self.latest = file.version, requests, requests[-1].moment
         self.steps, self.met_bound = 0, False
         self.of_key, self.periods = collections.defaultdict(list), collections.defaultdict(list)
@@ -111,7 +112,7 @@ class Search:
         self.periods[kind] = best[1]
         return best[2]
 
-    def order(self):
+    def order(self) -> list[Request]:
         """All requests in an order that has those of the keys, or the rows' where these have none."""
         before = collections.defaultdict(set)
         made = sorted((request for request in self.all if request.word == "register"), key=lambda made: made.key_no)

@@ -45,6 +45,7 @@ import shutil
 import sqlite3
 import sys
 import tempfile
+from typing import Iterable, Iterator, Sequence
 
 # What is read from beside this file leaves none there.
 sys.dont_write_bytecode = True
@@ -67,7 +68,7 @@ TABLES = {
 OF_TEXT = {"owner", "purpose", "name", "caller", "command"}
 
 
-def accepted_of(row, version):
+def accepted_of(row: Sequence, version: int) -> Request:
     """The request of a row of the table `request`; ValueError where it is none by the rules of the version."""
     caller, number, command, key_no, state, moment = row
     if not (NAME.fullmatch(caller) and 1 <= number <= GREATEST_NUMBER and 0 <= moment <= LAST):
@@ -80,7 +81,7 @@ class Unreadable(Exception):
 
 
 @contextlib.contextmanager
-def opened(path, tries=1):
+def opened(path: str, tries: int = 1) -> Iterator[sqlite3.Connection]:
     """A connection to a copy of the file and its log, so that SQLite makes no file beside them. Where the database was
     written to while its log was copied, the copy is begun anew, so often at most. Texts are read whatever their bytes
     are."""
@@ -98,7 +99,7 @@ def opened(path, tries=1):
             raise Unreadable(fault) from None
 
 
-def is_copied(path, other):
+def is_copied(path: str, other: str) -> bool:
     """Copies the database and then its log, and tells whether the database is still what was copied."""
     for end in ("", "-wal"):
         if os.path.exists(other + end):
@@ -109,12 +110,12 @@ def is_copied(path, other):
     return filecmp.cmp(path, other, shallow=False)
 
 
-def row_place(columns):
+def row_place(columns: dict[str, int]) -> str:
     """The name under which SQLite gives a row's place in its table, where the table has these columns."""
     return next(place for place in ("rowid", "_rowid_", "oid") if place not in columns)
 
 
-def columns_of(connection, name):
+def columns_of(connection: sqlite3.Connection, name: str) -> dict[str, int]:
     """The names of a table's columns, in small letters, each with whether it is hidden or made of others."""
     return {row[1].lower(): row[-1] for row in connection.execute(f'PRAGMA table_xinfo("{name}")')}
 
@@ -317,7 +318,7 @@ def differences(name, rows, wanted):
 
 # ---- the verdict
 
-def by_moment(requests):
+def by_moment(requests: Iterable[Request]) -> list[list[Request]]:
     return [list(group) for _, group in itertools.groupby(requests, lambda request: request.moment)]
 
 

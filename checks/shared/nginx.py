@@ -8,6 +8,7 @@ import ssl
 import subprocess
 import tempfile
 import time
+from typing import Mapping, Optional, Union
 
 from places import DESK, UNITS
 from script import expect
@@ -22,14 +23,14 @@ fastcgi_temp_path {folder}/f; uwsgi_temp_path {folder}/u; scgi_temp_path {folder
 """
 
 
-def program():
+def program() -> str:
     """Debian's nginx, which stands where not everybody's PATH leads."""
     path = shutil.which("nginx") or shutil.which("nginx", path="/usr/sbin")
     expect(path, "nginx is not installed: apt-get install nginx-light")
     return path
 
 
-def certified(folder):
+def certified(folder: str) -> None:
     """A certificate for the host and its key, in the folder."""
     words = ["openssl", "req", "-x509", "-newkey", "rsa:2048", "-nodes", "-days", "2", "-subj", f"/CN={HOST}",
              "-addext", f"subjectAltName=DNS:{HOST}", "-keyout", f"{folder}/key.pem", "-out",
@@ -38,7 +39,7 @@ def certified(folder):
     expect(done.returncode == 0, f"openssl: {done.stderr}")
 
 
-def by_tls(text, folder):
+def by_tls(text: str, folder: str) -> str:
     """The file after the edit that its head names."""
     edit = re.search(r"(?m)^# +(sed -i .*) /etc/nginx/conf\.d/keyreg\.conf$", text)
     expect(edit, f"{CONF.name} names no edit for TLS")
@@ -51,7 +52,7 @@ def by_tls(text, folder):
 class Guard:
     """nginx with the example's file, on ports of its own. The desk's list is handed out of the folder's `list`."""
 
-    def __init__(self, register_port, words=None, tls=False):
+    def __init__(self, register_port: int, words: Optional[Mapping[str, str]] = None, tls: bool = False) -> None:
         self.port, self.folder, self.tls = free_port(), tempfile.TemporaryDirectory(), tls
         folder = self.folder.name
         # nginx reads the list and the desk as another user.
@@ -80,7 +81,7 @@ class Guard:
             expect(time.monotonic() < late, "nginx does not listen")
             time.sleep(0.01)
 
-    def connected(self, name=HOST):
+    def connected(self, name: str = HOST) -> Union[socket.socket, ssl.SSLSocket]:
         """A connection to it, by TLS with this name in its first message."""
         connection = socket.create_connection(("127.0.0.1", self.port), timeout=PATIENCE)
         if not self.tls:
@@ -89,10 +90,10 @@ class Guard:
         context.check_hostname = name == HOST
         return context.wrap_socket(connection, server_hostname=name)
 
-    def __enter__(self):
+    def __enter__(self) -> "Guard":
         return self
 
-    def __exit__(self, *_):
+    def __exit__(self, *_: object) -> None:
         self.process.terminate()
         self.process.wait()
         self.process.stderr.close()
