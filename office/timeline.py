@@ -369,9 +369,9 @@ def page_of(keys, moment, days):
  content="default-src 'none'; style-src 'sha256-{hashes[0]}'; script-src 'sha256-{hashes[1]}'">
 <meta name="viewport" content="width=device-width"><style>{style}</style></head><body>
 <h1>Keys at {text_of(moment)}</h1>
-<p>{len(keys)} keys. States are those of this moment by the dates of the export. Due: Active, and its Protect Stop Date
-is within {days} days. A bar is high while the key may protect data, and low while it may only process what is protected. A
-key's number opens all of its texts and dates.</p>
+<p>{len(keys)} keys. States are those of this moment by the dates of the export. Due: Active, and its Protect Stop
+Date is within {days} days. A bar is high while the key may protect data, and low while it may only process what is
+protected. A key's number opens all of its texts and dates.</p>
 <noscript><p>The rows are drawn by this page's own script, which this browser does not run.</p></noscript>
 <div class="legend">{"".join(legend())}</div>
 {form_of(keys)}

@@ -6,9 +6,9 @@ said.
     checks/desk/in_browser.py --picture docs/desk.png
 
 keyreg is served behind nginx with office/units/nginx-keyreg.conf, and a browser for each user goes through a day by
-forms, keys and lists (day.py), by the keyboard alone (keyboard.py), and by tables (sheets.py, tables.py). What may break
-breaks (breaks.py, users.py), and what is typed stays (typed.py). Each page is looked at by Chromium's accessibility
-tree, for contrast, by Tab, at several widths, light, dark and printed (looks.py, waiting.py).
+forms, keys and lists (day.py), by the keyboard alone (keyboard.py), and by tables (sheets.py, tables.py). What may
+break breaks (breaks.py, users.py), and what is typed stays (typed.py). Each page is looked at by Chromium's
+accessibility tree, for contrast, by Tab, at several widths, light, dark and printed (looks.py, waiting.py).
 
 After it each request of which a page said that it was accepted is in the register under the number that the page
 showed, and no other is; and by office/replay.py all else in the register follows from them. The console has nothing but

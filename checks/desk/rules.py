@@ -1,8 +1,8 @@
 #!/usr/bin/env python3
-"""The rules that the desk in the browser knows, desk/rules.js, are those of docs/SPECIFICATION.md and of the program. Its
-tables are compared with the document's. Then N requests are drawn, of all commands in states that requests before them
-made, and each is judged under node with what a page would know: the judgement, and the key afterwards, have to be those
-of office/register_rules.py. Some hundreds more are put to the program itself.
+"""The rules that the desk in the browser knows, desk/rules.js, are those of docs/SPECIFICATION.md and of the program.
+Its tables are compared with the document's. Then N requests are drawn, of all commands in states that requests before
+them made, and each is judged under node with what a page would know: the judgement, and the key afterwards, have to be
+those of office/register_rules.py. Some hundreds more are put to the program itself.
 
     checks/desk/rules.py [--requests N]
 

@@ -1,7 +1,7 @@
 #!/usr/bin/env python3
-"""An advance that keyreg-advance.service or the line of keyreg-advance.cron, both in office/units/, posts moves a served
-register on: of a key whose Protect Stop has passed the usage says `protect` until then, and not any more after it. The
-command is run as it stands in the file, with the port of the check.
+"""An advance that keyreg-advance.service or the line of keyreg-advance.cron, both in office/units/, posts moves a
+served register on: of a key whose Protect Stop has passed the usage says `protect` until then, and not any more after
+it. The command is run as it stands in the file, with the port of the check.
 
     checks/office/advance_tried.py [--year]
 

@@ -1,8 +1,8 @@
 #!/usr/bin/env python3
-"""A register behind nginx with office/units/nginx-keyreg.conf, and what reaches it without, as docs/OPERATING.md says: who
-a request is from, who is refused, and what a page of another site may ask. A client that stalls holds up nobody. All of
-it is tried with the file as it stands, and by TLS, after the edit that the file's head names, with a certificate that
-is made here.
+"""A register behind nginx with office/units/nginx-keyreg.conf, and what reaches it without, as docs/OPERATING.md says:
+who a request is from, who is refused, and what a page of another site may ask. A client that stalls holds up nobody.
+All of it is tried with the file as it stands, and by TLS, after the edit that the file's head names, with a certificate
+that is made here.
 
     checks/office/behind_nginx.py
 

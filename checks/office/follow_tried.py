@@ -1,6 +1,6 @@
 #!/usr/bin/env python3
-"""A standby follows a register by office/follow.py. While the register takes one request after the other, calls are begun
-and killed at random, some with the program that they called. After each kill the standby has the tables that
+"""A standby follows a register by office/follow.py. While the register takes one request after the other, calls are
+begun and killed at random, some with the program that they called. After each kill the standby has the tables that
 office/register_rules.py gives for so many of the first requests; after a last call it has all. What is no standby of
 the register is reported, and left as it is.
 

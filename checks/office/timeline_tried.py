@@ -1,7 +1,7 @@
 #!/usr/bin/env python3
-"""Looks at what office/timeline.py draws of an export, in chromium. Each key is drawn once; at moments drawn at random its
-line is as the states and the usage of office/register_rules.py say. Every text of a key stays a text, and nothing is
-loaded. At 380, 800 and 1600 wide, light and dark, nothing runs over its neighbour or past the edge, and each row's
+"""Looks at what office/timeline.py draws of an export, in chromium. Each key is drawn once; at moments drawn at random
+its line is as the states and the usage of office/register_rules.py say. Every text of a key stays a text, and nothing
+is loaded. At 380, 800 and 1600 wide, light and dark, nothing runs over its neighbour or past the edge, and each row's
 button gives all texts and dates of its key. Printed, each row stands whole on one sheet. Ten thousand keys are sorted,
 filtered, and turned over by pages, and are shown in at most TIMES the time that a thousand take.
 
