@@ -6,7 +6,7 @@ that is made here.
 
     checks/office/behind_nginx.py
 
-It needs Debian's nginx, and installs nginx-light where it is root, and openssl. Build the program first:
+It needs Debian's nginx-light, and openssl. Build the program first:
 ./keyreg </dev/null
 """
 import base64

@@ -28,6 +28,7 @@ import time
 
 sys.path.insert(1, str(pathlib.Path(__file__).resolve().parents[1] / "shared"))
 from places import TOP
+from contracts import below, reached
 from script import fresh_folder, options, verdict
 
 # Gives back its words and its input, or lives on as `serve` does.
@@ -82,7 +83,7 @@ def wait_alone(orders, seconds):
 def hold_folders(crate):
     """Shuts others out of the folders of a crate and of all below it, as the kit's does, but waits for none."""
     held = []
-    for name in sorted(crates_below(pathlib.Path("../.."), crate)):
+    for name in sorted(reached([crate])):
         held.append(os.open(f"../{name}", os.O_RDONLY))
         try:
             fcntl.flock(held[-1], fcntl.LOCK_EX | fcntl.LOCK_NB)
@@ -119,29 +120,11 @@ def rt():
         os.close(folder)
 
 
-def crates_below(top=TOP, crate="keyreg"):
-    """Each crate that one stands on, and its own, with those of ours that it stands on."""
-    lines = (top / "crates.txt").read_text(encoding="utf-8").splitlines()
-    texts = [line.split("#")[0].strip() for line in lines]
-    rows = dict(text.split(":") for text in texts if text)
-    uses, ahead = {}, [crate]
-    while ahead:
-        name = ahead.pop()
-        uses[name] = [below for below in rows[name].split() if below in rows]
-        ahead += [below for below in uses[name] if below not in uses]
-    return uses
-
-
-CRATES = crates_below()
+CRATES = reached(["keyreg"])
 TOTAL = len(CRATES)
 # The program logic that the copy has.
 LOGIC = re.search(r"logic ([0-9a-f]{16})", (TOP / "crates/register_words/src/words.rt").read_text("utf-8"))[1]
 CORES = len(os.sched_getaffinity(0))
-
-
-def needs(crate):
-    """Each crate of ours that one stands on, by way of others too."""
-    return {name for below in CRATES[crate] for name in {below} | needs(below)}
 
 
 def until(holds, seconds=30):
@@ -260,8 +243,8 @@ def in_order(copy, cores):
             continue
         verb, flag, number = rest[1:]
         jobs[crate] = int(number)
-        if not needs(crate) <= proved:
-            yield f"{crate} is begun before {needs(crate) - proved}"
+        if not below(crate) <= proved:
+            yield f"{crate} is begun before {below(crate) - proved}"
         if (verb, flag) != ("run" if crate == "keyreg" else "lib", "--jobs") or not 1 <= jobs[crate] <= 4:
             yield f"{crate}: rt {rest[1:]}"
         if sum(jobs.values()) > cores:
@@ -305,7 +288,7 @@ def silent(copy):
         yield f"without a terminal: {ended}"
     names = [row[0] for row in ended]
     slow = names.index("moment_core") if set(names) == set(CRATES) else 0
-    if [name for name in names[:slow] if "moment_core" in needs(name)] or "streams" not in names[:slow]:
+    if [name for name in names[:slow] if "moment_core" in below(name)] or "streams" not in names[:slow]:
         yield f"without a terminal: no line for each crate as it ends: {names}"
     yield from in_order(copy, CORES)
 
