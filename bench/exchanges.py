@@ -1,29 +1,24 @@
 #!/usr/bin/env python3
-"""Exchanges a second of `keyreg serve`, beside a bare HTTP server in Python that does the same work, in each of two journal modes.
+"""Exchanges a second of `keyreg serve`, beside a bare HTTP server in Python that does the same work, in each of two
+journal modes.
 
     bench/exchanges.py [--rounds N] [--seconds N] [--exchanges N] [--keys N] [--connections N] [--directory FOLDER]
 
-Two kinds are asked: GET of a key, keys out of their order, and POST of a registration, each a new one. *python* is the standard
-library's `http.server` over `sqlite3`, on a copy of the same file: it looks a kept request up, tests what it is given, puts keys
-in their states, writes the same rows in one transaction a POST, and forms the same JSON. All hold the file's lock as long as
-they run and sync at each commit (synchronous = FULL). *python, delete* has the rollback journal that `sqlite3` has where nothing else is
-said: as the kit, it trusts no checksum to refuse a torn write, and it syncs four times at a commit. *python, wal* keeps a
-log beside the file, as the kit does, but syncs it once, where the kit syncs twice, and has checksums tell what was torn. Neither tests
-anything as it opens the file; no start and no opening is in a figure.
+Two kinds are asked: GET of a key, keys out of their order, and POST of a registration, each a new one. *python* is the
+standard library's `http.server` over python_register.py, on a copy of the same file. All hold the file's lock as long
+as they run and sync at each commit (synchronous = FULL). *python, delete* has the rollback journal that `sqlite3` has
+where nothing else is said: as the kit, it trusts no checksum to refuse a torn write. *python, wal* keeps a log beside
+the file, as the kit does, but syncs it once, where the kit syncs twice. No start and no opening is in a figure.
 
-First so many exchanges of each kind are asked one after the other, and each reply is compared with what is expected. Then all
-are timed in one run, in rounds that take turns, so many seconds for each kind, by `wrk` with two threads: each connection takes one
-exchange, and sixteen at once, or as many as are named, so that others wait while one is served. Each reply is to have the status
-200. After the last round the rows that the compared exchanges left are compared, and the number of keys with what `wrk`
-counted.
+First so many exchanges of each kind are asked one after the other, and each reply is compared with the expected one.
+Then `wrk` asks all in rounds that take turns, so many seconds for each kind, one exchange a connection, so many at
+once. Each reply is to have the status 200. After the last round the rows that the compared exchanges left are compared,
+and the number of keys with what `wrk` counted.
 
-Told are the exchanges a second by the wall, and the processor time (user and system) of the server and of the clients for each
-exchange; the clients bound nothing where their two threads have time for more. The mark is at least three times the exchanges
-a second of Python; each ratio is the median of those of the rounds.
-
-The folder for the files is one for temporary files where none is named; where it is a disk, a POST costs its syncs. Build the
-register's own program first: ./keyreg </dev/null. It needs `wrk` (Debian's package of that name), and Linux, for the clock of
-another process.
+The figures are the exchanges a second by the wall, and the processor time of the server and of the clients for each
+exchange. The mark is at least three times the exchanges a second of Python; each ratio is the median of those of the
+rounds. In a FOLDER that is a disk a POST costs its syncs. Build the register's own program first: ./keyreg </dev/null.
+It needs `wrk` (Debian's package of that name), and Linux, for the clock of another process.
 """
 import argparse
 import http.server
@@ -33,25 +28,23 @@ import re
 import resource
 import shutil
 import socket
-import sqlite3
 import statistics
 import subprocess
 import sys
 import tempfile
 import time
-from typing import NamedTuple
+from typing import Any, Iterable, NamedTuple, Optional, Sequence
 
-HERE = os.path.dirname(os.path.abspath(__file__))
-sys.path.insert(0, os.path.join(HERE, "..", "checks"))
-from measuring import clock_of, table  # noqa: E402
-from registers import PROGRAM, STATES, TYPES, UNSET, expect, keyreg  # noqa: E402
-from serving import free_port, listens  # noqa: E402
+from measuring import STEP, clock_of, table
+from answers import MEMBERS, compact, request_object
+from places import PROGRAM
+from python_register import PythonRegister
+from register_rules import Refused, command_of, command_text, field_of
+from registers import STATES, TYPES, UNSET, columns_of, database, new_register
+from script import expect
+from serving import PATIENCE, free_port, get, listens, post, received
 
-STEP = 7919
-THREADS = 2
-JOURNALS = ("delete", "wal")
-MOMENT = 1_000_000
-MARK = 3
+THREADS, JOURNALS, MOMENT, MARK = 2, ("delete", "wal"), 1_000_000, 3
 # After the greatest moment of the clock in these runs: the keys stay Pre-Active.
 LATER = 10_000_000_000
 STOP, END = LATER + 1, LATER + 2
@@ -59,19 +52,20 @@ STOP, END = LATER + 1, LATER + 2
 
 # ---- the bare server in Python
 
-KINDS = {text: code for code, text in TYPES.items()}
-NAME = re.compile(r"[A-Za-z0-9._@-]{1,64}\Z")
-NUMBER = re.compile(r"[1-9][0-9]{0,15}\Z")
 ROUTE = re.compile(r"/keys/([1-9][0-9]{0,9})\Z")
-MEMBERS = {"activation", "deactivation", "kind", "owner", "protect_stop", "purpose", "type"}
+DATES = columns_of("keys")[5:]
+
+
+def date_of(cell: int) -> Optional[int]:
+    return None if cell == UNSET else cell
 
 
 class Bare(http.server.BaseHTTPRequestHandler):
-    """Answers GET of a key and POST of a registration whose three dates are given."""
-    connection_of_file = None
+    """Answers GET of a key and POST of a registration."""
+    register: PythonRegister
 
-    def answer(self, status, value):
-        body = json.dumps(value, separators=(",", ":"), ensure_ascii=False).encode()
+    def answer(self, status: int, value: Any) -> None:
+        body = compact(value)
         self.send_response_only(status)
         self.send_header("Content-Type", "application/json")
         self.send_header("Content-Length", str(len(body)))
@@ -79,166 +73,121 @@ class Bare(http.server.BaseHTTPRequestHandler):
         self.end_headers()
         self.wfile.write(body)
 
-    def do_GET(self):
-        asked = ROUTE.match(self.path)
+    def do_GET(self) -> None:
+        asked, run = ROUTE.match(self.path), self.register.run
         if not asked:
             return self.answer(404, {"name": "NoRoute"})
         number = int(asked[1])
-        database = self.connection_of_file
-        row = database.execute("SELECT * FROM keys WHERE number = ?", (number,)).fetchone()
+        row = run("SELECT * FROM keys WHERE number = ?", (number,)).fetchone()
         if not row:
             return self.answer(404, {"name": "UnknownKey", "refused": 4})
         _, kind, owner, purpose, state, *dates = row
-        initial, activation, stop, end, destroyed, compromised, occurrence = (None if date == UNSET else date for date in dates)
-        custodians = [name for name, in database.execute("SELECT name FROM custodian WHERE key_no = ? ORDER BY name", (number,))]
-        approvals = [name for name, in database.execute("SELECT name FROM approval WHERE key_no = ? ORDER BY name", (number,))]
-        need = database.execute("SELECT need FROM quorum WHERE key_no = ?", (number,)).fetchone()
+        select = "SELECT name FROM {} WHERE key_no = ? ORDER BY name"
+        custodians, approvals = ([name for name, in run(select.format(names), (number,))]
+                                 for names in ("custodian", "approval"))
+        need = run("SELECT need FROM quorum WHERE key_no = ?", (number,)).fetchone()
         return self.answer(200, {
-            "activation": activation, "approvals": approvals, "compromised": compromised, "custodians": custodians, "deactivation": end,
-            "destroyed": destroyed, "initial": initial, "need": need[0] if need else 2, "number": number, "occurrence": occurrence,
-            "owner": owner, "protect_stop": stop, "purpose": purpose, "state": STATES[state], "type": TYPES[kind],
-        })
+            "approvals": approvals, "custodians": custodians, "need": need[0] if need else 2, "number": number,
+            "owner": owner, "purpose": purpose, "state": STATES[state], "type": TYPES[kind],
+            **dict(zip(DATES, map(date_of, dates)))})
 
-    def do_POST(self):
+    def do_POST(self) -> None:
         moment = int(time.time())
-        caller, number = self.headers["Caller"] or "", self.headers["Request-Number"] or ""
-        given = json.loads(self.rfile.read(int(self.headers["Content-Length"])))
-        if self.path != "/requests" or not NAME.match(caller) or not NUMBER.match(number) or set(given) != MEMBERS:
+        try:
+            caller = field_of("name", self.headers["Caller"] or "")
+            number = field_of("number", self.headers["Request-Number"] or "")
+            given = json.loads(self.rfile.read(int(self.headers["Content-Length"])))
+            text = command_text((given["kind"], *(given[name] for name in MEMBERS["register"])))
+            command_of(text)
+        except (KeyError, ValueError):
             return self.answer(400, {"name": "BadLine", "refused": 1})
-        dates = given["activation"], given["protect_stop"], given["deactivation"]
-        good = given["kind"] == "register" and given["type"] in KINDS and NAME.match(given["owner"])
-        good = good and 1 <= len(given["purpose"].encode()) <= 200 and all(isinstance(date, int) for date in dates)
-        if not good:
-            return self.answer(400, {"name": "BadLine", "refused": 1})
-        number = int(number)
-        command = f"register {given['type']} {given['owner']} {dates[0]} {dates[1]} {dates[2]} {given['purpose']}"
-        database = self.connection_of_file
-        database.execute("BEGIN")
-        searched = "SELECT command, key_no, state, moment FROM request WHERE caller = ? AND number = ?"
-        kept = database.execute(searched, (caller, number)).fetchone()
-        if kept:
-            database.execute("COMMIT")
-            if kept[0] != command:
-                return self.answer(409, {"name": "RequestReused", "refused": 2})
-            return self.answer(200, {"key": kept[1], "moment": kept[3], "state": STATES[kept[2]]})
-        latest, count = database.execute("SELECT latest, key_count FROM meta").fetchone()
-        if moment < latest or list(dates) != sorted(dates):
-            database.execute("COMMIT")
-            refused = {"latest": latest, "name": "MomentBehind", "refused": 3} if moment < latest else {"name": "DateOrder", "refused": 9}
-            return self.answer(409, refused)
-        state = 1 if dates[0] > moment else 3 if dates[2] <= moment else 2
-        if moment > latest:
-            database.execute("UPDATE keys SET state = 2 WHERE state = 1 AND activation <= ?", (moment,))
-            database.execute("UPDATE keys SET state = 3 WHERE state = 2 AND deactivation <= ?", (moment,))
-        row = count + 1, KINDS[given["type"]], given["owner"], given["purpose"], state, moment, *dates, UNSET, UNSET, UNSET
-        database.execute("INSERT INTO keys VALUES (?, ?, ?, ?, ?, ?, ?, ?, ?, ?, ?, ?)", row)
-        database.execute("INSERT INTO request VALUES (?, ?, ?, ?, ?, ?)", (caller, number, command, count + 1, state, moment))
-        database.execute("UPDATE meta SET latest = ?, key_count = ? WHERE id = 1", (moment, count + 1))
-        database.execute("COMMIT")
-        return self.answer(200, {"key": count + 1, "moment": moment, "state": STATES[state]})
+        try:
+            key, state, moment = self.register.answer(moment, caller, number, text)
+        except Refused as refused:
+            return self.answer(409, {"name": refused.name, "refused": refused.number, **refused.details})
+        return self.answer(200, {"key": key, "moment": moment, "state": STATES[state]})
 
-    def log_message(self, *_):
+    def log_message(self, *_: Any) -> None:
         pass
 
 
 class BareServer(http.server.HTTPServer):
     request_queue_size = 128
 
-    def server_bind(self):
+    def server_bind(self) -> None:
         # HTTPServer's own looks the machine's name up.
         self.socket.setsockopt(socket.SOL_SOCKET, socket.SO_REUSEADDR, 1)
         self.socket.bind(self.server_address)
         self.server_name, self.server_port = self.server_address
 
-    def handle_error(self, *_):
+    def handle_error(self, *_: Any) -> None:
         """Says nothing of a client that has left; of any other error the client sees that there is no reply."""
 
 
-def serve_bare(file, port, journal):
-    database = sqlite3.connect(file, isolation_level=None)
-    for pragma in ("locking_mode = EXCLUSIVE", "synchronous = FULL", "foreign_keys = ON", "cache_size = 2000"):
-        database.execute(f"PRAGMA {pragma}").fetchall()
-    # After the lock, so that the log has its index in memory of its own.
-    expect(database.execute(f"PRAGMA journal_mode = {journal}").fetchone() == (journal,), f"no journal mode {journal}")
-    Bare.connection_of_file = database
-    BareServer(("127.0.0.1", port), Bare).serve_forever()
+def serve_bare(file: str, port: str, journal: str) -> None:
+    Bare.register = PythonRegister(file, journal)
+    mode = Bare.register.run("PRAGMA journal_mode").fetchone()
+    expect(mode == (journal,), f"no journal mode {journal}")
+    BareServer(("127.0.0.1", int(port)), Bare).serve_forever()
 
 
 # ---- the compared exchanges
 
 
-def date_of(number):
-    """The Activation Date of a key, out of the order of the numbers."""
-    return LATER - 1 - number * STEP % 1_000_000
+def registration(number: int) -> tuple[Any, ...]:
+    """The command that makes the key; the Activation Dates are out of the order of the numbers."""
+    activation = LATER - 1 - number * STEP % 1_000_000
+    return "register", "data-encryption", "office", activation, STOP, END, f"backup volume {number}"
 
 
-def expected_key(number, moment):
+def expected_key(number: int) -> dict[str, Any]:
+    _, kind, owner, activation, stop, end, purpose = registration(number)
     return {
-        "activation": date_of(number), "approvals": [], "compromised": None, "custodians": [], "deactivation": END, "destroyed": None,
-        "initial": moment, "need": 2, "number": number, "occurrence": None, "owner": "office", "protect_stop": STOP,
-        "purpose": f"backup volume {number}", "state": "Pre-Active", "type": "data-encryption",
+        "activation": activation, "approvals": [], "compromised": None, "custodians": [], "deactivation": end,
+        "destroyed": None, "initial": MOMENT, "need": 2, "number": number, "occurrence": None, "owner": owner,
+        "protect_stop": stop, "purpose": purpose, "state": "Pre-Active", "type": kind,
     }
 
 
-def get_bytes(number):
-    return f"GET /keys/{number} HTTP/1.1\r\nHost: localhost\r\n\r\n".encode()
-
-
-def post_bytes(caller, number):
-    value = {
-        "kind": "register", "type": "data-encryption", "owner": "office", "activation": date_of(number), "protect_stop": STOP,
-        "deactivation": END, "purpose": f"backup volume {number}",
-    }
-    body = json.dumps(value, separators=(",", ":")).encode()
-    fields = f"Host: localhost\r\nCaller: {caller}\r\nRequest-Number: {number}\r\nContent-Length: {len(body)}"
-    return f"POST /requests HTTP/1.1\r\n{fields}\r\n\r\n".encode() + body
-
-
-def exchange(address, given):
-    with socket.socket() as connection:
-        connection.connect(address)
+def exchange(port: int, given: bytes) -> Any:
+    """The value of a good reply's body."""
+    with socket.create_connection(("127.0.0.1", port)) as connection:
         connection.sendall(given)
-        pieces = []
-        while piece := connection.recv(65536):
-            pieces.append(piece)
-    return b"".join(pieces)
-
-
-def body_of(reply):
+        reply = received(connection)
     head, _, body = reply.partition(b"\r\n\r\n")
-    expect(head.split(b" ")[1:2] == [b"200"], f"reply {reply}")
+    expect(head.split(b" ")[1:2] == [b"200"], f"reply {reply!r}")
     return json.loads(body)
 
 
-def look_at_keys(replies, numbers):
-    found = sorted((body_of(reply) for reply in replies), key=lambda key: key["number"])
-    wanted = sorted((expected_key(number, MOMENT) for number in numbers), key=lambda key: key["number"])
-    expect(found == wanted, "a key is not as it was registered")
+def compare(port: int, keys: int, count: int) -> None:
+    """So many GETs of keys that are there, and POSTs of the next ones."""
+    for place in range(count):
+        number = 1 + place * STEP % keys
+        expect(exchange(port, get(f"/keys/{number}")) == expected_key(number), f"key {number} is another")
+    begun = int(time.time())
+    for number in range(keys + 1, keys + count + 1):
+        body = compact(request_object(registration(number)))
+        reply = exchange(port, post(body, "Caller: bob", f"Request-Number: {number}"))
+        expect(reply["key"] == number and reply["state"] == "Pre-Active" and begun <= reply["moment"] <= time.time(),
+               f"registration {number}: {reply}")
 
 
-def look_at_registrations(replies, first, begun):
-    found = sorted((body_of(reply) for reply in replies), key=lambda told: told["key"])
-    for place, told in enumerate(found):
-        good = told["key"] == first + place and told["state"] == "Pre-Active" and begun <= told["moment"] <= time.time()
-        expect(good, f"registration {place}: {told}")
-
-
-def rows_left(file, caller, keys):
-    """The rows of the keys up to that number, and those of the caller's requests; and how many keys there are."""
-    connection = sqlite3.connect(file)
-    # What differs is when a request came.
+def rows_left(file: str, caller: str, keys: int) -> tuple[list[Any], int]:
+    """The rows of the keys up to that number, and those of the caller's requests, without when a request came; and how
+    many keys there are."""
     columns = "number, kind, owner, purpose, state, activation, protect_stop, deactivation"
-    rows = connection.execute(f"SELECT {columns} FROM keys WHERE number <= ? ORDER BY number", (keys,)).fetchall()
-    rows += connection.execute("SELECT number, command, key_no, state FROM request WHERE caller = ? ORDER BY number", (caller,)).fetchall()
-    count, = connection.execute("SELECT key_count FROM meta").fetchone()
-    connection.close()
-    return rows, count
+    with database(file) as connection:
+        rows = connection.execute(f"SELECT {columns} FROM keys WHERE number <= ? ORDER BY number", (keys,)).fetchall()
+        rows += connection.execute(
+            "SELECT number, command, key_no, state FROM request WHERE caller = ? ORDER BY number", (caller,)).fetchall()
+        return rows, connection.execute("SELECT key_count FROM meta").fetchone()[0]
 
 
 # ---- the timed exchanges
 
-# Its words are the kind, the prefix of the callers' names, and how many keys there are at first; each thread is a caller. The last
-# line of what it writes has the exchanges that got their reply, the microseconds, and how many failed or had another status.
+# Its words are the kind, the prefix of the callers' names, and how many keys there are at first; each thread is a
+# caller. The last line of what it writes has the exchanges that got their reply, the microseconds, and how many failed
+# or had another status.
 SCRIPT = f"""
 local kind, caller, keys, number
 local threads = 0
@@ -274,144 +223,133 @@ end
 
 
 class Timed(NamedTuple):
-    """What was seen of one kind in one round: exchanges a second, and the server's and the clients' processor seconds of one."""
+    """One kind in one round: exchanges a second, and the server's and the clients' processor seconds of one."""
     rate: float
     server: float
     client: float
 
 
 class Server:
-    """A server, with what was seen of it."""
+    """A server over a file, with the times of its rounds by kind."""
 
-    def __init__(self, name, words, port):
-        self.name, self.port = name, port
+    def __init__(self, name: str, file: str, port: int, words: Sequence[str]) -> None:
+        self.name, self.file, self.port = name, file, port
         self.process = subprocess.Popen(words, stdin=subprocess.DEVNULL)
-        late = time.monotonic() + 60
+        late = time.monotonic() + PATIENCE
         while not listens(port):
             expect(self.process.poll() is None and time.monotonic() < late, f"{name} does not listen")
             time.sleep(0.01)
-        self.seen, self.registered = {"get": [], "post": []}, 0
+        self.times: dict[str, list[Timed]] = {"get": [], "post": []}
+        self.registered = 0
 
-    def replies(self, asked):
-        return [exchange(("127.0.0.1", self.port), given) for given in asked]
-
-    def time(self, script, kind, caller, told):
+    def time(self, script: str, kind: str, caller: str, given: argparse.Namespace) -> None:
         """Has `wrk` ask exchanges of this kind."""
-        words = ["wrk", f"-t{THREADS}", f"-c{told.connections}", f"-d{told.seconds}s", "-s", script, f"http://127.0.0.1:{self.port}"]
+        words = ["wrk", f"-t{THREADS}", f"-c{given.connections}", f"-d{given.seconds}s", "-s", script,
+                 f"http://127.0.0.1:{self.port}"]
         clocks = self.clocks()
-        done = subprocess.run([*words, "--", kind, caller, str(told.keys)], capture_output=True, text=True, check=True)
+        done = subprocess.run([*words, "--", kind, caller, str(given.keys)], capture_output=True, text=True, check=True)
         server, client = (now - then for now, then in zip(self.clocks(), clocks))
         count, micros, failed = map(int, done.stdout.splitlines()[-1].split())
         expect(count > 0 and failed == 0, f"{self.name}, {kind}: {count} exchanges, {failed} failed")
-        self.seen[kind].append(Timed(1e6 * count / micros, server / count, client / count))
+        self.times[kind].append(Timed(1e6 * count / micros, server / count, client / count))
         self.registered += count if kind == "post" else 0
 
-    def clocks(self):
+    def clocks(self) -> tuple[float, float]:
         """The processor seconds of the server, and of the clients that have ended."""
         used = resource.getrusage(resource.RUSAGE_CHILDREN)
         return time.clock_gettime(clock_of(self.process.pid)), used.ru_utime + used.ru_stime
 
-    def end(self):
+    def end(self) -> None:
         self.process.kill()
         self.process.wait()
 
 
-# ---- the run
+def servers_over(folder: str, keys: int) -> Iterable[Server]:
+    """`keyreg` over a register of so many keys, and the bare servers over copies of it."""
+    files = {name: os.path.join(folder, f"{name}.keyreg") for name in ("keyreg", *JOURNALS)}
+    new_register(files["keyreg"], [f"{MOMENT} ann {n} {command_text(registration(n))}" for n in range(1, keys + 1)])
+    for journal in JOURNALS:
+        shutil.copy(files["keyreg"], files[journal])
+    for name, file in files.items():
+        port = free_port()
+        if name == "keyreg":
+            words = [PROGRAM, "serve", "--file", file, "--port", str(port), "--exchanges", "1000000"]
+        else:
+            words = [sys.executable, os.path.abspath(__file__), "--bare", file, str(port), name]
+        yield Server(name if name == "keyreg" else f"python, {name}", file, port, words)
 
 
-def compare(server, told):
-    numbers = [1 + place * STEP % told.keys for place in range(told.exchanges)]
-    look_at_keys(server.replies([get_bytes(number) for number in numbers]), numbers)
-    fresh = range(told.keys + 1, told.keys + told.exchanges + 1)
-    begun = int(time.time())
-    look_at_registrations(server.replies([post_bytes("bob", number) for number in fresh]), fresh[0], begun)
-
-
-def serve_all(told, folder):
-    """Has all servers asked, and gives them with what was seen of them, `keyreg` first."""
-    me = os.path.abspath(__file__)
-    file, script = (os.path.join(folder, name) for name in ("office.keyreg", "exchanges.lua"))
+def serve_all(given: argparse.Namespace, folder: str) -> list[Server]:
+    """Has all servers asked, and gives them with their times, `keyreg` first."""
+    script, servers = os.path.join(folder, "exchanges.lua"), list[Server]()
     with open(script, "w", encoding="utf-8") as target:
         target.write(SCRIPT)
-    keyreg(["init", "--file", file])
-    keyreg(["run", "--file", file], [
-        f"{MOMENT} ann {n} register data-encryption office {date_of(n)} {STOP} {END} backup volume {n}" for n in range(1, told.keys + 1)
-    ])
-    copies = [os.path.join(folder, f"{journal}.keyreg") for journal in JOURNALS]
-    for copied in copies:
-        shutil.copy(file, copied)
-    servers = []
     try:
-        port = free_port()
-        words = [PROGRAM, "serve", "--file", file, "--port", str(port), "--exchanges", "1000000"]
-        servers.append(Server("keyreg", words, port))
-        for journal, copied in zip(JOURNALS, copies):
-            port = free_port()
-            servers.append(Server(f"python, {journal}", [sys.executable, me, "--bare", copied, str(port), journal], port))
+        for server in servers_over(folder, given.keys):
+            servers.append(server)
         for server in servers:
-            compare(server, told)
-        for turn in range(told.rounds):
+            compare(server.port, given.keys, given.exchanges)
+        for turn in range(given.rounds):
             for kind in ("get", "post"):
                 first = turn % len(servers)
                 for server in servers[first:] + servers[:first]:
-                    server.time(script, kind, f"round{turn}", told)
-            print(f"round {turn + 1} of {told.rounds}", file=sys.stderr)
+                    server.time(script, kind, f"round{turn}", given)
+            print(f"round {turn + 1} of {given.rounds}", file=sys.stderr)
     finally:
         for server in servers:
             server.end()
-    compared = told.keys + told.exchanges
-    ours, _ = rows_left(file, "bob", compared)
-    for server, left in zip(servers, [file, *copies]):
-        rows, keys = rows_left(left, "bob", compared)
+    compared = given.keys + given.exchanges
+    ours, _ = rows_left(servers[0].file, "bob", compared)
+    for server in servers:
+        rows, keys = rows_left(server.file, "bob", compared)
         expect(rows == ours, f"{server.name} left other rows")
         # At the end of a round each connection may be left without its reply.
         more = keys - compared - server.registered
-        expect(0 <= more <= told.rounds * told.connections, f"{server.name}: {more} keys more than registrations with a reply")
+        expect(0 <= more <= given.rounds * given.connections,
+               f"{server.name}: {more} keys more than registrations with a reply")
     return servers
 
 
-def main():
-    words = argparse.ArgumentParser()
-    words.add_argument("--rounds", type=int, default=7)
-    words.add_argument("--seconds", type=int, default=1)
-    words.add_argument("--exchanges", type=int, default=1000)
-    words.add_argument("--keys", type=int, default=1000)
-    words.add_argument("--connections", type=int, default=16)
-    words.add_argument("--directory")
-    words.add_argument("--bare", nargs=3, help=argparse.SUPPRESS)
-    told = words.parse_args()
-    if told.bare:
-        file, port, journal = told.bare
-        return serve_bare(file, int(port), journal)
-    expect(shutil.which("wrk"), "wrk is not there")
-    with tempfile.TemporaryDirectory(dir=told.directory) as folder:
-        report(serve_all(told, folder), told)
+def figures(times: Sequence[Timed]) -> list[str]:
+    """Of some rounds: the median and the greatest of the exchanges a second, the median and the least of the server's
+    microseconds, and the median of the clients'."""
+    rates, server, client = zip(*times)
+    micros = (1e6 * statistics.median(server), 1e6 * min(server), 1e6 * statistics.median(client))
+    return [f"{statistics.median(rates):.0f}", f"{max(rates):.0f}", *(f"{value:.1f}" for value in micros)]
 
 
-def figures(seen):
-    """Of some rounds: the median and the greatest of the exchanges a second, the median and the least of the server's microseconds,
-    and the median of the clients'."""
-    rates, server, client = zip(*seen)
-    found = statistics.median(rates), max(rates), 1e6 * statistics.median(server), 1e6 * min(server), 1e6 * statistics.median(client)
-    return [f"{value:.0f}" for value in found[:2]] + [f"{value:.1f}" for value in found[2:]]
-
-
-def report(servers, told):
+def report(servers: Sequence[Server], given: argparse.Namespace) -> None:
     lines, verdicts = [], []
     for kind, name in (("get", "GET of a key"), ("post", "POST of a registration")):
-        ours = servers[0].seen[kind]
+        ours = servers[0].times[kind]
         lines.append([name, "keyreg", *figures(ours), "", ""])
         for server in servers[1:]:
-            python = server.seen[kind]
-            rate = statistics.median(mine.rate / other.rate for mine, other in zip(ours, python))
-            used = statistics.median(mine.server / other.server for mine, other in zip(ours, python))
-            lines.append([name, server.name, *figures(python), f"{rate:.2f}", f"{used:.2f}"])
+            theirs = server.times[kind]
+            rate = statistics.median(mine.rate / other.rate for mine, other in zip(ours, theirs))
+            used = statistics.median(mine.server / other.server for mine, other in zip(ours, theirs))
+            lines.append([name, server.name, *figures(theirs), f"{rate:.2f}", f"{used:.2f}"])
             met = "met" if rate >= MARK else "missed"
-            verdicts.append(f"{name}: {rate:.2f} times the exchanges a second of {server.name}; the mark of {MARK} is {met}")
-    print(f"{told.rounds} rounds of {told.seconds} s for each kind; connections at once: {told.connections}; keys at first: {told.keys}")
-    head = ["exchange", "server", "a second, median", "best", "processor us, median", "least", "clients' us"]
-    table([*head, "a second, keyreg to it", "processor, keyreg to it"], lines)
+            verdicts.append(f"{name}: {rate:.2f} times the exchanges a second of {server.name}; the mark of {MARK} "
+                            f"is {met}")
+    print(f"{given.rounds} rounds of {given.seconds} s for each kind; connections at once: {given.connections}; "
+          f"keys at first: {given.keys}")
+    columns = ["exchange", "server", "a second, median", "best", "processor us, median", "least", "clients' us"]
+    table([*columns, "a second, keyreg to it", "processor, keyreg to it"], lines)
     print("\n".join(verdicts))
+
+
+def main() -> None:
+    words = argparse.ArgumentParser()
+    for name, usual in (("rounds", 7), ("seconds", 1), ("exchanges", 1000), ("keys", 1000), ("connections", 16)):
+        words.add_argument(f"--{name}", type=int, default=usual)
+    words.add_argument("--directory")
+    words.add_argument("--bare", nargs=3, help=argparse.SUPPRESS)
+    given = words.parse_args()
+    if given.bare:
+        return serve_bare(*given.bare)
+    expect(shutil.which("wrk"), "wrk is not there")
+    with tempfile.TemporaryDirectory(dir=given.directory) as folder:
+        report(serve_all(given, folder), given)
 
 
 main()

@@ -24,13 +24,9 @@ OF_FUNCTION = {*PARTS, "Code", "Given", "Goals", "Instances", "Invariants", "Kin
 
 def modules(folder):
     """The modules in the order in which they were checked, each with its seconds."""
-    found = []
-    for at, _, names in os.walk(folder):
-        if os.path.basename(at) != "records":
-            found += [(os.stat(f"{at}/{name}").st_mtime, name) for name in names if name.endswith(".oantt")]
-    found.sort()
-    return [(name.removesuffix(".oantt"), after - before)
-            for (before, _), (after, name) in zip(found, found[1:])]
+    kept = sorted((os.stat(f"{at}/{name}").st_mtime, name) for at, _, names in os.walk(folder)
+                  if os.path.basename(at) != "records" for name in names if name.endswith(".oantt"))
+    return [(name.removesuffix(".oantt"), after - before) for (before, _), (after, name) in zip(kept, kept[1:])]
 
 
 def owner_of(module, crate):

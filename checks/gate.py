@@ -6,19 +6,18 @@
     checks/gate.py --furnish
     rt ci | checks/gate.py --behind-proofs
 
-Each part of the table GATE below is run, with --all of the table REST too, or those that are named,
-as many side by side as two cores take. Each has a limit of seconds by the clock, after which it is
-killed and has failed. KEYREG names another program than the one that stands.
+Each part of the table GATE below is run, with --all of the table REST too, or those that are named, as many side by
+side as two cores take. Each has a limit of seconds by the clock, after which it is killed and has failed. KEYREG names
+another program than the one that stands.
 
-A part that passes gets one line, one that fails its output too. The last line counts the passed
-and the failed, and with --all those that were left out for want of a package or of root, each of
-which has a line that says so. The status is 0 where none failed.
+A part that passes gets one line, one that fails its output too. The last line counts the passed and the failed, and
+with --all those that were left out for want of a package or of root, each of which has a line that says so.
 
 --all            root installs from Debian's packages what the parts use
---furnish        looks for each command and module that the gate's parts use, and runs none. Root
-                 installs what is missing; where something is missing then, it fails
---behind-proofs  passes on what `rt ci` prints. Where that is green, all parts are run over the
-                 program of this repository. The last line counts those of `rt ci` too
+--furnish        looks for each command and module that the gate's parts use, and runs none. Root installs what is
+                 missing; where something is missing then, it fails
+--behind-proofs  passes on what `rt ci` prints. Where that is green, all parts are run over the program of this
+                 repository. The last line counts those of `rt ci` too
 """
 import argparse
 import os
@@ -30,10 +29,12 @@ import subprocess
 import sys
 import tempfile
 import time
-from typing import IO, NamedTuple
+from typing import NamedTuple
 
-TOP = pathlib.Path(__file__).resolve().parent.parent
-PROGRAM = TOP / "crates" / "keyreg" / "out" / "keyreg"
+sys.path.insert(1, str(pathlib.Path(__file__).resolve().parent / "shared"))
+from places import BUILT, TOP
+from script import in_memory
+
 CORES = 2
 COUNTS = re.compile(rb"(\d+) passed, (\d+) failed\s*")
 
@@ -48,63 +49,56 @@ class Part(NamedTuple):
     is_roots: bool = False
 
     def name(self) -> str:
-        return self.words.split()[0].removesuffix(".py")
+        return pathlib.Path(self.words.split()[0]).stem
 
 
 # Those that keep both cores come first, then the longest.
 GATE = (
-    Part("want_of_memory.py", 600, cores=2),
-    Part("power_cuts.py --points 60 --choices 1", 120, cores=2),
-    Part("exchanges_by_curl.py --bound 20", 120),
-    Part("first_build.py", 300),
-    Part("large_office.py", 120),
-    Part("words.py", 90),
-    Part("copied_while_served.py --seconds 15", 90),
-    Part("connections.py", 90),
-    Part("desk_in_browser.py --least", 180),
-    Part("killed_migrations.py 16", 90),
-    Part("killed_runs.py 20", 90),
-    Part("documents.py", 90),
-    Part("behind_nginx.py", 60),
-    Part("desk_code.py", 60),
-    Part("desk_rules.py", 60),
-    Part("migrated_by_sqlite3.py", 60),
-    Part("rebuilt_by_sqlite3.py", 60),
-    Part("fresh_answers.py", 60),
-    Part("audit.py", 60),
-    Part("every_command.py", 30),
-    Part("read_by_sqlite3.py", 30),
-    Part("written_by_sqlite3.py", 30),
-    Part("repeats_memory.py", 30),
-    Part("unreadable_file.py", 30),
-    Part("read_export.py", 30),
-    Part("given.py", 30),
-    Part("manual.py", 30),
-    Part("unseen.py", 30),
-    Part("recipes.py", 30),
-    Part("wrong_bodies.py --texts", 30),
+    Part("program/want_of_memory.py", 600, cores=2),
+    Part("program/power_cuts.py --points 60 --choices 1", 120, cores=2),
+    Part("program/exchanges_by_curl.py", 120),
+    Part("sources/first_build.py", 300),
+    Part("program/large_office.py", 120),
+    Part("program/words.py", 120),
+    Part("program/killed.py --runs 20 --migrations 16", 180),
+    Part("sqlite/copied_while_served.py --seconds 15", 90),
+    Part("program/connections.py", 90),
+    Part("desk/in_browser.py --least", 180),
+    Part("sqlite/by_sqlite3.py", 180),
+    Part("sources/documents.py", 90),
+    Part("office/behind_nginx.py", 60),
+    Part("desk/own_tests.py", 60),
+    Part("desk/rules.py", 60),
+    Part("office/advance_tried.py", 60),
+    Part("office/audit_views.py", 60),
+    Part("program/every_command.py", 30),
+    Part("sources/given_to_crates.py", 30),
+    Part("package/man_page.py", 30),
+    Part("sources/unseen_by_contracts.py", 30),
+    Part("sources/recipes.py", 30),
+    Part("sources/wrong_bodies.py --texts", 30),
 )
 
 # What --all runs besides: what takes longer, and what wants root or packages of its own.
 ROOT_OF_DEBIAN = ("debootstrap", "systemd-nspawn")
 REST = (
-    Part("desk_in_browser.py", 3600, cores=2),
-    Part("desk_in_firefox.py", 300, commands=("firefox-esr",)),
-    Part("timeline_drawn.py", 900, cores=2, commands=("pdftotext",)),
+    Part("desk/in_browser.py", 3600, cores=2),
+    Part("desk/in_firefox.py", 300, commands=("firefox-esr",)),
+    Part("office/timeline_tried.py", 900, cores=2, commands=("pdftotext",)),
     # These two make packages/ anew, so neither runs beside the other.
-    Part("packaged.py", 1800, cores=2, is_roots=True,
+    Part("package/installed.py", 1800, cores=2, is_roots=True,
          commands=(*ROOT_OF_DEBIAN, "lintian", "tmux", "zsh", "fish", "readelf")),
-    Part("in_systemd.py", 3600, cores=2, commands=ROOT_OF_DEBIAN, is_roots=True),
-    Part("same_package.py", 900, commands=("readelf",)),
-    Part("completed.py", 300, commands=("tmux", "zsh", "fish")),
-    Part("client_tried.py", 900),
-    Part("followed.py", 900),
-    Part("restored.py", 900),
-    Part("replayed.py", 900),
-    Part("rebuilt.py", 300),
-    Part("table_checked.py", 600),
-    Part("full_register.py", 1800),
-    Part("mutated.py --seconds 60", 900),
+    Part("package/in_systemd.py", 3600, cores=2, commands=ROOT_OF_DEBIAN, is_roots=True),
+    Part("package/same_bytes.py", 900, commands=("readelf",)),
+    Part("package/completion.py", 300, commands=("tmux", "zsh", "fish")),
+    Part("office/client_tried.py", 900),
+    Part("office/follow_tried.py", 900),
+    Part("sqlite/restored.py", 900),
+    Part("office/replay_tried.py", 900),
+    Part("office/rebuild_tried.py", 300),
+    Part("office/check_table_tried.py", 600),
+    Part("program/full_register.py", 1800),
+    Part("program/mutated.py --seconds 60", 900),
 )
 
 # What the scripts call, by the Debian package that has it. Those of one command stand together:
@@ -145,10 +139,10 @@ def has_command(name: str) -> bool:
 
 def missing(commands: dict[str, str]) -> dict[str, str]:
     """Which of these commands, and which modules, are not there, each with its package."""
-    found = {name: package for name, package in commands.items() if not has_command(name)}
+    lacking = {name: package for name, package in commands.items() if not has_command(name)}
     if all(missing_modules(python) for python in INTERPRETERS):
-        found |= {name: MODULES[name] for name in missing_modules(INTERPRETERS[-1])}
-    return found
+        lacking |= {name: MODULES[name] for name in missing_modules(INTERPRETERS[-1])}
+    return lacking
 
 
 def install(packages: list[str]) -> None:
@@ -157,9 +151,9 @@ def install(packages: list[str]) -> None:
         return
     print("gate: installs", *packages, flush=True)
     # Without a service that starts, as nginx would on the port of others.
-    told = {**os.environ, "DEBIAN_FRONTEND": "noninteractive", "RUNLEVEL": "1"}
+    environment = {**os.environ, "DEBIAN_FRONTEND": "noninteractive", "RUNLEVEL": "1"}
     for words in (["update"], ["install", "--yes", "--no-install-recommends", *packages]):
-        subprocess.run(["apt-get", "--quiet", "--quiet", *words], env=told, check=False,
+        subprocess.run(["apt-get", "--quiet", "--quiet", *words], env=environment, check=False,
                        stdin=subprocess.DEVNULL, stdout=sys.stderr)
 
 
@@ -198,15 +192,15 @@ def that_can_run(parts: list[Part]) -> list[Part]:
 
 
 def pass_on() -> tuple[int, int]:
-    """Passes on what `rt ci` prints, and gives how many it counted as passed and as failed. A green
-    one has passed some, failed none, and said so in its last line."""
+    """Passes on what `rt ci` prints, and gives how many it counted as passed and as failed. A green one has passed
+    some, failed none, and said so in its last line."""
     last = b""
     for line in sys.stdin.buffer:
         sys.stdout.buffer.write(line)
         sys.stdout.buffer.flush()
         last = line if line.strip() else last
-    counted = COUNTS.fullmatch(last)
-    passed, failed = map(int, counted.groups()) if counted else (0, 0)
+    counts = COUNTS.fullmatch(last)
+    passed, failed = map(int, counts.groups()) if counts else (0, 0)
     return passed, failed if passed > 0 and failed == 0 else max(failed, 1)
 
 
@@ -218,12 +212,11 @@ class Running:
 
     def __init__(self, part: Part, python: str, folder: str, environment: dict[str, str]) -> None:
         self.part, self.begun = part, time.monotonic()
-        self.output: IO[bytes] = tempfile.TemporaryFile(dir=folder)
+        self.output = tempfile.TemporaryFile(dir=folder)
         script, *words = part.words.split()
         self.process = subprocess.Popen(
-            [python, str(TOP / "checks" / script), *words], cwd=TOP, env=environment,
-            stdin=subprocess.DEVNULL, stdout=self.output, stderr=subprocess.STDOUT,
-            start_new_session=True)
+            [python, str(TOP / "checks" / script), *words], cwd=TOP, env=environment, stdin=subprocess.DEVNULL,
+            stdout=self.output, stderr=subprocess.STDOUT, start_new_session=True)
 
     def seconds(self) -> float:
         return time.monotonic() - self.begun
@@ -242,11 +235,11 @@ class Running:
             pass
         return self.process.wait()
 
-    def tell(self) -> bool:
+    def has_passed(self) -> bool:
         """Ends it, says how it ended, and gives whether it passed."""
         name, seconds, late = self.part.name(), self.seconds(), self.seconds() > self.part.seconds
-        has_passed = self.end() == 0 and not late
-        if has_passed:
+        passed = self.end() == 0 and not late
+        if passed:
             print(f"{name}: passed in {seconds:.0f} s", flush=True)
         else:
             self.output.seek(0)
@@ -254,32 +247,30 @@ class Running:
             why = f"no end in {self.part.seconds} s" if late else f"status {self.process.returncode}"
             print(f"{name}: FAILED, {why}", flush=True)
         self.output.close()
-        return has_passed
+        return passed
 
 
-def run(parts: list[Part], has_given_program: bool) -> int:
-    """Runs the parts, and gives how many of them failed."""
+def run_parts(parts: list[Part], program: str) -> int:
+    """Runs the parts over a program, and gives how many of them failed."""
     python = next(python for python in INTERPRETERS if not missing_modules(python))
-    told = {name: value for name, value in os.environ.items()
-            if name != "KEYREG" or has_given_program}
-    waiting, running, failed = list(parts), [], 0
-    shared = "/dev/shm" if os.access("/dev/shm", os.W_OK) else None
-    with tempfile.TemporaryDirectory() as folder, tempfile.TemporaryDirectory(dir=shared) as memory:
-        told |= {"PYTHONDONTWRITEBYTECODE": "1", "TMPDIR": folder, "KEYREG_IN_MEMORY": memory}
+    waiting, running, failed = list(parts), list[Running](), 0
+    with tempfile.TemporaryDirectory() as folder, tempfile.TemporaryDirectory(dir=in_memory(0)) as memory:
+        environment = {**os.environ, "KEYREG": program, "PYTHONDONTWRITEBYTECODE": "1", "TMPDIR": folder,
+                       "KEYREG_IN_MEMORY": memory}
         try:
             while waiting or running:
-                free = CORES - sum(one.part.cores for one in running)
+                free = CORES - sum(other.part.cores for other in running)
                 if fitting := next((part for part in waiting if part.cores <= free), None):
                     waiting.remove(fitting)
-                    running.append(Running(fitting, python, folder, told))
+                    running.append(Running(fitting, python, folder, environment))
                     continue
                 time.sleep(0.05)
-                for one in [one for one in running if one.is_over()]:
-                    running.remove(one)
-                    failed += not one.tell()
+                for over in [other for other in running if other.is_over()]:
+                    running.remove(over)
+                    failed += not over.has_passed()
         finally:
-            for one in running:
-                one.end()
+            for left in running:
+                left.end()
     return failed
 
 
@@ -291,31 +282,31 @@ def chosen(names: list[str], table: tuple[Part, ...]) -> list[Part]:
 
 
 def main() -> None:
-    words = argparse.ArgumentParser()
-    words.add_argument("--all", action="store_true")
-    words.add_argument("--furnish", action="store_true")
-    words.add_argument("--behind-proofs", action="store_true")
+    words = argparse.ArgumentParser(description=__doc__, formatter_class=argparse.RawDescriptionHelpFormatter)
+    for name in ("--all", "--furnish", "--behind-proofs"):
+        words.add_argument(name, action="store_true")
     words.add_argument("parts", nargs="*", metavar="PART")
-    told = words.parse_args()
-    if told.furnish + told.behind_proofs + bool(told.all or told.parts) > 1:
+    asked = words.parse_args()
+    if asked.furnish + asked.behind_proofs + bool(asked.all or asked.parts) > 1:
         words.error("--furnish and --behind-proofs stand alone")
-    parts = chosen(told.parts, GATE + REST if told.all else GATE)
+    parts = chosen(asked.parts, GATE + REST if asked.all else GATE)
     # Whoever ends the gate ends what it began.
     signal.signal(signal.SIGTERM, lambda *_: sys.exit(1))
-    passed, failed = pass_on() if told.behind_proofs else (0, 0)
-    given, left_out = None if told.behind_proofs else os.environ.get("KEYREG"), 0
-    if failed == 0 and not (told.all or is_furnished()):
+    passed, failed = pass_on() if asked.behind_proofs else (0, 0)
+    program, left_out = "" if asked.behind_proofs else os.environ.get("KEYREG", ""), 0
+    program = program or str(BUILT)
+    if failed == 0 and not (asked.all or is_furnished()):
         failed = 1
-    elif told.furnish:
+    elif asked.furnish:
         return
-    elif failed == 0 and not os.access(given or PROGRAM, os.X_OK):
-        print(f"gate: no program at {given or PROGRAM}", flush=True)
+    elif failed == 0 and not os.access(program, os.X_OK):
+        print(f"gate: no program at {program}", flush=True)
         failed = 1
     elif failed == 0:
-        can = that_can_run(parts) if told.all else parts
-        failed, left_out = run(can, has_given_program=bool(given)), len(parts) - len(can)
+        can = that_can_run(parts) if asked.all else parts
+        failed, left_out = run_parts(can, program), len(parts) - len(can)
         passed += len(can) - failed
-    print(f"{passed} passed, {failed} failed" + f", {left_out} left out" * told.all, flush=True)
+    print(f"{passed} passed, {failed} failed" + f", {left_out} left out" * asked.all, flush=True)
     sys.exit(1 if failed else 0)
 
 

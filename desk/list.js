@@ -114,7 +114,7 @@ function forget(made) {
   registered = new Map([...registered].filter(([number]) => number > columns.type.length));
 }
 
-// Takes a list in, as examples/list.py makes it.
+// Takes a list in, as office/list.py makes it.
 export function take(made) {
   list.isThere = true;
   list.hasKeys = made.keys !== null;

@@ -1,6 +1,6 @@
 // The rules that the desk knows: the tables of docs/SPECIFICATION.md, and how a request is judged by them.
 //
-// checks/desk_rules.py holds the tables to those of the document, and each judgement to the register's. The register is
+// checks/desk/rules.py holds the tables to those of the document, and each judgement to the register's. The register is
 // right where the two differ: the page only says beforehand what it can know, and shows what the register said.
 //
 // A key is an object as `GET /keys/<key>` gives it, and a command one as a POST takes it. A moment is a number of
@@ -201,7 +201,7 @@ export function isOverdue(key, moment) {
 
 // The spans of a key's line: where it waits for its Activation, where it may protect data, and where it may only
 // process what is protected. A compromise ends the second, a destruction the line. A span that ends with no date ends
-// at Infinity. examples/timeline.py draws by the same rule.
+// at Infinity. office/timeline.py draws by the same rule.
 export function spansOf(key) {
   const [begin, stop, end, destroyed, compromised] =
     ["activation", "protect_stop", "deactivation", "destroyed", "compromised"]
@@ -215,7 +215,7 @@ export function spansOf(key) {
 
 // Whether a registration with these fields may have made the key: type, owner, purpose and each date that is given are
 // the key's, and a date that is left out may be any. Where no date is given, the key is in use still: one that ended
-// may be followed by another of its name. examples/check_table.py goes by the same rule.
+// may be followed by another of its name. office/check_table.py goes by the same rule.
 export function mayHaveMade(row, key, moment) {
   if (row.type !== key.type || row.owner !== key.owner || row.purpose !== key.purpose) return false;
   const given = SETTABLE.filter((name) => isSet(row[name]));

@@ -1,5 +1,5 @@
 // What a spreadsheet did to a table of keys: a row is found again among the keys where each of its fields is the key's,
-// or is what a spreadsheet may have made of it. examples/check_table.py tells the same by an export.
+// or is what a spreadsheet may have made of it. office/check_table.py tells the same by an export.
 import {COLUMNS} from "./csv.js";
 import {keyAt, last} from "./list.js";
 import {now} from "./register.js";

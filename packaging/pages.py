@@ -1,14 +1,15 @@
 #!/usr/bin/env python3
 """Writes the pages of a package: those that who uses the program reads, each true where it lies.
 
-    packaging/pages.py FOLDER EXAMPLES
+    packaging/pages.py FOLDER PLACE
 
 The pages go to FOLDER as they stand in the sources, but
 
 - a paragraph, an item of a list or a row of a table that speaks of what only the sources have (`checks/`, `crates/`,
   `./package`, `rt`, a build) is left out, so such a sentence has a paragraph of its own there; so are commands in
   `bash`;
-- the program is `keyreg`, in the path, and examples are told to be copied from EXAMPLES, where the package has them;
+- the program is `keyreg`, in the path, and office/ and samples/ are told to be copied from PLACE, where the package has
+  them;
 - a link to what the package has not is its text.
 """
 import pathlib
@@ -22,13 +23,15 @@ PAGES = ("README.md", "CHANGES.md", "docs/OPERATING.md", "docs/AUDIT.md", "docs/
 BESIDE = ("docs/openapi.yaml", "docs/costs.svg")
 PICTURES = ("docs/desk.png",)
 # A file of checks/ that a page uses.
-MOVED = {"checks/version_1.sql": "examples/version_1.sql"}
+MOVED = {"checks/sqlite/version_1.sql": "samples/version_1.sql"}
+# What the package has whole, beside its pages.
+FOLDERS = ("office", "office/units", "samples")
 SOURCES = re.compile(r"checks/|crates/|bench/|\./package\b|\.ci/run|`rt[ `]|CONTRIBUTING|proves and builds")
 NOTE = """What is named here without a link is with the sources of keyreg. Commands are typed in a folder of your own,
-beside a copy of the examples:
+beside copies of office/ and samples/:
 
 ```sh
-cp -r {examples} .
+cp -r {place}/office {place}/samples .
 ```
 """
 
@@ -71,7 +74,7 @@ def linked(text, page, given):
                   lambda link: link[0] if is_there(link[2], page, given) else link[1], text)
 
 
-def page_of(page, text, examples, given):
+def page_of(page, text, place, given):
     for name, moved in MOVED.items():
         text = text.replace(name, moved)
     kept = [piece for piece, fenced in parts(text)
@@ -79,7 +82,7 @@ def page_of(page, text, examples, given):
     text = linked("\n".join(kept).replace("./keyreg", "keyreg"), page, given)
     if "```sh" in text:
         title, rest = text.split("\n", 1)
-        text = f"{title}\n\n{NOTE.format(examples=examples)}{rest}"
+        text = f"{title}\n\n{NOTE.format(place=place)}{rest}"
     return re.sub(r"\n{3,}", "\n\n", text)
 
 
@@ -91,10 +94,10 @@ def plain_head(text):
 
 
 def main():
-    folder, examples = pathlib.Path(sys.argv[1]), sys.argv[2]
-    given = {*PAGES, *BESIDE, *PICTURES, "examples", *MOVED.values()}
-    given |= {f"examples/{path.name}" for path in (TOP / "examples").iterdir() if path.is_file()}
-    texts = {page: page_of(page, (TOP / page).read_text("utf-8"), examples, given) for page in PAGES}
+    folder, place = pathlib.Path(sys.argv[1]), sys.argv[2]
+    given = {*PAGES, *BESIDE, *PICTURES, *FOLDERS, *MOVED.values()}
+    given |= {f"{name}/{path.name}" for name in FOLDERS for path in (TOP / name).iterdir() if path.is_file()}
+    texts = {page: page_of(page, (TOP / page).read_text("utf-8"), place, given) for page in PAGES}
     texts |= {name: (TOP / name).read_text("utf-8") for name in BESIDE}
     texts["docs/openapi.yaml"] = plain_head(texts["docs/openapi.yaml"])
     texts |= {moved: (TOP / name).read_text("utf-8") for name, moved in MOVED.items()}

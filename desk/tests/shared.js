@@ -1,4 +1,4 @@
-// What the tests share: a register's list as examples/list.py makes it, and a window's store.
+// What the tests share: a register's list as office/list.py makes it, and a window's store.
 import {readFileSync} from "node:fs";
 import {momentOf} from "../words.js";
 

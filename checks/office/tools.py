@@ -1,0 +1,44 @@
+"""What the checks of the programs of office/ share: runs of them, large registers, and the tables of a prefix."""
+import subprocess
+import sys
+from typing import Any, Iterable, Iterator
+
+from places import OFFICE
+from registers import File, keyreg
+from register_rules import Refused, Register, request_of
+
+BEGUN = 1_700_000_000
+
+
+def words_of(name: str, *words: Any) -> list[Any]:
+    return [sys.executable, OFFICE / f"{name}.py", *words]
+
+
+def run_tool(name: str, *words: Any, **how: Any) -> subprocess.CompletedProcess:
+    """Runs a program of office/ to its end."""
+    return subprocess.run(words_of(name, *words), **{"capture_output": True, "check": False, **how})
+
+
+def exported(file: File) -> str:
+    return "".join(line + "\n" for line in keyreg(["export", "--file", file]))
+
+
+def many_requests(count: int, kinds: Iterable[str], purposes: Iterable[str]) -> list[str]:
+    """So many requests: as many registrations as additions of a custodian. Types and purposes take turns."""
+    numbers, kinds, purposes = range(1, count // 2 + 1), list(kinds), list(purposes)
+    return [*(f"{BEGUN + n} ann {n} register {kinds[n % len(kinds)]} bob {BEGUN + n} - - {purposes[n % len(purposes)]}"
+              for n in numbers),
+            *(f"{BEGUN + count + n} bob {n} add-custodian {n} cat" for n in numbers)]
+
+
+def registers_after(lines: Iterable[str]) -> Iterator[tuple[int, Register]]:
+    """The register of the rules at first, and after each line that it accepts, with the moment of that."""
+    register = Register()
+    yield 0, register
+    for line in lines:
+        request = request_of(line)
+        try:
+            register.answer(request)
+        except Refused:
+            continue
+        yield request.moment, register

@@ -1,0 +1,79 @@
+#!/usr/bin/env python3
+"""The units in a real systemd: a root with the package boots by systemd-nspawn, and checks/package/in_systemd.sh does
+there what OPERATING and the heads of the units have a person do.
+
+    checks/package/in_systemd.py [--base FOLDER] [--mirror URL] [PART..]
+
+units      The service, its timers and its instances start, come back and go.
+accidents  An office gets up again after each accident of OPERATING, by the very blocks of the installed page, with the
+           path of the service in the place of theirs.
+
+As root, with debootstrap and systemd-container of Debian. The root is one that debootstrap fetches, or a copy of FOLDER
+with the packages of MORE. `./package` is called first. Not two at a time on a machine that no systemd manages: both
+would have its groups of processes.
+"""
+import pathlib
+import shutil
+import subprocess
+import sys
+from typing import Sequence
+
+sys.path.insert(1, str(pathlib.Path(__file__).resolve().parents[1] / "shared"))
+from places import TOP
+from roots import MIRROR, blocks_of, call, expect_well, made_package, make_base
+from script import expect, fresh_folder, options, verdict
+
+MORE = ("systemd", "systemd-sysv", "dbus", "python3", "sqlite3", "curl", "nginx-light")
+PARTS = ("units", "accidents")
+PAGE = "usr/share/doc/keyreg/docs/OPERATING.md"
+UNIT = """[Unit]
+Description=What is tried
+[Service]
+Type=oneshot
+TimeoutStartSec=infinity
+ExecStart=/bin/bash -c '/bin/bash /tried.sh @PARTS@ > /tried.log 2>&1; echo end >> /tried.log'
+ExecStart=/bin/systemctl poweroff --force
+"""
+SECONDS = 900
+
+
+def furnish(root: pathlib.Path, parts: Sequence[str]) -> None:
+    """The package in a root, whose systemd runs what is tried and then ends."""
+    shutil.copy(made_package(), root / "keyreg.deb")
+    expect_well(call("chroot", root, "dpkg", "--install", "/keyreg.deb"))
+    shutil.copy(TOP / "checks" / "package" / "in_systemd.sh", root / "tried.sh")
+    for heading, blocks in blocks_of(root / PAGE).items():
+        for place, lines in enumerate(blocks, 1):
+            target = root / "blocks" / heading / f"{place}.sh"
+            target.parent.mkdir(parents=True, exist_ok=True)
+            target.write_text("\n".join([*lines, ""]))
+    units = root / "etc/systemd/system"
+    (units / "tried.service").write_text(UNIT.replace("@PARTS@", " ".join(parts)))
+    (units / "multi-user.target.wants").mkdir(parents=True, exist_ok=True)
+    (units / "multi-user.target.wants/tried.service").symlink_to("../tried.service")
+
+
+def main() -> None:
+    given = options(__doc__, PARTS, base="", mirror=MIRROR)
+    expect(shutil.which("debootstrap") and shutil.which("systemd-nspawn"),
+           "not here: apt-get install debootstrap systemd-container")
+    with fresh_folder() as folder:
+        root = folder / "root"
+        make_base(root, given.base, given.mirror, MORE)
+        furnish(root, given.parts)
+        booted = subprocess.run(
+            ["systemd-nspawn", f"--directory={root}", "--boot", "--private-network", "--register=no", "--keep-unit",
+             "--quiet"],
+            stdin=subprocess.DEVNULL, stdout=subprocess.PIPE, stderr=subprocess.STDOUT, timeout=SECONDS, check=False)
+        log = (root / "tried.log").read_text() if (root / "tried.log").exists() else ""
+    print(log, end="")
+    lines = [line for line in log.splitlines() if line.startswith(("ok ", "FAILED "))]
+    # What failed stands in the log.
+    faults = sum(line.startswith("FAILED ") for line in lines)
+    if not log.endswith("end\n"):
+        print(f"systemd ended early: {booted.stdout.decode(errors='replace')[-1500:]}")
+        faults += 1
+    verdict(f"{len(lines)} things tried in a systemd that booted: {faults} failed", faults)
+
+
+main()

@@ -1,0 +1,67 @@
+"""A root with Debian's base, the package that goes into it, and the blocks of commands of a page."""
+import pathlib
+import re
+import subprocess
+import sys
+from typing import Any, Optional, Sequence
+
+from places import TOP
+from script import expect
+
+PACKAGES = TOP / "packages"
+MIRROR = "http://deb.debian.org/debian"
+
+
+def call(*words: Any, given: Optional[str] = None, **more: Any) -> subprocess.CompletedProcess:
+    words = tuple(map(str, words))
+    return subprocess.run(words, input=given, capture_output=True, text=True, check=False, **more)
+
+
+def expect_well(done: subprocess.CompletedProcess) -> None:
+    what = " ".join(done.args[:3])
+    expect(done.returncode == 0, f"{what}: status {done.returncode}, {done.stdout[-2000:]}{done.stderr[-2000:]}")
+
+
+def made_package() -> pathlib.Path:
+    """The package of Debian, made of the program."""
+    expect_well(call(TOP / "package"))
+    return next(PACKAGES.glob("*.deb"))
+
+
+def make_base(root: pathlib.Path, base: str, mirror: str, more: Sequence[str]) -> None:
+    """Debian's base with more packages in a root: a copy of a folder, or what debootstrap fetches."""
+    root.mkdir()
+    if base:
+        expect_well(call("cp", "-a", f"{base}/.", root))
+    else:
+        print("fetching Debian's base", file=sys.stderr)
+        expect_well(call("debootstrap", "--variant=minbase", f"--include={','.join(more)}", "bookworm", root, mirror))
+
+
+def anchor_of(heading: str) -> str:
+    """How a link names a heading."""
+    return re.sub(r"[^\w -]", "", heading.lstrip("# ").lower()).replace(" ", "-")
+
+
+def blocks_of(page: pathlib.Path) -> dict[str, list[list[str]]]:
+    """The blocks of commands of a page, fenced as `sh` or indented, by the names of their headings' links."""
+    by_heading: dict[str, list[list[str]]] = {}
+    heading, block, fence, before = "", list[str](), None, ""
+    for line in [*page.read_text("utf-8").split("\n"), ""]:
+        if line.startswith("```"):
+            if fence == "sh":
+                by_heading[heading].append(block)
+            fence, block = (line[3:], []) if fence is None else (None, [])
+        elif fence is not None:
+            block.append(line)
+        elif line.startswith("    ") and (block or not before):
+            block.append(line[4:])
+        else:
+            if block:
+                by_heading[heading].append(block)
+            block = []
+            if line.startswith("#"):
+                heading = anchor_of(line)
+                by_heading[heading] = []
+        before = line.strip()
+    return by_heading

@@ -1,0 +1,105 @@
+"""What the register of office/register_rules.py answers, by docs/SPECIFICATION.md: reply lines, the JSON of commands
+and keys, and the bytes of replies over HTTP. It shares nothing with the program."""
+import json
+from typing import Any, Optional
+
+from registers import STATES
+from register_rules import REFUSALS, Refused, Register, Request
+
+
+def reply_line(register: Register, *request: Any) -> str:
+    """The reply to a request, which is its moment, caller, number and command."""
+    try:
+        accepted = register.answer(Request(*request))
+        return f"ok {accepted.key_no} {STATES[accepted.state]} {accepted.moment}"
+    except Refused as refused:
+        return refused.line
+
+
+# ---- JSON
+
+MEMBERS = {
+    "register": ("type", "owner", "activation", "protect_stop", "deactivation", "purpose"),
+    "activate": ("key",), "approve": ("key",), "withdraw": ("key",), "destroy": ("key",),
+    "set": ("key", "activation", "protect_stop", "deactivation"),
+    "revoke": ("key", "reason", "occurrence"), "assign": ("key", "owner"),
+    "add-custodian": ("key", "name"), "remove-custodian": ("key", "name"), "advance": (),
+    "set-quorum": ("key", "need"), "set-period": ("type", "originator", "recipient"),
+}
+
+
+def request_object(command: tuple) -> dict[str, Any]:
+    """The JSON object of a command."""
+    word, *values = command
+    values = ["keep" if value == "=" else value for value in values]
+    return {"kind": word, **dict(zip(MEMBERS[word], values))}
+
+
+def shown(register: Register, number: int) -> dict[str, Any]:
+    """The JSON object of a key."""
+    key = register.keys[number]
+    return {
+        "activation": key.activation, "approvals": sorted(key.approvals), "compromised": key.compromised,
+        "custodians": sorted(key.custodians), "deactivation": key.end, "destroyed": key.destroyed,
+        "initial": key.initial, "need": key.need, "number": number, "occurrence": key.occurrence, "owner": key.owner,
+        "protect_stop": key.stop, "purpose": key.purpose, "state": STATES[key.state(register.latest)],
+        "type": key.kind,
+    }
+
+
+def usage(register: Register, number: int) -> dict[str, Any]:
+    key, latest = register.keys[number], register.latest
+    return {"process": key.processes(latest), "protect": key.protects(latest)}
+
+
+def compact(value: Any) -> bytes:
+    """The compact JSON of a value, members in order of their bytes."""
+    return json.dumps(value, sort_keys=True, separators=(",", ":"), ensure_ascii=False).encode()
+
+
+# ---- replies over HTTP
+
+PHRASES = {
+    200: "OK", 400: "Bad Request", 404: "Not Found", 405: "Method Not Allowed", 409: "Conflict", 411: "Length Required",
+    413: "Payload Too Large", 500: "Internal Server Error", 503: "Service Unavailable",
+}
+
+
+def reply(status: int, value: Any, allow: Optional[str] = None) -> bytes:
+    """The bytes of a reply."""
+    body = compact(value)
+    head = [f"HTTP/1.1 {status} {PHRASES[status]}", "Content-Type: application/json", f"Content-Length: {len(body)}"]
+    head += [f"Allow: {allow}"] if allow else []
+    return "\r\n".join([*head, "Connection: close", "", ""]).encode() + body
+
+
+def refusal_reply(number: int, **members: Any) -> bytes:
+    status = {1: 400, 4: 404}.get(number, 409)
+    return reply(status, {"name": REFUSALS[number - 1], "refused": number, **members})
+
+
+BAD, UNKNOWN = refusal_reply(1), refusal_reply(4)
+NO_ROUTE = reply(404, {"name": "NoRoute"})
+LENGTH_REQUIRED = reply(411, {"name": "LengthRequired"})
+TOO_LARGE = reply(413, {"name": "TooLarge"})
+STORE = reply(500, {"end": 31, "name": "Store"})
+MEMORY = reply(503, {"end": 30, "name": "Memory"})
+
+
+def not_allowed(method: str) -> bytes:
+    return reply(405, {"name": "MethodNotAllowed"}, method)
+
+
+def post_reply(register: Register, *request: Any) -> bytes:
+    try:
+        accepted = register.answer(Request(*request))
+    except Refused as refused:
+        return refusal_reply(refused.number, **refused.details)
+    state = STATES[accepted.state] if accepted.key_no else None
+    return reply(200, {"key": accepted.key_no, "moment": accepted.moment, "state": state})
+
+
+def get_reply(register: Register, number: int, of_usage: bool) -> bytes:
+    if number not in register.keys:
+        return UNKNOWN
+    return reply(200, usage(register, number) if of_usage else shown(register, number))

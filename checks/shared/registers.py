@@ -1,0 +1,196 @@
+"""What the checks over files share: runs of the program, and the tables of docs/SPECIFICATION.md."""
+import contextlib
+import os
+import shutil
+import sqlite3
+import subprocess
+from typing import Any, Iterable, Iterator, Optional, Sequence, Union
+
+from places import PROGRAM
+import register_rules
+from script import expect
+from worked_rows import worked_rows
+
+File = Union[str, os.PathLike]
+
+# The texts of the key types by their codes, and of the states; 0 stands where a reply names no state.
+TYPES = dict(enumerate(register_rules.TYPES, 1))
+STATES = dict(enumerate(register_rules.STATES))
+
+# A date that is not set.
+UNSET = register_rules.UNSET
+
+# The version of the tables.
+VERSION = 2
+
+# The columns of an export, in their order, each with its cell of a key of which no more is said; those that are dates;
+# and the columns of an import.
+EXPORT_COLUMNS = {
+    "number": "1", "type": "master", "owner": "bob", "activation": "", "protect_stop": "", "deactivation": "",
+    "state": "Active", "initial": "1970-01-01T00:01:40Z", "destroyed": "", "compromised": "", "occurrence": "",
+    "purpose": "spare"}
+EXPORT_DATES = ("activation", "protect_stop", "deactivation", "initial", "destroyed", "compromised", "occurrence")
+IMPORT_COLUMNS = ("type", "owner", "activation", "protect_stop", "deactivation", "purpose")
+
+# The tables that version 1 had, and those that version 2 added.
+FIRST_TABLES = """
+CREATE TABLE meta (id INTEGER PRIMARY KEY, version INTEGER NOT NULL, latest INTEGER NOT NULL,
+    key_count INTEGER NOT NULL) STRICT;
+CREATE TABLE keys (number INTEGER PRIMARY KEY, kind INTEGER NOT NULL, owner TEXT NOT NULL, purpose TEXT NOT NULL,
+    state INTEGER NOT NULL, initial INTEGER NOT NULL, activation INTEGER NOT NULL, protect_stop INTEGER NOT NULL,
+    deactivation INTEGER NOT NULL, destroyed INTEGER NOT NULL, compromised INTEGER NOT NULL,
+    occurrence INTEGER NOT NULL) STRICT;
+CREATE TABLE custodian (key_no INTEGER NOT NULL REFERENCES keys(number), name TEXT NOT NULL,
+    PRIMARY KEY (key_no, name)) STRICT;
+CREATE TABLE approval (key_no INTEGER NOT NULL, name TEXT NOT NULL, PRIMARY KEY (key_no, name),
+    FOREIGN KEY (key_no, name) REFERENCES custodian(key_no, name) ON DELETE CASCADE) STRICT;
+CREATE TABLE request (caller TEXT NOT NULL, number INTEGER NOT NULL, command TEXT NOT NULL,
+    key_no INTEGER NOT NULL, state INTEGER NOT NULL, moment INTEGER NOT NULL,
+    PRIMARY KEY (caller, number)) STRICT;
+"""
+TABLES = FIRST_TABLES + """
+CREATE TABLE period (kind INTEGER PRIMARY KEY, originator INTEGER NOT NULL, recipient INTEGER NOT NULL) STRICT;
+CREATE TABLE quorum (key_no INTEGER PRIMARY KEY REFERENCES keys(number), need INTEGER NOT NULL) STRICT;
+"""
+
+# The indexes of keys beside their primary key, which a new register has and an older one has not.
+INDEXES = """
+CREATE INDEX keys_by_activation ON keys (state, activation);
+CREATE INDEX keys_by_deactivation ON keys (state, deactivation);
+CREATE INDEX keys_by_protect_stop ON keys (state, protect_stop, number);
+"""
+
+# A worked row: each line with its reply.
+APPROVED_ANEW = list(zip(*worked_rows()["approved anew by one who was removed"][1:]))
+
+# Its rows, by the formats: type 7 is master, state 1 Pre-Active, 5 Destroyed, 6 Destroyed-Compromised; a compromise
+# without an occurrence gets the Initial Date.
+APPROVED_ANEW_ROWS = {
+    "meta": [(1, VERSION, 109, 1)],
+    "keys": [(1, 7, "bob", "spare", 6, 100, UNSET, UNSET, UNSET, 108, 109, 100)],
+    "custodian": [(1, "cat"), (1, "dan")],
+    "approval": [(1, "cat"), (1, "dan")],
+    "request": [
+        ("ann", 1, "register master bob - - - spare", 1, 1, 100),
+        ("bob", 1, "add-custodian 1 cat", 1, 1, 101),
+        ("bob", 2, "add-custodian 1 dan", 1, 1, 102),
+        ("bob", 3, "remove-custodian 1 dan", 1, 1, 105),
+        ("bob", 4, "add-custodian 1 dan", 1, 1, 106),
+        ("bob", 5, "destroy 1", 1, 5, 108),
+        ("cat", 1, "approve 1", 1, 1, 103),
+        ("dan", 1, "approve 1", 1, 1, 104),
+        ("dan", 2, "approve 1", 1, 1, 107),
+        ("zed", 1, "revoke 1 2 -", 1, 6, 109),
+    ],
+    "period": [],
+    "quorum": [],
+}
+
+
+def export_row(**cells: Any) -> list[str]:
+    """The row of a key in an export that has these cells, by the names of their columns, and else the usual ones."""
+    return [str(cell) for cell in {**EXPORT_COLUMNS, **cells}.values()]
+
+
+def run_program(words: Sequence[Any], given: Any = b"", **how: Any) -> subprocess.CompletedProcess:
+    """Runs the program to its end; given are bytes, or an open file."""
+    source = {"input": given} if isinstance(given, bytes) else {"stdin": given}
+    return subprocess.run([PROGRAM, *words], **{**source, "capture_output": True, "check": False, **how})
+
+
+def keyreg(words: Sequence[Any], lines: Iterable[str] = ()) -> list[str]:
+    """Runs the program over the lines, and gives what it writes, line by line, where it ends with status 0."""
+    done = run_program(words, "".join(line + "\n" for line in lines).encode())
+    expect(done.returncode == 0, f"{words}: status {done.returncode}, {done.stderr.decode(errors='replace').strip()}")
+    return done.stdout.decode().splitlines()
+
+
+def new_register(file: File, lines: Iterable[str] = ()) -> list[str]:
+    """Makes a register in a file, and gives the replies to the lines."""
+    keyreg(["init", "--file", file])
+    return keyreg(["run", "--file", file], lines) if lines else []
+
+
+def expect_replies(file: File, exchanges: Iterable[tuple[str, str]]) -> None:
+    """Holds the replies to lines over a file to those that stand beside them."""
+    lines, wanted = zip(*exchanges)
+    replies = keyreg(["run", "--file", file], lines)
+    expect(replies == list(wanted), f"{file}: replies {replies}, not {list(wanted)}")
+
+
+def answered_and_killed(file: File, lines: Sequence[str]) -> None:
+    """Runs the lines over the file, and kills the program once it has answered them: they stand in the log."""
+    with subprocess.Popen([PROGRAM, "run", "--file", file], stdin=subprocess.PIPE, stdout=subprocess.PIPE) as process:
+        process.stdin.write("".join(line + "\n" for line in lines).encode())
+        process.stdin.flush()
+        for _ in lines:
+            process.stdout.readline()
+        process.kill()
+
+
+def copy_files(file: Optional[File], other: File) -> File:
+    """Copies a file with its log, if there is one; nothing else is left by these names."""
+    for end in ("", "-wal"):
+        if file and os.path.exists(f"{file}{end}"):
+            shutil.copyfile(f"{file}{end}", f"{other}{end}")
+        elif os.path.exists(f"{other}{end}"):
+            os.remove(f"{other}{end}")
+    return other
+
+
+@contextlib.contextmanager
+def database(file: File) -> Iterator[sqlite3.Connection]:
+    """A file in SQLite's own library; what is written is committed in the end."""
+    with contextlib.closing(sqlite3.connect(file)) as connection, connection:
+        yield connection
+
+
+def all_rows(connection: sqlite3.Connection) -> dict[str, list[tuple]]:
+    """The rows of each table, in order."""
+    return {name: sorted(connection.execute(f"SELECT * FROM {name}")) for name in APPROVED_ANEW_ROWS}
+
+
+def columns_of(name: str) -> list[str]:
+    """The names of a table's columns, in its order."""
+    with contextlib.closing(sqlite3.connect(":memory:")) as connection:
+        connection.executescript(TABLES)
+        return [row[1] for row in connection.execute(f"PRAGMA table_info({name})")]
+
+
+def are_sound(connection: sqlite3.Connection) -> bool:
+    """Whether SQLite's own library finds nothing wrong in the file."""
+    return (connection.execute("PRAGMA integrity_check").fetchall() == [("ok",)]
+            and not connection.execute("PRAGMA foreign_key_check").fetchall())
+
+
+def put_rows(connection: sqlite3.Connection, name: str, rows: Iterable[tuple]) -> None:
+    """Puts the rows into the table, which may be none."""
+    for row in rows:
+        connection.execute(f"INSERT INTO {name} VALUES ({', '.join('?' * len(row))})", row)
+
+
+def table_rows(file: File) -> dict[str, list[tuple]]:
+    """The rows of each table of a file, in order."""
+    with database(file) as connection:
+        return all_rows(connection)
+
+
+def sound_rows(file: File) -> dict[str, list[tuple]]:
+    """The same of a file in which SQLite's own library finds nothing wrong."""
+    with database(file) as connection:
+        expect(are_sound(connection), f"SQLite finds {file} unsound")
+        return all_rows(connection)
+
+
+def write_register(file: File, latest: int, count: int, version: int = VERSION, more: str = INDEXES,
+                   **rows: Iterable[Any]) -> None:
+    """A register of so many keys at this moment that SQLite's own library writes, with these rows of its tables, and
+    with what more statements make."""
+    with database(file) as connection:
+        connection.executescript("PRAGMA synchronous = OFF; PRAGMA journal_mode = OFF;"
+                                 + (TABLES if version == VERSION else FIRST_TABLES))
+        for name, of_table in {"meta": [(1, version, latest, count)], **rows}.items():
+            cells = ", ".join("?" * len(columns_of(name)))
+            connection.executemany(f"INSERT INTO {name} VALUES ({cells})", of_table)
+        connection.commit()
+        connection.executescript(more)

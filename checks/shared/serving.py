@@ -1,0 +1,157 @@
+"""What the checks over HTTP share: `keyreg serve` over a file on a free port, raw exchanges with it, and its end.
+
+It needs Linux: that the port listens is read from /proc, since a connection made to try it would be served.
+"""
+import os
+import random
+import resource
+import signal
+import socket
+import subprocess
+import tempfile
+import time
+from typing import Iterable, Optional
+
+from answers import compact, request_object
+from places import PROGRAM
+from registers import keyreg, new_register
+from script import expect, in_memory
+
+# So long, in seconds, a start, a reply and an end may take.
+PATIENCE = 60
+LISTEN = "0A"
+# Ports that the system gives to no client by itself. Each process takes its own of them, so that two of them side by
+# side choose none twice.
+PORTS, SHARES = range(10_000, 32_000), 8
+
+
+def free_port() -> int:
+    ports = PORTS[os.getpid() % SHARES::SHARES]
+    for place in range(random.randrange(len(ports)), 2 * len(ports)):
+        with socket.socket() as chosen:
+            try:
+                chosen.bind(("127.0.0.1", ports[place % len(ports)]))
+                return chosen.getsockname()[1]
+            except OSError:
+                pass
+    return expect(False, "no port is free")
+
+
+def listens(port: int) -> bool:
+    """Whether a socket on 127.0.0.1 listens at the port. Those that listen stand before all others."""
+    with open("/proc/net/tcp", encoding="ascii") as sockets:
+        next(sockets)
+        for row in map(str.split, sockets):
+            if row[3] != LISTEN:
+                return False
+            if row[1] == f"0100007F:{port:04X}":
+                return True
+    return False
+
+
+def received(connection: socket.socket) -> bytes:
+    """All that comes up to the end. A reset ends it too: the program closes a connection whose last bytes it did not
+    read."""
+    pieces = []
+    try:
+        while piece := connection.recv(65536):
+            pieces.append(piece)
+    except ConnectionResetError:
+        pass
+    return b"".join(pieces)
+
+
+class Served:
+    """A served register: a new one in a folder of its own, with what the lines make of it, or that of a given file."""
+
+    def __init__(self, exchanges: int = 1_000_000, lines: Iterable[str] = (), file: Optional[str] = None,
+                 file_limit: Optional[int] = None, environment: Optional[dict[str, str]] = None) -> None:
+        self.folder = None if file else tempfile.TemporaryDirectory(dir=in_memory(2**24))
+        self.file = file or os.path.join(self.folder.name, "office.keyreg")
+        self.replies = keyreg(["run", "--file", file], lines) if file and lines else []
+        if not file:
+            self.replies = new_register(self.file, lines)
+        self.port = free_port()
+        words = [PROGRAM, "serve", "--file", self.file, "--port", str(self.port), "--exchanges", str(exchanges)]
+
+        def limited() -> None:
+            if file_limit:
+                signal.signal(signal.SIGXFSZ, signal.SIG_IGN)
+                resource.setrlimit(resource.RLIMIT_FSIZE, (file_limit, file_limit))
+
+        self.process = subprocess.Popen(words, stdin=subprocess.DEVNULL, stdout=subprocess.PIPE,
+                                        stderr=subprocess.PIPE, preexec_fn=limited, env=environment)
+        late = time.monotonic() + PATIENCE
+        while not listens(self.port):
+            if self.has_ended():
+                expect(False, f"serve ended with status {self.process.returncode}: {self.process.stderr.read()}")
+            expect(time.monotonic() < late, f"nothing listens at port {self.port}")
+            time.sleep(0.002)
+
+    def connected(self, patience: float = PATIENCE) -> socket.socket:
+        return socket.create_connection(("127.0.0.1", self.port), timeout=patience)
+
+    def raw(self, request: bytes, ends: bool = True, pieces: Optional[int] = None) -> bytes:
+        """The reply to these bytes, sent at once or in pieces of so many; then the input ends, where it does."""
+        with self.connected() as connection:
+            connection.setsockopt(socket.IPPROTO_TCP, socket.TCP_NODELAY, 1)
+            step = pieces or max(len(request), 1)
+            try:
+                for place in range(0, len(request), step):
+                    connection.sendall(request[place:place + step])
+                if ends:
+                    connection.shutdown(socket.SHUT_WR)
+            except OSError:
+                pass
+            return received(connection)
+
+    def has_ended(self) -> bool:
+        return self.process.poll() is not None
+
+    def ended(self, status: int = 0, error: bytes = b"") -> Optional[str]:
+        """Waits for the program's own end: what is another one than that with this status and these bytes on standard
+        error, or None."""
+        try:
+            output, written = self.process.communicate(timeout=PATIENCE)
+        except subprocess.TimeoutExpired:
+            return "serve did not end"
+        end, wanted = (self.process.returncode, output, written), (status, b"", error)
+        return None if end == wanted else f"serve ended with {end}, not {wanted}"
+
+    def kill(self) -> None:
+        self.process.kill()
+        self.process.wait()
+
+    def close(self) -> None:
+        if not self.has_ended():
+            self.kill()
+        for stream in (self.process.stdout, self.process.stderr):
+            stream.close()
+        if self.folder:
+            self.folder.cleanup()
+
+    def __enter__(self) -> "Served":
+        return self
+
+    def __exit__(self, *_: object) -> None:
+        self.close()
+
+
+# ---- bytes of requests
+
+
+def head(first: str, *fields: str) -> bytes:
+    return "\r\n".join([first, *fields, "", ""]).encode()
+
+
+def get(path: str, *fields: str) -> bytes:
+    return head(f"GET {path} HTTP/1.1", "Host: localhost", *fields)
+
+
+def post_command(caller: str, number: int, command: tuple) -> bytes:
+    return post(compact(request_object(command)), f"Caller: {caller}", f"Request-Number: {number}")
+
+
+def post(body: bytes, *fields: str, length: Optional[int] = None) -> bytes:
+    length = len(body) if length is None else length
+    return head("POST /requests HTTP/1.1", "Host: localhost", *fields, f"Content-Length: {length}") + body

@@ -1,0 +1,221 @@
+#!/usr/bin/env python3
+"""The recipes of docs/RECIPES.md name what is there, and all that has to change.
+
+    checks/sources/recipes.py
+
+A recipe is a section that begins with "Add". Each file, folder and item that it names is there. A path that does not
+begin at the top is one of the crates that the section named, the last of them first. An item is looked for by its last
+part in the files that its step names, then in those crates, or in all where none is named.
+
+The other way: KINDS has for each recipe one thing that was added so. Each file that mentions it is named by the recipe,
+or by one that it sends on to, or it stands there with the reason why it is left. Proofs are left: a red one leads
+there.
+"""
+import fnmatch
+import os
+import pathlib
+import re
+import sys
+from typing import Iterator, NamedTuple
+
+sys.path.insert(1, str(pathlib.Path(__file__).resolve().parents[1] / "shared"))
+from places import TOP, read
+from script import options, verdict
+
+CRATES = {path.name: path for path in (TOP / "crates").iterdir()}
+QUOTED = re.compile(r"`([^`]+)`")
+PATH = re.compile(r"[\w./-]+\.(rt|antt|md|py|sh|txt|tsv|sql|js|conf|bash|zsh|fish)|\./\w+")
+FOLDER = re.compile(r"\w+(/\w+)*/|\w+(/\w+)+")
+ITEM = re.compile(r"[A-Za-z_][\w:]*(\(\))?")
+DOCUMENT = re.compile(r"\bdocs/[\w.]*\w|\bREADME\b")
+LINK = re.compile(r"\(#([\w-]+)\)")
+SUFFIXES = (".rt", ".antt", ".edit")
+# The folders that a build, a package and Python make.
+MADE = ("out", "packages", "__pycache__")
+INNER = ("", "src", "src/tests", "proofs", "specs", "must-fail", "more-must-fail")
+
+
+class Kind(NamedTuple):
+    """A thing that was added: words by which files mention it, the files that are left, where its recipe sends on."""
+    recipe: str
+    words: str
+    left: dict[str, str]
+    others: tuple[str, ...] = ()
+
+
+# Whatever is added.
+ALWAYS = {
+    "the recipes": "docs/RECIPES.md checks/sources/recipes.py",
+    "the page that checks/sources/theorem.py makes": "docs/DEFINITIONS.md",
+    "proofs, of which a red one leads there": "crates/*/proofs/*",
+    "wrong bodies, of which rt and wrong_bodies.py name those whose lines changed": "crates/*/*must-fail/*",
+}
+KINDS = (
+    Kind("Add a command", r"\b[Ww]ithdraw\b", {
+        "its refusal NoApproval": "*/CustodyRefusal.antt crates/register_core/src/decision.rt",
+        "a day or a year of an office": "docs/AUDIT.md samples/year.txt checks/sqlite/version_1.sql",
+        "what they look at beside the day": "checks/program/power_cuts.py checks/program/want_of_memory.py "
+                                            "checks/program/large_office.py checks/program/exchanges_by_curl.py",
+    }),
+    Kind("Add a command", r"\b(Activate|Assign|AddCustodian|Approve)\b", {
+        "they stand for their shapes": "*/Within/Fields.antt",
+        "their refusals": "*/CustodyRefusal.antt crates/register_core/src/decision.rt",
+        "any command would do": "docs/COSTS.md checks/desk/keyboard.py",
+    }),
+    Kind("Add a shape of fields", r"\bTypeAndPeriod\b|type_and_period|\bDateEdits\b", {
+        "the kinds that have it": "*/command_fields.rt",
+    }),
+    Kind("Add a refusal", r"\bNoApproval\b|Refusal::ApprovalsMissing|\(ApprovalsMissing ", {}),
+    Kind("Add a route", r"ShowUsage|Route(Pattern)?::Usage|Show, Usage|/usage\b|\busage_(text|reply|data|value|row)", {
+        "one look-up stands for others": "crates/test_fault_trials/src/lent.rt",
+    }),
+    Kind("Add a table", r"TableName::Quorum|TheVariants\.\{[^}]*\bQuorum\}|"
+                        r"\b(FROM|INTO|TABLE|UPDATE) (\w+\.)?quorum\b|\"quorum\"", {
+        "a key's JSON has the need": "bench/exchanges.py",
+        "one name stands for others": "checks/program/words.py",
+    }, ("Add a version of the tables",)),
+    Kind("Add a column", r"\boccurrence (INTEGER|= \?)|compromised\W+occurrence\b|\bcompromise_occurrence\b", {
+        "the date, which commands set": "crates/*_core/* crates/test_plain_register/* crates/test_core/*",
+        "tables of version 1": "*/migrations.rt",
+    }, ("Add a column to the export",)),
+    Kind("Add a column to the export",
+         r"compromised\W+occurrence\W+purpose|\"occurrence\"(, \"\"\)|: (date|moment)_text|\) \(λ d)", {}),
+    Kind("Add a command about no key", r"\bSetPeriod\b|set-period|\bset_period\b|\bPeriodSet\b", {
+        "a day or a year of an office": "docs/AUDIT.md samples/office.txt samples/year.txt",
+        "what a period means for keys": "*/register_core/src/laws.rt */exports.rt */test_desk_trials/src/desks.rt "
+                                        "bench/tables.py checks/program/rules_tried.py",
+        "who the office is": "checks/office/behind_nginx.py checks/office/client_tried.py",
+        "what they look at beside the day": "checks/program/want_of_memory.py checks/program/large_office.py "
+                                            "checks/program/mutated.py checks/program/exchanges_by_curl.py",
+        "it stands for its shape": "*/Within/Fields.antt",
+        "what comes of one that is left out": "docs/OPERATING.md",
+        "what version 1 has not": "checks/office/rebuild_tried.py",
+        "it came with version 2": "*/migrations.rt checks/sqlite/by_sqlite3.py",
+    }, ("Add a command", "Add a shape of fields", "Add a table")),
+    Kind("Add a command of the program", r"Task::Report|\breport_file\b|keyreg report|\[\"report\"|\"report\":|"
+                                         r"\n +report\)|from report'", {
+        "they ask for a report": "checks/office/audit_views.py checks/sqlite/copied_while_served.py "
+                                 "checks/office/advance_tried.py checks/package/in_systemd.sh "
+                                 "checks/program/full_register.py checks/office/replay_tried.py "
+                                 "checks/office/rebuild_tried.py docs/CHECKS.md "
+                                 "office/units/keyreg.service bench/tables.py",
+    }),
+    Kind("Add a crate", r"\bregister_report\b", {
+        "its own": "crates/register_report/*",
+        "what names it": "crates/*_trials/* crates/register_program/*",
+        "a law with its crate": "docs/PROMISES.md",
+    }),
+    Kind("Add a version of the tables",
+         r"Version::Second|Version\.TheVariants\.\{[^}]*Second|first_version|\bmigrate\b|\bversion_1\b",
+         {"it copies the file": "checks/shared/document_commands.py packaging/pages.py",
+          "it says where things stand": "checks/shared/places.py"}),
+    Kind("Add a test", r"\btable_wrongly_imported\b", {"its module": "*/imports.rt"}),
+)
+
+
+class Step(NamedTuple):
+    """What a step names: crates, files and folders with the place where each is, and items."""
+    crates: list[pathlib.Path]
+    paths: dict[str, pathlib.Path | None]
+    items: list[str]
+
+
+Recipes = dict[str, tuple[list[Step], list[str]]]
+
+
+def place_of(path: str, crates: list[pathlib.Path]) -> pathlib.Path | None:
+    """Where a path leads, from the top or from one of the crates."""
+    under = [TOP] + [crate / inner for crate in crates for inner in INNER]
+    return next((place / path for place in under if (place / path).exists()), None)
+
+
+def recipes(text: str) -> Iterator[tuple[str, tuple[list[Step], list[str]]]]:
+    """The title of each recipe, with its steps and the anchors that it links to."""
+    for section in re.split(r"^## ", text, flags=re.M)[1:]:
+        title, body = section.split("\n", 1)
+        if title.startswith("Add "):
+            body = re.sub(r"```.*?```", "", body, flags=re.S)
+            yield title, (list(steps(re.split(r"\n(?=\d+\. |\n)", body))), LINK.findall(body))
+
+
+def crate_of(quoted: str) -> pathlib.Path | None:
+    """The crate that a name or a path from the top names."""
+    name = re.sub(r"^crates/", "", quoted).split("/")[0]
+    return CRATES.get(name) if quoted in CRATES or quoted.startswith("crates/") else None
+
+
+def steps(texts: list[str]) -> Iterator[Step]:
+    crates: list[pathlib.Path] = []
+    for text in texts:
+        quoted = QUOTED.findall(text)
+        for crate in filter(None, map(crate_of, quoted)):
+            crates = [crate] + [other for other in crates if other != crate]
+        documents = [name.replace("README", "README.md") for name in DOCUMENT.findall(text)]
+        paths = [name for name in quoted if PATH.fullmatch(name) or FOLDER.fullmatch(name)] + documents
+        items = [name for name in quoted if ITEM.fullmatch(name) and name not in CRATES]
+        yield Step(crates, {path: place_of(path, crates) for path in paths}, items)
+
+
+def holds(word: str, step: Step) -> bool:
+    """Whether the item stands in a file of the step, or in one of its crates, also as the name of a file of theirs."""
+    last = re.compile(rf"\b{re.sub(r'[()]', '', word).split('::')[-1]}\b")
+    named = [place for path, place in step.paths.items() if place and not DOCUMENT.match(path)]
+    if any(last.search(place.read_text()) for place in named if place.is_file()):
+        return True
+    inner = (path for crate in step.crates or CRATES.values() for path in crate.rglob("*")
+             if path.suffix in SUFFIXES and "out" not in path.parts)
+    return any(last.search(path.name) or last.search(path.read_text()) for path in inner)
+
+
+def names(step: Step, path: str) -> bool:
+    """Whether the step names this file of the repository, or a folder that it lies in."""
+    file = TOP / path
+    named = [place for place in step.paths.values() if place not in CRATES.values()]
+    return any(place in (file, *file.parents) for place in named)
+
+
+def one_way(all_recipes: Recipes) -> tuple[list[str], int, int]:
+    """What recipes name that is gone, with how many files and items they name."""
+    named = [(title, step) for title, (own, _) in all_recipes.items() for step in own]
+    gone = [f"{title}: no file {path}" for title, step in named for path, place in step.paths.items() if not place]
+    gone += [f"{title}: no {word}" for title, step in named for word in step.items if not holds(word, step)]
+    return gone, sum(len(step.paths) for _, step in named), sum(len(step.items) for _, step in named)
+
+
+def sources() -> Iterator[str]:
+    """The files of the repository, without pictures and what a build, a package or Python makes."""
+    for folder, inner, files in os.walk(TOP):
+        inner[:] = [name for name in inner if name not in MADE and not name.startswith(".")]
+        yield from (str(pathlib.Path(folder, name).relative_to(TOP)) for name in files
+                    if ".keyreg" not in name and not name.endswith(".png"))
+
+
+def other_way(all_recipes: Recipes) -> tuple[list[str], int]:
+    """Which files mention what was added and are not named, or are left and do not mention it; how many mention it."""
+    texts = {path: (TOP / path).read_text() for path in sources()}
+    faults, count = list[str](), 0
+    for kind in KINDS:
+        own, links = all_recipes.get(kind.recipe, ([], []))
+        sent = [title for title in kind.others if title.lower().replace(" ", "-") in links]
+        all_steps = own + [step for title in sent for step in all_recipes[title][0]]
+        mention = [path for path, text in texts.items() if re.search(kind.words, text)]
+        left = " ".join(kind.left.values()).split()
+        reasons = left + " ".join(ALWAYS.values()).split()
+        unsaid = [path for path in mention if not any(fnmatch.fnmatch(path, glob) for glob in reasons)]
+        faults += [f"{kind.recipe}: {path} is not named" for path in unsaid
+                   if not any(names(step, path) for step in all_steps)]
+        faults += [f"{kind.recipe}: {glob} does not mention it" for glob in left if not fnmatch.filter(mention, glob)]
+        count += len(mention)
+    return faults, count
+
+
+def main() -> None:
+    options(__doc__)
+    all_recipes = dict(recipes(read("docs/RECIPES.md")))
+    gone, paths, items = one_way(all_recipes)
+    faults, count = other_way(all_recipes)
+    verdict(f"{paths} files and {items} items named, {len(gone)} gone; {count} mentions of {len(KINDS)} things, "
+            f"{len(faults)} faults", gone + faults)
+
+
+main()

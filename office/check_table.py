@@ -1,0 +1,317 @@
+#!/usr/bin/env python3
+"""Tells what a spreadsheet did to a table before it is imported.
+
+    office/check_table.py TABLE --export EXPORT [--copy COPY --caller NAME]
+
+TABLE is the CSV that is about to be imported, EXPORT what `keyreg export` wrote of the keys that it came from. A row
+of TABLE is found again among the keys where each of its fields is the key's, or is what a spreadsheet may have made of
+it:
+
+    a number     0042 becomes 42, 1e5 100000, 3.10 3.1, .5 0.5, and 20 digits become 15
+    a date       2026-02-01T00:00:00Z becomes 2026-02-01 00:00:00 or 02/01/26, and 3-4 the fourth of March
+    a formula    =1+1 becomes 2, and =A1 another cell's text or an error
+    a truth      true becomes TRUE
+    other bytes  Schlüssel becomes SchlÃ¼ssel or Schl?ssel
+    other marks  quotes, dashes and dots that were typed become typographic ones, and spaces at the ends go
+
+Each such field is printed, with its row (the first after the header row is 1) and its key. So are rows that are keys
+already, whose import makes a second key: type, owner, purpose and each date that the row gives are the key's, and of a
+row without dates the key is in use. So are rows that ask for the same key as a row before them, and rows that the
+register would refuse for their form. register_rules.py has to stand beside it. With a copy of the register
+(docs/AUDIT.md takes one) it prints the first number that the caller's next import may take. The last line is the
+verdict. The status is 0 where every row is new and would be a request, 1 where not, 2 where a file cannot be read.
+"""
+import argparse
+import collections
+import contextlib
+import csv
+import decimal
+import functools
+import io
+import itertools
+import os
+import pathlib
+import re
+import shutil
+import sqlite3
+import sys
+import tempfile
+from datetime import datetime
+
+# What is read from beside this file leaves none there.
+sys.dont_write_bytecode = True
+from register_rules import PERIODS, Refused, fitted, moment_of
+
+COLUMNS = "type owner activation protect_stop deactivation purpose".split()
+DATES = COLUMNS[2:5]
+WORDS = ("type", "owner", "purpose")
+IN_USE = ("Pre-Active", "Active")
+NAME = re.compile("[A-Za-z0-9._@-]{1,64}")
+MOMENT = re.compile(r"\d{4}-\d\d-\d\dT\d\d:\d\d:\d\dZ")
+CONTROL = re.compile("[\0-\x1f\x7f]")
+GREATEST_NUMBER = 9007199254740991
+FORMULA = "taken for a formula, and this is its result"
+# How spreadsheets write dates, the least ambiguous first.
+FORMS = ["%Y-%m-%d", "%Y/%m/%d", "%d.%m.%Y", "%d.%m.%y", "%m/%d/%Y", "%m/%d/%y", "%d/%m/%Y", "%d/%m/%y", "%d-%m-%Y",
+         "%d-%b", "%b-%d", "%d-%b-%y", "%d-%b-%Y", "%d %b %Y", "%m-%d", "%d-%m"]
+CLOCKS = ["", " %H:%M:%S", " %H:%M", " %I:%M:%S %p", " %I:%M %p"]
+# The forms that a text can have, by what is left of it where numbers and words are alike.
+SHAPED = collections.defaultdict(list)
+for form, clock in itertools.product(FORMS, CLOCKS):
+    SHAPED[re.sub("%[bp]", "a", re.sub("%[YymdHIMS]", "0", form + clock))].append(form + clock)
+MARKS = str.maketrans({"“": '"', "”": '"', "„": '"', "‘": "'", "’": "'", "–": "-", "—": "-", "…": "..."})
+
+
+class Unreadable(Exception):
+    """A file that is no table, or no register."""
+
+
+# ---- what a spreadsheet may have made of a text
+
+@functools.lru_cache(maxsize=None)
+def number_of(text):
+    """The number that a spreadsheet takes the text for, with the 15 digits that it keeps, or None."""
+    if not re.fullmatch(r"[+-]?(\d+\.?\d*|\.\d+)([eE][+-]?\d{1,3})?", text):
+        return None
+    return decimal.Context(prec=15).create_decimal(text).normalize()
+
+
+def is_close(one, other):
+    """Whether the numbers agree to the digits that are left of the shorter one."""
+    digits = max(min(len(one.as_tuple().digits), len(other.as_tuple().digits)), 6)
+    context = decimal.Context(prec=digits)
+    return context.plus(one).normalize() == context.plus(other).normalize()
+
+
+@functools.lru_cache(maxsize=None)
+def days_of(text):
+    """Each day that the text may stand for, as month and day, in one form or another; the year may be gone."""
+    plain, days = " ".join(re.sub(r"[TZ]", " ", text).split()), set()
+    for form in SHAPED.get(re.sub(r"[^\W\d_]+", "a", re.sub(r"\d+", "0", plain)), ()):
+        with contextlib.suppress(ValueError):
+            # A day without a year is one of a leap year.
+            if "%y" not in form.lower():
+                day = datetime.strptime(f"2000 {plain}", f"%Y {form}")
+            else:
+                day = datetime.strptime(plain, form)
+            days.add((day.month, day.day))
+    return days
+
+
+def other_bytes(text):
+    """What the text becomes where its UTF-8 is read as another code, or written in one that lacks its letters."""
+    raw = text.encode(errors="replace")
+    yield from (raw.decode(code, errors="replace") for code in ("cp1252", "latin-1", "mac-roman"))
+    yield from (text.encode(code, errors="replace").decode(code) for code in ("ascii", "latin-1", "cp1252"))
+    yield re.sub("[^\0-\x7f]", "\ufffd", text)
+
+
+def became(was, now):
+    """How a spreadsheet made the one text of the other; an empty text where it is no way that is known here."""
+    if was[:1] in ("=", "+", "-", "@") and number_of(was) is None:
+        return FORMULA
+    one, other = number_of(was), number_of(now)
+    if one is not None and other is not None and is_close(one, other):
+        return "taken for a number, and written in another form"
+    if not was.isascii() and now in other_bytes(was):
+        return "its bytes were read or written in another code than UTF-8"
+    if was.upper() == now.upper() and was.upper() in ("TRUE", "FALSE"):
+        return "taken for a truth value"
+    if now.translate(MARKS).strip() == was.translate(MARKS).strip() and now != was:
+        return "its marks or spaces were put right"
+    if any(letter.isdigit() for letter in was) and days_of(was) & days_of(now):
+        return "taken for a date, and written in another form"
+    return ""
+
+
+# ---- the tables
+
+def rows_of(path, columns):
+    """The rows of a CSV with at least these columns, each as a dictionary."""
+    try:
+        raw = pathlib.Path(path).read_bytes()
+        text = raw.decode("utf-8")
+    except OSError as fault:
+        raise Unreadable(f"{path}: {fault.strerror}") from None
+    except UnicodeDecodeError:
+        code = "UTF-16" if raw[:2] in (b"\xff\xfe", b"\xfe\xff") else "another code, as Latin-1"
+        raise Unreadable(f"{path}: it is no UTF-8, but {code}: save it as UTF-8") from None
+    if text.startswith("\ufeff"):
+        raise Unreadable(f"{path}: it begins with a byte order mark: save it without")
+    records = [record for record in csv.reader(io.StringIO(text, newline="")) if record]
+    header = records[0] if records else []
+    if not set(columns) <= set(header):
+        fault = "its fields are parted by `;`" if ";" in "".join(header) else f"its header row is {','.join(header)!r}"
+        raise Unreadable(f"{path}: {fault}, and should have {','.join(columns)}")
+    return [dict(zip(header, record)) if len(record) == len(header) else None for record in records[1:]]
+
+
+def refusals(row):
+    """Why the register would refuse the row for its form."""
+    if row is None:
+        yield "it has another number of fields than the header row"
+        return
+    if row["type"] not in PERIODS:
+        yield f"type is {row['type']!r}, which is none of the seven"
+    if not NAME.fullmatch(row["owner"]):
+        yield f"owner is {row['owner']!r}, which is no name"
+    for column in DATES:
+        if row[column] and not MOMENT.fullmatch(row[column]):
+            yield f"{column} is {row[column]!r}, and not YYYY-MM-DDTHH:MM:SSZ"
+    purpose = row["purpose"]
+    if not 1 <= len(purpose.encode()) <= 200 or purpose != purpose.strip(" ") or CONTROL.search(purpose):
+        yield f"purpose is {purpose[:60]!r}, which is empty, too long, or has a space at an end or a control character"
+
+
+class Keys:
+    """The keys of an export, which find a row again."""
+
+    def __init__(self, keys):
+        self.keys, self.by_field, self.by_words = keys, collections.defaultdict(list), collections.defaultdict(list)
+        for place, key in enumerate(keys):
+            for date in {"", *(key[column] for column in DATES)}:
+                self.by_words[(*(key[column] for column in WORDS), date)].append(place)
+            for column in COLUMNS[1:]:
+                for form in self.forms(key[column]):
+                    self.by_field[column, form].append(place)
+        self.taken = set()
+
+    @staticmethod
+    def forms(text):
+        number = number_of(text)
+        return {text} | ({decimal.Context(prec=6).plus(number).normalize()} if number is not None else set())
+
+    def made(self, row):
+        """The key that the row may have made already, or None: each date that it gives is the key's."""
+        given = [column for column in DATES if row[column]]
+        first = row[given[0]] if given else ""
+        for place in self.by_words.get((*(row[column] for column in WORDS), first), ()):
+            key = self.keys[place]
+            is_it = all(row[column] == key[column] for column in given)
+            if is_it and (given or key.get("state", "Active") in IN_USE):
+                self.taken.add(place)
+                return key
+        return None
+
+    def likely(self, row, place):
+        """The keys that the row may have come from: that at its own place, and those that share most fields with it."""
+        if place < len(self.keys):
+            yield place
+        shared = collections.Counter()
+        for column in COLUMNS[1:]:
+            for form in self.forms(row[column]):
+                places = self.by_field[column, form] if row[column] else []
+                shared.update(places if len(places) <= MOST_LIKE else [])
+        yield from (other for other, _ in shared.most_common(MOST_LIKE) if other != place)
+
+    def changed(self, row, place):
+        """The key that the row came from, with what became of its fields; that at its own place is asked first."""
+        best = None
+        for other in self.likely(row, place):
+            key = self.keys[other]
+            differs = [column for column in COLUMNS if row[column] != key[column]]
+            # A formula may have become anything, and a key that was found for another row is a worse one.
+            least = (0, other in self.taken, len(differs), other != place)
+            if len(differs) >= len(COLUMNS) - 1 or best and least >= best[0]:
+                continue
+            changes = {}
+            for column in differs:
+                changes[column] = became(key[column], row[column])
+                if not changes[column]:
+                    break
+            else:
+                rank = (list(changes.values()).count(FORMULA), *least[1:])
+                best = (rank, other, changes) if best is None or rank < best[0] else best
+                # Of no key less differs: one that has all fields was looked for before.
+                if rank <= (0, False, 1, False):
+                    break
+        if best is None:
+            return None, {}
+        self.taken.add(best[1])
+        return self.keys[best[1]], best[2]
+
+
+# So many keys that share a field with a row are compared with it.
+MOST_LIKE = 50
+
+
+def asked_for(row):
+    """The key that a row of the right form asks for: its words, and the dates that it gives or that a period gives."""
+    dates = [moment_of(row[column]) if row[column] else None for column in DATES]
+    with contextlib.suppress(Refused):
+        dates = list(fitted(dates, PERIODS[row["type"]], False).values())
+    return (*(row[column] for column in WORDS), *dates)
+
+
+SORTS = ("changed by a spreadsheet", "there already", "repeated", "of another form", "new")
+
+
+def looked_at(rows, keys):
+    """A line for each thing to tell of the rows, and how many rows are of each sort."""
+    counts, before = collections.Counter(), {}
+    for place, row in enumerate(rows):
+        key = keys.made(row) if row else None
+        if key:
+            counts["there already"] += 1
+            yield f"row {place + 1}: it is key {key['number']} already, and its import makes a second one"
+            continue
+        first = place if row is None or list(refusals(row)) else before.setdefault(asked_for(row), place)
+        if first != place:
+            counts["repeated"] += 1
+            yield f"row {place + 1}: it is row {first + 1} again, and its import makes a second key"
+            continue
+        key, changes = keys.changed(row, place) if row else (None, {})
+        for column, how in changes.items():
+            yield f"row {place + 1} (key {key['number']}): {column} was {key[column]!r} and is {row[column]!r}: {how}"
+        others = [why for why in refusals(row) if why.split(" ")[0] not in changes]
+        for why in others:
+            yield f"row {place + 1}: {why}"
+        counts["changed by a spreadsheet" if changes else "of another form" if others else "new"] += 1
+    yield counts["new"] == len(rows), ", ".join(f"{counts[sort]} {sort}" for sort in SORTS)
+
+
+def next_first(path, caller):
+    """The greatest number of the caller's accepted requests, by a copy of the copy."""
+    with tempfile.TemporaryDirectory() as folder:
+        other = pathlib.Path(folder, "copy")
+        try:
+            for end in ("", "-wal"):
+                if not end or os.path.exists(path + end):
+                    shutil.copyfile(path + end, f"{other}{end}")
+            with contextlib.closing(sqlite3.connect(other.as_uri() + "?mode=ro", uri=True)) as connection:
+                asked = "SELECT max(number) FROM request WHERE caller = ?"
+                return connection.execute(asked, [caller]).fetchone()[0] or 0
+        except (OSError, sqlite3.Error) as fault:
+            raise Unreadable(f"{path}: {fault}") from None
+
+
+def main():
+    words = argparse.ArgumentParser(description="Tells what a spreadsheet did to a table before it is imported.")
+    words.add_argument("table")
+    words.add_argument("--export", required=True)
+    words.add_argument("--copy")
+    words.add_argument("--caller")
+    words = words.parse_args()
+    if (words.copy is None) != (words.caller is None):
+        sys.exit("--copy and --caller are given together")
+    try:
+        keys = Keys([key for key in rows_of(words.export, ["number", *COLUMNS]) if key])
+        rows = rows_of(words.table, COLUMNS)
+        for line in looked_at(rows, keys):
+            if isinstance(line, str):
+                print(line, flush=True)
+        is_new, counts = line
+        if words.copy:
+            last = next_first(words.copy, words.caller)
+            has_room = last + len(rows) <= GREATEST_NUMBER
+            first = f"--first {last + 1}" if has_room else "none above: take one that is free"
+            print(f"the next first number of {words.caller}: {first}")
+    except Unreadable as fault:
+        print(fault)
+        return 2
+    print(f"{words.table}: {len(rows)} rows: {counts}")
+    return 0 if is_new else 1
+
+
+if __name__ == "__main__":
+    sys.exit(main())

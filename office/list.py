@@ -1,0 +1,214 @@
+#!/usr/bin/env python3
+"""Makes the list that the desk in the browser finds keys by: what a page cannot ask keyreg.
+
+    office/list.py REGISTER LIST [--most KEYS] [--requests COUNT]
+
+REGISTER is a register's file with its log REGISTER-wal beside it, and may be served meanwhile: a copy of both is taken
+and read, again where the log went into the database in between. Neither is written to. LIST is a file of JSON, which is
+moved into place whole: whoever reads it meanwhile reads the one before. Its owner and its group may read it, and nobody
+else; a folder with the setgid bit gives it the folder's group. The last line is the verdict. The status is 0 where the
+list was made, 2 where REGISTER cannot be read as a register, 3 where LIST cannot be written; then the list of before
+stays.
+
+The list has these members:
+
+    form      1
+    made      the clock's second before the copy was begun
+    latest    the latest accepted moment
+    count     how many keys there are
+    periods   of each type whose period was set, its originator and its recipient months
+    names     the names of owners, custodians and callers; others have them by their places here, from 0
+    types     the seven types; keys have them by their places here
+    keys      a column for each member of a key that `GET /keys/<key>` has, but `number` and `state`, and `requests`.
+              The n-th cell of each is key n's. `requests` has of each key its last requests, the oldest first: three
+              cells for each, its moment, its caller and its command's text without the key and, of a registration,
+              without the rest
+
+A register of more keys than --most, which is 100,000, has null as its `keys`: a page that is to hold more takes long.
+The columns are made as bytes, row by row, so that little more than the list itself is held.
+"""
+import argparse
+import collections
+import contextlib
+import itertools
+import json
+import operator
+import os
+import sqlite3
+import sys
+import tempfile
+import time
+
+# What is read from beside this file leaves none there.
+sys.dont_write_bytecode = True
+from register_rules import TYPES, UNSET, text_of
+from replay import Unreadable, columns_of, opened, row_place
+
+# How often a copy is begun anew of a register that is written to meanwhile.
+TRIES = 50
+DATES = ("activation", "protect_stop", "deactivation", "destroyed", "compromised", "occurrence")
+# After each key.
+END = (float("inf"), "")
+COLUMNS = ("type", "owner", "purpose", "initial", *DATES, "need", "custodians", "approvals", "requests")
+
+
+json_text = json.JSONEncoder(ensure_ascii=False).encode
+
+
+def as_bytes(text):
+    """The bytes of a text of JSON. What is no UTF-8 in a register is an escape."""
+    return text.encode(errors="backslashreplace")
+
+
+class Unwritten(Exception):
+    """The list cannot be written."""
+
+
+class Names(dict):
+    """The places of names, in the order in which they are asked for."""
+
+    def __missing__(self, name):
+        return self.setdefault(name, len(self))
+
+
+def has_table(connection, name):
+    asked = "SELECT count(*) FROM sqlite_schema WHERE type = 'table' AND lower(name) = ?"
+    return bool(connection.execute(asked, [name]).fetchone()[0])
+
+
+def without_key(command):
+    """A command's text without the key that it names; of a registration the word alone, since the key has the rest."""
+    word, _, rest = command.partition(" ")
+    rest = rest.partition(" ")[2]
+    return f"{word} {rest}" if rest and word != "register" else word
+
+
+def last_requests(connection, names, count):
+    """The cells of the last requests about each key, so many of each at most, by the numbers of the keys."""
+    place = row_place(columns_of(connection, "request"))
+    rows = connection.execute("SELECT key_no, moment, caller, command FROM request NOT INDEXED "
+                              f"WHERE typeof(key_no) = 'integer' AND key_no > 0 ORDER BY key_no, {place}")
+    for key, group in itertools.groupby(rows, operator.itemgetter(0)):
+        yield key, ",".join(f"{moment},{names[caller]},{json_text(without_key(command))}"
+                            for _, moment, caller, command in collections.deque(group, count))
+
+
+def by_key(connection, table, names):
+    """The places of the names that a table has of each key, by the names' bytes, and by the numbers of the keys."""
+    rows = connection.execute(f"SELECT key_no, name FROM {table} WHERE typeof(key_no) = 'integer' "
+                              "ORDER BY key_no, name COLLATE BINARY")
+    for key, group in itertools.groupby(rows, operator.itemgetter(0)):
+        yield key, ",".join(str(names[name]) for _, name in group)
+
+
+class Beside:
+    """What stands beside keys, in the order of their numbers, so that one alone is held."""
+
+    def __init__(self, cells):
+        self.cells = cells
+        self.ahead = next(cells, END)
+
+    def of(self, number):
+        """The cells of this key, which comes after those that were asked for before it."""
+        while self.ahead[0] < number:
+            self.ahead = next(self.cells, END)
+        return f"[{self.ahead[1]}]" if self.ahead[0] == number else "[]"
+
+
+def rows_of(connection, names, requests):
+    """Each key's cells as JSON."""
+    custodians, approvals = (Beside(by_key(connection, table, names)) for table in ("custodian", "approval"))
+    needs = dict(connection.execute("SELECT key_no, need FROM quorum")) if has_table(connection, "quorum") else {}
+    last = Beside(last_requests(connection, names, requests))
+    asked = ("SELECT number, kind, owner, purpose, initial, activation, protect_stop, deactivation, destroyed, "
+             "compromised, occurrence FROM keys ORDER BY number")
+    for place, (number, kind, owner, purpose, initial, *dates) in enumerate(connection.execute(asked), 1):
+        if number != place or not 1 <= kind <= len(TYPES):
+            raise Unreadable(f"key {number} of type {kind} stands at place {place}")
+        yield (str(kind - 1), str(names[owner]), json_text(purpose), str(initial),
+               *("null" if date == UNSET else str(date) for date in dates), str(needs.get(number, 2)),
+               custodians.of(number), approvals.of(number), last.of(number))
+
+
+def columns(connection, names, requests):
+    """The columns of the keys as JSON, in bytes, by their names."""
+    made, rows = {name: bytearray() for name in COLUMNS}, rows_of(connection, names, requests)
+    while some := list(itertools.islice(rows, 1000)):
+        for name, cells in zip(COLUMNS, zip(*some)):
+            made[name] += (b"," if made[name] else b"") + as_bytes(",".join(cells))
+    return made
+
+
+def list_of(path, most, requests):
+    """The list of a register: its members before `keys`, and the columns of the keys, where there are not too many."""
+    made = int(time.time())
+    with opened(path, TRIES) as connection:
+        # Reads the same texts without a call of Python for each: of 100,000 keys there are a million.
+        connection.text_factory = operator.methodcaller("decode", errors="surrogateescape")
+        asked = "SELECT version, latest, key_count FROM meta"
+        version, latest, count = connection.execute(asked).fetchone() or (0, 0, 0)
+        if version not in (1, 2):
+            raise Unreadable(f"its version is {version}")
+        periods, names = {}, Names()
+        if has_table(connection, "period"):
+            periods = {TYPES[kind - 1]: months for kind, *months in
+                       connection.execute("SELECT kind, originator, recipient FROM period ORDER BY kind")}
+        keys = columns(connection, names, requests) if count <= most else None
+    return {"form": 1, "made": made, "latest": latest, "count": count, "periods": periods, "names": list(names),
+            "types": TYPES}, keys
+
+
+def pieces_of(members, keys):
+    """The list in pieces of bytes."""
+    yield as_bytes(json.dumps(members, ensure_ascii=False, separators=(",", ":"))[:-1] + ',"keys":')
+    for place, (name, cells) in enumerate((keys or {}).items()):
+        yield as_bytes(f'{"," if place else "{"}"{name}":[')
+        yield cells
+        yield b"]"
+    yield b"}}" if keys else b"null}"
+
+
+def put(path, pieces):
+    """Moves a file of these bytes into the place, whole; how many there are."""
+    folder = os.path.dirname(os.path.abspath(path))
+    try:
+        handle, other = tempfile.mkstemp(prefix=".list-", dir=folder)
+        try:
+            with os.fdopen(handle, "wb") as file:
+                size = sum(map(file.write, pieces))
+                file.flush()
+                os.fsync(handle)
+            os.chmod(other, 0o640)
+            os.replace(other, path)
+        except BaseException:
+            with contextlib.suppress(OSError):
+                os.remove(other)
+            raise
+    except OSError as fault:
+        raise Unwritten(f"{path} cannot be written: {fault.strerror}") from None
+    return size
+
+
+def main():
+    words = argparse.ArgumentParser(description="Makes the list that the desk in the browser finds keys by.")
+    words.add_argument("register")
+    words.add_argument("list")
+    words.add_argument("--most", type=int, default=100_000, metavar="KEYS")
+    words.add_argument("--requests", type=int, default=5, metavar="COUNT")
+    words = words.parse_args()
+    try:
+        members, keys = list_of(words.register, words.most, words.requests)
+        size = put(words.list, pieces_of(members, keys))
+    except (Unreadable, sqlite3.Error, ValueError) as fault:
+        print(f"{words.register} cannot be read as a register: {fault}", file=sys.stderr)
+        return 2
+    except Unwritten as fault:
+        print(fault, file=sys.stderr)
+        return 3
+    count = f"{members['count']} keys" if keys else f"no keys, since there are {members['count']}"
+    print(f"{words.list}: {count}, up to {text_of(members['latest'])}, {size} bytes")
+    return 0
+
+
+if __name__ == "__main__":
+    sys.exit(main())

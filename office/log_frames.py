@@ -1,0 +1,83 @@
+"""Tells how much of a register's log counts, for replay.py, which stands beside this file.
+
+The log is a write-ahead log of SQLite's: a header, and frames of a page each. A frame has the salts of the header, and
+a sum over all before it. Those count that are whole, up to the last that ends a transaction; what follows does not,
+for SQLite, keyreg and replay.py alike. That may be well: a log that began anew is written over an older one, and a
+stop cuts off what was not answered. But of one damaged byte in the middle all that stood behind it is lost too, and
+nothing else tells it. A frame behind a damaged one is known by its own sum, which goes on from the one that its
+neighbour bears. Room that was never written is no frame.
+"""
+import os
+import struct
+
+MAGIC = {0x377F0682: "<", 0x377F0683: ">"}
+HEADER, FRAME = struct.Struct(">8I"), struct.Struct(">6I")
+
+
+def summed(sums, data, order):
+    """The sum of the data after this one."""
+    one, other = sums
+    words = struct.unpack(f"{order}{len(data) // 4}I", data)
+    for even, odd in zip(words[::2], words[1::2]):
+        one = (one + even + other) & 0xFFFFFFFF
+        other = (other + odd + one) & 0xFFFFFFFF
+    return one, other
+
+
+def frames_of(file, order, size, salts, sums):
+    """Of each frame, which has a page of so many bytes: whether it is of this log, whether its sum goes on from the
+    one before it, and whether it ends a transaction. Room between frames was written once, and is of this log."""
+    room = 0
+    while len(head := file.read(FRAME.size)) == FRAME.size and len(page := file.read(size)) == size:
+        _, ends, *its_salts, one, other = FRAME.unpack(head)
+        if not any(head):
+            room += 1
+            continue
+        yield from [(True, False, False)] * room
+        room = 0
+        is_whole = summed(summed(sums, head[:8], order), page, order) == (one, other)
+        yield tuple(its_salts) == salts, is_whole, bool(ends)
+        sums = one, other
+
+
+def counted(path):
+    """How many frames count; of those that follow, how many are of an earlier log, of no transaction that was ended,
+    damaged, and whole behind a damaged one."""
+    with open(path, "rb") as file:
+        head = file.read(HEADER.size)
+        if len(head) < HEADER.size:
+            return 0, 0, 0, 0, 0
+        magic, _, size, _, *salts, one, other = HEADER.unpack(head)
+        order = MAGIC.get(magic, "")
+        size = size if size in (2 ** power for power in range(9, 17)) else 0
+        if not (order and size) or summed((0, 0), head[:24], order) != (one, other):
+            return 0, 0, 0, max((os.path.getsize(path) - HEADER.size) // (FRAME.size + (size or 4096)), 0), 0
+        counts = earlier = waiting = damaged = behind = 0
+        for is_of_log, is_whole, is_end in frames_of(file, order, size, tuple(salts), (one, other)):
+            if not is_of_log:
+                earlier += 1
+            elif not is_whole:
+                damaged += 1
+            elif damaged or earlier:
+                behind += 1
+            else:
+                waiting += 1
+                counts, waiting = (counts + waiting, 0) if is_end else (counts, waiting)
+        return counts, earlier, waiting, damaged, behind
+
+
+def lines_of_log(path: str) -> list[str]:
+    """A line of a log that has frames, and a second where damage took some away."""
+    counts, *others = counted(path)
+    if not counts + sum(others):
+        return []
+    earlier, waiting, damaged, behind = others
+    parts = [f"{count} {what}" for count, what in (
+        (earlier, "of an earlier log"), (waiting, "of a transaction that was not ended"),
+        (damaged, "damaged or cut off"), (behind, "whole ones behind those")) if count]
+    lines = [f"log: {counts} of its frames count, and {sum(others)} that follow do not"
+             + f": {', '.join(parts)}" * bool(parts)]
+    if behind:
+        lines.append(f"log: frame {counts + waiting + 1} is damaged in the middle of the log, and what stood behind it "
+                     "is lost")
+    return lines

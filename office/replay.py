@@ -1,0 +1,434 @@
+#!/usr/bin/env python3
+"""Tells whether a register is what its accepted requests give. Nothing of keyreg is needed or asked.
+
+    office/replay.py COPY [--since EARLIER]
+
+COPY is a copy of a register's file, of version 1 or 2, with its log COPY-wal beside it (docs/AUDIT.md takes one).
+Neither is written to. The requests of its table `request` are taken one after the other by the rules of
+docs/SPECIFICATION.md, which stand anew in register_rules.py beside this file. Each has to be accepted, with the reply
+that is kept of it, and each row of each table has to be what they give. What differs is printed by table, row and
+column. The last line is the verdict. The status is
+
+    0  all is as the requests give, in the order of their rows
+    1  something differs
+    2  COPY, or EARLIER, cannot be read as a register
+    3  all is as the requests give, but in another order than that of their rows: keyreg writes no such file
+
+The order. Requests are taken by their moments, and those of one moment as their rows stand, which keyreg writes as it
+accepts, and which VACUUM and a dump keep. Where something differs in that order, another one is looked for, by
+other_order.py, which stands beside this file. It only proposes: the verdict is always that of one plain replay, in the
+order that is named. So a 3 says that there is an order that gives the tables, not that it is the only one or the true
+one.
+
+What it cannot know: whether the requests are those that were made. Who may write to the file may write another
+history, with rows that agree with it. --since shows that each request of an earlier copy stands in COPY as it stood
+and in the order in which it stood, before all that came since, and that nothing came since with a moment below the
+earlier copy's latest.
+
+A file that was taken from version 1 to version 2 does not tell when. All its requests are put to the rules of version
+2: what version 1 accepted they accept, with the same reply. So a ninth custodian, whom version 1 refused, may be there
+from any moment on. A file of version 1 is put to its own rules.
+
+What keyreg reads is read: tables and columns by their names, in any case and order, and no column more is looked at.
+It reports which part of the log counts (log_frames.py). No more than one row of a request, and each key in few
+bytes, are held: a million registrations took 240 MB, and it takes more where another order is looked for.
+"""
+import argparse
+import contextlib
+import filecmp
+import itertools
+import marshal
+import operator
+import os
+import pathlib
+import shutil
+import sqlite3
+import sys
+import tempfile
+from typing import Iterable, Iterator, Sequence
+
+# What is read from beside this file leaves none there.
+sys.dont_write_bytecode = True
+from register_rules import (GREATEST_NUMBER, LAST, NAME, Key, Refused, Register, Request, command_of, key_rows,
+                            other_rows, text_of)
+
+# ---- a file
+
+# The columns of each table, and how many of them tell its rows apart. Version 1 has the first five.
+TABLES = {
+    "meta": (("id", "version", "latest", "key_count"), 1),
+    "keys": (("number", "kind", "owner", "purpose", "state", "initial", "activation", "protect_stop", "deactivation",
+              "destroyed", "compromised", "occurrence"), 1),
+    "custodian": (("key_no", "name"), 2),
+    "approval": (("key_no", "name"), 2),
+    "request": (("caller", "number", "command", "key_no", "state", "moment"), 2),
+    "period": (("kind", "originator", "recipient"), 1),
+    "quorum": (("key_no", "need"), 1),
+}
+OF_TEXT = {"owner", "purpose", "name", "caller", "command"}
+
+
+def accepted_of(row: Sequence, version: int) -> Request:
+    """The request of a row of the table `request`; ValueError where it is none by the rules of the version."""
+    caller, number, command, key_no, state, moment = row
+    if not (NAME.fullmatch(caller) and 1 <= number <= GREATEST_NUMBER and 0 <= moment <= LAST):
+        raise ValueError(command)
+    return Request(moment, caller, number, command_of(command, version), key_no, state)
+
+
+class Unreadable(Exception):
+    """The file is no register of a version that is known here."""
+
+
+@contextlib.contextmanager
+def opened(path: str, tries: int = 1) -> Iterator[sqlite3.Connection]:
+    """A connection to a copy of the file and its log, so that SQLite makes no file beside them. Where the database was
+    written to while its log was copied, the copy is begun anew, so often at most. Texts are read whatever their bytes
+    are."""
+    with tempfile.TemporaryDirectory() as folder:
+        other = pathlib.Path(folder, "copy")
+        try:
+            while not is_copied(path, str(other)):
+                tries -= 1
+                if tries < 1:
+                    raise Unreadable("it is being written to: take a copy")
+            with contextlib.closing(sqlite3.connect(other.as_uri() + "?mode=ro", uri=True)) as connection:
+                connection.text_factory = lambda raw: raw.decode(errors="surrogateescape")
+                yield connection
+        except (OSError, sqlite3.Error) as fault:
+            raise Unreadable(fault) from None
+
+
+def is_copied(path: str, other: str) -> bool:
+    """Copies the database and then its log, and tells whether the database is still what was copied."""
+    for end in ("", "-wal"):
+        if os.path.exists(other + end):
+            os.remove(other + end)
+        if not end or os.path.exists(path + end):
+            shutil.copyfile(path + end, other + end)
+    filecmp.clear_cache()
+    return filecmp.cmp(path, other, shallow=False)
+
+
+def row_place(columns: dict[str, int]) -> str:
+    """The name under which SQLite gives a row's place in its table, where the table has these columns."""
+    return next(place for place in ("rowid", "_rowid_", "oid") if place not in columns)
+
+
+def columns_of(connection: sqlite3.Connection, name: str) -> dict[str, int]:
+    """The names of a table's columns, in small letters, each with whether it is hidden or made of others."""
+    return {row[1].lower(): row[-1] for row in connection.execute(f'PRAGMA table_xinfo("{name}")')}
+
+
+class File:
+    """The rows of a file's tables, in their order, and what is wrong with the file itself."""
+
+    def __init__(self, connection):
+        self.connection, self.faults = connection, []
+        made = {name.lower(): (name, sql) for name, sql in
+                connection.execute("SELECT name, sql FROM sqlite_schema WHERE type = 'table'")}
+        has_meta, asked = "meta" in made, "SELECT version FROM meta LIMIT 2"
+        versions = connection.execute(asked).fetchall() if has_meta else "no table meta"
+        if versions not in ([(1,)], [(2,)]):
+            raise Unreadable(f"of versions 1 and 2 it has {versions}")
+        self.version = versions[0][0]
+        self.faults += [f"file: {line}" for line, in connection.execute("PRAGMA integrity_check") if line != "ok"]
+        self.kept = list(TABLES)[:5 if self.version == 1 else 7]
+        self.faults += [f"{name}: a table of version 2 in a file of version 1" for name in TABLES
+                        if name in made and name not in self.kept]
+        self.places = {name: self.place_of(*made.get(name, (name, ""))) for name in self.kept}
+        for name in self.kept:
+            mistyped = self.rows(name, where=self.is_mistyped(name))
+            self.faults += [f"{name} {row}: a cell of another type" for row in mistyped]
+        self.look_at_requests()
+
+    def place_of(self, name, sql):
+        """The name under which a row's place is read. The table has the columns, and none is made of others."""
+        columns, wanted = columns_of(self.connection, name), TABLES[name.lower()][0]
+        if not columns.keys() >= set(wanted) or any(columns.values()) or not sql.upper().startswith("CREATE TABLE"):
+            raise Unreadable(f"it has no table {name} with the columns {wanted}")
+        return row_place(columns)
+
+    @staticmethod
+    def is_mistyped(name):
+        return " OR ".join(f"typeof({column}) <> '{'text' if column in OF_TEXT else 'integer'}'"
+                           for column in TABLES[name][0])
+
+    def rows(self, name, order="", where="1"):
+        """The rows of a table as they stand, or first by a column. No index of it is asked."""
+        columns, by = ", ".join(TABLES[name][0]), f"{order}, " if order else ""
+        return self.connection.execute(
+            f"SELECT {columns} FROM {name} NOT INDEXED WHERE {where} ORDER BY {by}{self.places[name]}")
+
+    def count(self, name):
+        return self.connection.execute(f"SELECT count(*) FROM {name} NOT INDEXED").fetchone()[0]
+
+    def look_at_requests(self):
+        """Whether their rows go by their moments, which are there twice, and how many share their moment."""
+        moments = self.connection.execute(f"SELECT moment FROM request NOT INDEXED ORDER BY {self.places['request']}")
+        self.goes_by_moments, last = True, -1
+        for moment, in moments:
+            if type(moment) is int:
+                self.goes_by_moments &= last <= moment
+                last = moment
+        self.twice = {(caller, number): count for caller, number, count in self.connection.execute(
+            "SELECT caller, number, count(*) FROM request NOT INDEXED "
+            "GROUP BY caller COLLATE BINARY, number HAVING count(*) > 1")}
+        self.faults += [f"request {place}: its row is there {count} times" for place, count in self.twice.items()]
+        self.shared = self.connection.execute(
+            "SELECT count(*), sum(many), min(moment) FROM (SELECT moment, count(*) AS many FROM request NOT INDEXED "
+            "WHERE typeof(moment) = 'integer' GROUP BY moment HAVING many > 1)").fetchone()
+
+    def requests(self, faults=None):
+        """The requests by their moments, and then as their rows stand. A row that is none is a fault. Of the rows of
+        one caller and number the first is taken."""
+        came = set()
+        for row in self.rows("request", "" if self.goes_by_moments else "moment"):
+            place = row[:2]
+            if place in came:
+                continue
+            if place in self.twice:
+                came.add(place)
+            try:
+                yield accepted_of(row, self.version)
+            except (ValueError, TypeError, AttributeError):
+                if faults is not None:
+                    faults.append(f"request {row}: it is none by the rules of version {self.version}")
+
+
+# ---- the replay
+
+class Keys:
+    """Keys by their numbers, each in few bytes."""
+
+    def __init__(self):
+        self.packed = {}
+
+    def get(self, number):
+        packed = self.packed.get(number)
+        return None if packed is None else Key(*marshal.loads(packed))
+
+    def __setitem__(self, number, key):
+        self.packed[number] = marshal.dumps(tuple(key), 2)
+
+    def __contains__(self, number):
+        return number in self.packed
+
+    def __len__(self):
+        return len(self.packed)
+
+    def numbers(self):
+        return sorted(self.packed)
+
+
+class Replay(Register):
+    """What accepted requests give. What the rules do not give is a fault."""
+
+    def __init__(self, version):
+        super().__init__(version)
+        self.keys, self.faults, self.newest, self.should_be = Keys(), [], 0, 0
+
+    def next_number(self, request):
+        """A key is kept under its reply's number, which is the next one, lest one fault make many."""
+        self.should_be = self.newest + 1
+        self.newest = request.key_no if request.key_no not in self.keys else self.should_be
+        return self.newest
+
+    def take(self, request):
+        self.latest = request.moment
+        try:
+            key_no, state = self.accept(request)
+        except Refused as refused:
+            self.faults.append(f"{request}: the rules refuse it, {refused}")
+            return
+        key_no = self.should_be if request.word == "register" else key_no
+        for column, kept, should_be in (("key_no", request.key_no, key_no), ("state", request.state, state)):
+            if kept != should_be:
+                self.faults.append(f"{request}: {column} is {kept}, and the rules give {should_be}")
+
+
+def replayed(file, requests):
+    """What differs in the file from what the requests give."""
+    register, count = Replay(file.version), file.count("request") if sys.stderr.isatty() else 0
+    for place, request in enumerate(requests):
+        if count and place % 5000 == 0:
+            print(f"{place} of {count} requests", end="\r", file=sys.stderr, flush=True)
+        register.take(request)
+    wanted = other_rows(register)
+    other = [line for name in wanted if name in file.kept for line in differences(name, file.rows(name), wanted[name])]
+    return register.faults + other + list(key_differences(file, register))
+
+
+class Groups:
+    """The rows of a table, in groups by the key that they are about, in the order of these."""
+
+    def __init__(self, file, name):
+        column = TABLES[name][0][0]
+        rows = file.rows(name, column, f"typeof({column}) = 'integer'")
+        self.groups = itertools.groupby(rows, operator.itemgetter(0))
+        self.ahead = next(self.groups, (END, ()))
+
+    def take(self, number):
+        """The rows about this key, none of which is about one before it."""
+        if self.ahead[0] != number:
+            return []
+        rows = list(self.ahead[1])
+        self.ahead = next(self.groups, (END, ()))
+        return rows
+
+
+# After every number.
+END = float("inf")
+
+
+def key_differences(file, register):
+    """A line for each difference in the tables that are about keys, by key, so that the rows of one alone are held."""
+    groups = {name: Groups(file, name) for name in ("keys", "custodian", "approval", "quorum") if name in file.kept}
+    numbers = iter(register.keys.numbers())
+    wanted = next(numbers, END)
+    while (number := min(wanted, *(group.ahead[0] for group in groups.values()))) != END:
+        rows = {}
+        if number == wanted:
+            rows, wanted = key_rows(number, register.keys.get(number), register.latest), next(numbers, END)
+        for name, group in groups.items():
+            in_file, given = group.take(number), rows.get(name, ())
+            if in_file != given:
+                yield from differences(name, in_file, given)
+    for name in groups:
+        yield from differences(name, file.rows(name, where=f"typeof({TABLES[name][0][0]}) <> 'integer'"), ())
+
+
+def differences(name, rows, wanted):
+    """A line for each cell and each row of a table that is not as the requests give."""
+    columns, width = TABLES[name]
+    given, seen = {row[:width]: row for row in wanted}, set()
+    for row in rows:
+        place = row[:width]
+        label = f"{name} {place if width > 1 else place[0]}"
+        if place in seen or place not in given:
+            yield f"{label}: the row is there, and the requests give none" + " but the one before" * (place in seen)
+        elif row != given[place]:
+            for column, is_so, should_be in zip(columns, row, given[place]):
+                if is_so != should_be:
+                    yield f"{label}: {column} is {is_so!r}, and the requests give {should_be!r}"
+        seen.add(place)
+    for place in sorted(given.keys() - seen):
+        yield f"{name} {place if width > 1 else place[0]}: no row is there, and the requests give one"
+
+
+# ---- the verdict
+
+def by_moment(requests: Iterable[Request]) -> list[list[Request]]:
+    return [list(group) for _, group in itertools.groupby(requests, lambda request: request.moment)]
+
+
+def lines_of_order(file, ordered, met_bound):
+    """Lines that say where the file tells no order, and which one was taken."""
+    moments, requests, first = file.shared
+    if not file.goes_by_moments:
+        yield "order: the rows of request do not go by their moments: another program than keyreg put them so"
+    if moments:
+        yield (f"order: {requests} requests share their moment with another (moments: {moments}, the "
+               f"first {text_of(first)}): of these the file tells no order but that of its rows")
+    if ordered:
+        groups = zip(by_moment(file.requests()), by_moment(ordered))
+        moved = [by_rows[0].moment for by_rows, taken in groups if by_rows != taken]
+        yield f"order: another one than the rows' is taken (moments: {len(moved)}, the first {text_of(moved[0])})"
+    if met_bound:
+        yield "order: the bound was met: not all orders of requests at one moment were tried"
+
+
+def since(earlier, file):
+    """What of an earlier copy's requests is not here as it was and in its order, and what came in among them."""
+    now = file.rows("request")
+    if all(next(now, None) == row for row in earlier.rows("request")):
+        latest = earlier.connection.execute("SELECT max(moment) FROM request").fetchone()[0] or 0
+        return [f"request {row[:2]}: it came in since the earlier copy, at {row[5]}, below its latest moment {latest}"
+                for row in now if row[5] < latest]
+    return list(since_in_detail(earlier, file))
+
+
+def since_in_detail(earlier, file):
+    """The same of copies that are known to differ, whose rows are all held."""
+    now, then = ({row[:2]: row for row in copy.rows("request")} for copy in (file, earlier))
+    latest = max((row[5] for row in then.values()), default=0)
+    for place, row in then.items():
+        if now.get(place) != row:
+            yield f"request {place}: {now.get(place, ('', '', 'none'))[2:]} is there, and in the earlier copy {row[2:]}"
+    for place, row in now.items():
+        if place not in then and row[5] < latest:
+            yield f"request {place}: it came in since the earlier copy, at {row[5]}, below its latest moment {latest}"
+    stood, stands = [place for place in then if place in now], [place for place in now if place in then]
+    moved = [(before, after) for before, after in zip(stood, stands) if before != after]
+    if moved:
+        yield (f"request {moved[0][1]}: its row stands where that of {moved[0][0]} stood in the earlier copy; so "
+               f"{len(moved)} rows stand in another order")
+    last = max((at for at, place in enumerate(now) if place in then), default=-1)
+    among = [place for at, place in enumerate(now) if at < last and place not in then]
+    if among:
+        yield (f"request {among[0]}: its row came in since the earlier copy, and stands among those of it; so "
+               f"{len(among)} rows do")
+
+
+def judged(file):
+    """What differs, and what is to be said of the order; whether it is another one than the rows'."""
+    faults, ordered, met_bound = replayed(file, file.requests(file.faults)), None, False
+    if faults and file.shared[0]:
+        try:
+            # It stands beside this file. Where it does not, no other order is looked for.
+            from other_order import Search
+        except ImportError:
+            line = "order: no other was looked for: other_order.py is not beside this file"
+            return file.faults + faults, [line], False
+        search = Search(file, list(file.requests()))
+        other = search.order()
+        again = replayed(file, other)
+        met_bound = search.met_bound and bool(again)
+        if len(again) < len(faults):
+            faults, ordered = again, other
+    order = list(lines_of_order(file, ordered, met_bound))
+    return file.faults + faults, order, bool(ordered) or not file.goes_by_moments
+
+
+def lines_of_log(path):
+    """What is to be said of the log: how much of it counts."""
+    if not os.path.exists(path + "-wal"):
+        return ["log: none is beside it. If it had one, requests may be missing that stood there alone"]
+    try:
+        import log_frames
+    except ImportError:
+        return []
+    return log_frames.lines_of_log(path + "-wal")
+
+
+def main():
+    words = argparse.ArgumentParser(description="Tells whether a register is what its accepted requests give.")
+    words.add_argument("copy")
+    words.add_argument("--since", metavar="EARLIER", help="an earlier copy of the same register")
+    words = words.parse_args()
+    path, before = words.copy, []
+    try:
+        with opened(path) as connection:
+            file = File(connection)
+            if words.since:
+                path = words.since
+                with opened(path) as other:
+                    before = since(File(other), file)
+                path = words.copy
+            faults, order, is_another_order = judged(file)
+            counts = f"{file.count('request')} requests, {file.count('keys')} keys, version {file.version}"
+            order += lines_of_log(path)
+    except Unreadable as fault:
+        print(f"{path}: it cannot be read as a register: {fault}")
+        return 2
+    faults += before
+    for line in faults + order:
+        print(line.encode(errors="backslashreplace").decode())
+    verdict = "each row of each table is as the requests give"
+    verdict += ", in another order than that of their rows" * is_another_order
+    print(f"{words.copy}: {counts}: {f'{len(faults)} differences' if faults else verdict}")
+    return 1 if faults else 3 if is_another_order else 0
+
+
+if __name__ == "__main__":
+    sys.exit(main())
