@@ -89,7 +89,7 @@ def page_faults(page: str, wanted: dict[str, Options]) -> Iterator[str]:
         for word in {**wanted, **options}:
             if options.get(word) != wanted.get(word):
                 yield f"{part}: {word or 'the program'} has {options.get(word)}, and --help {wanted.get(word)}"
-    names = {one or other for one, other in NAMED.findall(read("docs/SPECIFICATION.md"))}
+    names = {row or line for row, line in NAMED.findall(read("docs/SPECIFICATION.md"))}
     quoted = set(QUOTED.findall(page))
     for name in sorted(quoted ^ names):
         yield f"keyreg: {name} {'is quoted and not named' if name in quoted else 'is not quoted'}"
