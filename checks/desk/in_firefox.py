@@ -4,7 +4,7 @@ the register has then, and the console has no error. Firefox is led by its own M
 
     checks/desk/in_firefox.py [--screenshot FILE]
 
-It needs Debian's firefox-esr and nginx-light. Build the program first: ./keyreg </dev/null
+It needs Debian's firefox-esr and nginx-light.
 """
 import base64
 import contextlib

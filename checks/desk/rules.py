@@ -6,7 +6,7 @@ those of office/register_rules.py. Some hundreds more are put to the program its
 
     checks/desk/rules.py [--requests N]
 
-It needs node 18 or later (Debian's `nodejs`). Build the program first: ./keyreg </dev/null
+It needs node 18 or later (Debian's `nodejs`).
 """
 import collections
 import json

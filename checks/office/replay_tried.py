@@ -5,8 +5,6 @@ another order than in an earlier copy; tables as keyreg reads them, under other 
 program, whole and damaged. Last a register of many requests, for its time and memory.
 
     checks/office/replay_tried.py [--requests N] [--seed N]
-
-Build the program first: ./keyreg </dev/null
 """
 import hashlib
 import pathlib

@@ -6,8 +6,6 @@ of the page. office/units/keyreg.service starts the program with the options of 
 under packaging/ have the commands and options of the help, and no other.
 
     checks/package/man_page.py
-
-Build the program first: ./keyreg </dev/null
 """
 import pathlib
 import re
