@@ -76,11 +76,11 @@ def number_of(text):
     return decimal.Context(prec=15).create_decimal(text).normalize()
 
 
-def is_close(one, other):
+def is_close(number, other):
     """Whether the numbers agree to the digits that are left of the shorter one."""
-    digits = max(min(len(one.as_tuple().digits), len(other.as_tuple().digits)), 6)
+    digits = max(min(len(number.as_tuple().digits), len(other.as_tuple().digits)), 6)
     context = decimal.Context(prec=digits)
-    return context.plus(one).normalize() == context.plus(other).normalize()
+    return context.plus(number).normalize() == context.plus(other).normalize()
 
 
 @functools.lru_cache(maxsize=None)
@@ -110,8 +110,8 @@ def became(was, now):
     """How a spreadsheet made the one text of the other; an empty text where it is no way that is known here."""
     if was[:1] in ("=", "+", "-", "@") and number_of(was) is None:
         return FORMULA
-    one, other = number_of(was), number_of(now)
-    if one is not None and other is not None and is_close(one, other):
+    before, after = number_of(was), number_of(now)
+    if before is not None and after is not None and is_close(before, after):
         return "taken for a number, and written in another form"
     if not was.isascii() and now in other_bytes(was):
         return "its bytes were read or written in another code than UTF-8"

@@ -62,7 +62,7 @@ def over_reload(reader: Reader, key: int) -> None:
         number = waits(reader)
         reader.forget()
         # Nothing else is sent meanwhile.
-        reader.one("button.advance").click()
+        reader.seen("button.advance").click()
         expect("Not sent" in reader.answer()[1], "something else is sent meanwhile")
         reader.driver.refresh()
         waits(reader)
@@ -82,7 +82,7 @@ def over_reload(reader: Reader, key: int) -> None:
 def keep(reader: Reader, number: int, caller: str, command: dict) -> None:
     """Puts a request that is not answered into the window's store, and loads the page anew."""
     entry = json.dumps([{"number": number, "caller": caller, "body": json.dumps(command)}])
-    reader.run("sessionStorage.setItem('keyreg.kept', arguments[0])", entry)
+    reader.execute("sessionStorage.setItem('keyreg.kept', arguments[0])", entry)
     reader.reload()
 
 
@@ -136,13 +136,13 @@ def two_pages(reader: Reader, other: Reader, key: int) -> None:
 def is_text(reader: Reader, text: str) -> None:
     """The text stands in the page as a text, with a code for each character that is not seen, and became nothing
     else."""
-    texts = reader.run("return [...document.querySelectorAll('#main .text')].map((place) => place.textContent)")
+    texts = reader.execute("return [...document.querySelectorAll('#main .text')].map((place) => place.textContent)")
     wanted = re.sub("[\u0080-\u009f\u200b-\u200f\u2028-\u202e\u2066-\u2069\ufeff\U000e0000-\U000e007f]",
                     lambda mark: f"U+{ord(mark[0]):04X}", text)
     expect(wanted in texts, f"{wanted!r} is not among {texts[:20]}")
     elements = [element.tag_name for element in reader.find(NO_SUCH)]
     expect(not elements, f"elements came of a text: {elements}")
-    wide = reader.run("return document.scrollingElement.scrollWidth - window.innerWidth")
+    wide = reader.execute("return document.scrollingElement.scrollWidth - window.innerWidth")
     expect(wide <= 0, f"{text!r} makes the page wider by {wide}")
 
 

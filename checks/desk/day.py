@@ -56,7 +56,7 @@ def custody(ann: Reader, bob: Reader, cat: Reader) -> None:
     ann.desk.make_list()
     bob.reload()
     bob.open("waits")
-    bob.one(f"section.guarded a[href='#key/{key}']").click()
+    bob.seen(f"section.guarded a[href='#key/{key}']").click()
     bob.says("As the register told it")
     bob.does(f"approve {key}")
     bob.open("waits")
@@ -134,7 +134,7 @@ def moved_on(bob: Reader, key: int) -> None:
     """The register is brought to now, and the answer of its own moves on to it."""
     bob.key(key)
     bob.forget()
-    bob.one("button.advance").click()
+    bob.seen("button.advance").click()
     bob.accepted("advance", "as of")
     rows = [row.text for row in bob.find("section.usage tbody tr")]
     expect(len(rows) == 2 and all(" yes yes " in row for row in rows), f"the two answers are {rows}")
@@ -188,7 +188,7 @@ def finds(reader: Reader, file: File) -> None:
         cells = row.find_elements(By.TAG_NAME, "td")
         number, shown = cells[0].text, cells[1].text
         expect(shown.split(" ", 1)[1] == STATES[states[int(number)]], f"{number} is shown as {shown}")
-    box = reader.one("input[type='search']")
+    box = reader.seen("input[type='search']")
     box.send_keys("2\n")
     reader.says("Key 2", "h1")
 
@@ -217,7 +217,7 @@ def wrong_files(reader: Reader, folder: File) -> None:
     for name, given, why in files:
         pathlib.Path(folder, name).write_bytes(given)
         reader.anew("table")
-        reader.one("input[type='file']").send_keys(os.path.join(folder, name))
+        reader.seen("input[type='file']").send_keys(os.path.join(folder, name))
         reader.says(why)
 
 
@@ -225,20 +225,20 @@ def chosen(reader: Reader, folder: File, text: str) -> None:
     """A table's file is chosen on its page."""
     pathlib.Path(folder, "keys.csv").write_text(text, encoding="utf-8")
     reader.anew("table")
-    reader.one("input[type='file']").send_keys(os.path.join(folder, "keys.csv"))
+    reader.seen("input[type='file']").send_keys(os.path.join(folder, "keys.csv"))
     reader.says("judged before")
 
 
 def put_away(reader: Reader) -> None:
     reader.press("Put the table away")
-    reader.one("input[type='file']")
+    reader.seen("input[type='file']")
 
 
 def given_back(reader: Reader, folder: File) -> str:
     """The table that the page gives back of the rows that are not registered."""
     back = pathlib.Path(folder, "not-registered-keys.csv")
     back.unlink(missing_ok=True)
-    reader.one("a.button").click()
+    reader.seen("a.button").click()
     reader.wait(lambda: back.exists() and back.stat().st_size, "nothing is given back")
     time.sleep(0.3)
     return back.read_text(encoding="utf-8")

@@ -16,7 +16,7 @@ what Chromium writes of refusals and of connections that were cut on purpose.
 
 The parts are day, breaks, typed, tables, looks and large, all where none is named. --least does the smallest form
 alone, as the gate has it. --screens keeps the pictures; --picture takes that of the documents alone. It needs Debian's
-chromium, chromium-driver, python3-selenium and nginx-light, and Linux. Build the program first: ./keyreg </dev/null
+chromium, chromium-driver, python3-selenium and nginx-light, and Linux.
 """
 import collections
 import contextlib

@@ -4,7 +4,7 @@ the register has then, and the console has no error. Firefox is led by its own M
 
     checks/desk/in_firefox.py [--screenshot FILE]
 
-It needs Debian's firefox-esr and nginx-light. Build the program first: ./keyreg </dev/null
+It needs Debian's firefox-esr and nginx-light.
 """
 import base64
 import contextlib
@@ -83,16 +83,16 @@ class Firefox:
         expect(number == self.calls and fault is None, f"{name} {parameters}: {fault}")
         return value.get("value", value) if isinstance(value, dict) else value
 
-    def one(self, selector: str) -> str:
+    def seen(self, selector: str) -> str:
         return self.call("WebDriver:FindElement", {"using": "css selector", "value": selector})[ELEMENT]
 
     def type(self, selector: str, text: str) -> None:
-        self.call("WebDriver:ElementSendKeys", {"id": self.one(selector), "text": text})
+        self.call("WebDriver:ElementSendKeys", {"id": self.seen(selector), "text": text})
 
     def click(self, selector: str) -> None:
-        self.call("WebDriver:ElementClick", {"id": self.one(selector)})
+        self.call("WebDriver:ElementClick", {"id": self.seen(selector)})
 
-    def run(self, script: str):
+    def execute(self, script: str):
         return self.call("WebDriver:ExecuteScript", {"script": script, "args": []})
 
     def wait(self, words: str, selector: str = "body") -> str:
@@ -100,7 +100,7 @@ class Firefox:
         late, text = time.monotonic() + PATIENCE, ""
         while words not in text:
             expect(time.monotonic() < late, f"{words!r} does not come: {text[:2000]}")
-            text = self.run(f"return document.querySelector({json.dumps(selector)})?.innerText ?? ''")
+            text = self.execute(f"return document.querySelector({json.dumps(selector)})?.innerText ?? ''")
             time.sleep(0.05)
         return text
 
@@ -113,8 +113,8 @@ class Firefox:
 def registered(firefox: Firefox, address: str) -> None:
     """A key is registered by the form of the desk."""
     firefox.call("WebDriver:Navigate", {"url": address})
-    firefox.run("window.faults = []; addEventListener('error', (event) => faults.push(event.message));"
-                "addEventListener('unhandledrejection', (event) => faults.push(String(event.reason)))")
+    firefox.execute("window.faults = []; addEventListener('error', (event) => faults.push(event.message));"
+                    "addEventListener('unhandledrejection', (event) => faults.push(String(event.reason)))")
     firefox.wait("0 of 0 keys")
     expect(f"You: {USER}" in firefox.wait("You:"), "the page shows another user")
     firefox.click("a[href='#register']")
@@ -123,13 +123,13 @@ def registered(firefox: Firefox, address: str) -> None:
         firefox.type(f"form.register [name={member}]", text)
     firefox.type("form.register [name=activation]", "02012027")
     firefox.wait("the time is lacking", "form.register .foretold")
-    firefox.run("const field = document.querySelector('form.register [name=activation]');"
-                "field.value = '2027-02-01T08:30:00'; field.dispatchEvent(new Event('input', {bubbles: true}))")
+    firefox.execute("const field = document.querySelector('form.register [name=activation]');"
+                    "field.value = '2027-02-01T08:30:00'; field.dispatchEvent(new Event('input', {bubbles: true}))")
     firefox.wait("Would be accepted", "form.register .foretold")
     firefox.click("form.register button.send")
     firefox.wait("Accepted.", "#said")
     firefox.wait("Key 1", "h1")
-    faults = firefox.run("return window.faults")
+    faults = firefox.execute("return window.faults")
     expect(not faults, f"the page had errors: {faults}")
 
 

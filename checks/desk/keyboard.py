@@ -37,7 +37,7 @@ class Hands:
         """The page as it comes anew, with the focus where a browser puts it."""
         self.reader.driver.get("about:blank")
         self.reader.open(page)
-        self.reader.run("window.lastMet = null")
+        self.reader.execute("window.lastMet = null")
 
     def to(self, name):
         """Goes on by Tab until the part with this name has the focus."""
@@ -45,7 +45,7 @@ class Hands:
         for _ in range(MOST_TABS):
             self.press(Keys.TAB)
             self.tabs += 1
-            met = self.reader.run(MET)
+            met = self.reader.execute(MET)
             if met["isPage"]:
                 break
             where = f"{self.reader.user}: by Tab to {name!r}, at {met['html']}"
@@ -65,7 +65,7 @@ class Hands:
         self.press(Keys.ENTER)
         reader = self.reader
         reader.wait(lambda: reader.find(f"main[data-page='{page}']"), f"Enter at {name!r} does not open {page}")
-        reader.wait(lambda: reader.run("return document.activeElement.id") == "main", "the focus is left behind")
+        reader.wait(lambda: reader.execute("return document.activeElement.id") == "main", "the focus is left behind")
 
     def key(self, number):
         """Finds a key by its number."""
@@ -84,9 +84,10 @@ class Hands:
         self.to(button)
         place = self.reader.driver.switch_to.active_element
         expect(place.tag_name == "button", f"{self.reader.user}: {button!r} is a {place.tag_name}")
-        foretold = self.reader.run("return arguments[0].closest('form')?.querySelector('.foretold').textContent", place)
+        foretold = self.reader.execute(
+            "return arguments[0].closest('form')?.querySelector('.foretold').textContent", place)
         expect("Would be accepted" in (foretold or ""), f"{button}: the page foretells {foretold}")
-        self.reader.run("document.querySelector('#said .answer')?.setAttribute('data-old', '')")
+        self.reader.execute("document.querySelector('#said .answer')?.setAttribute('data-old', '')")
         self.press(Keys.ENTER)
         self.reader.wait(lambda: self.reader.find("#said .answer:not([data-old])"), f"{button}: there is no answer", 40)
         self.reader.accepted(command)
@@ -158,4 +159,4 @@ def life(ann: Reader, bob: Reader, cat: Reader) -> tuple[int, int]:
     hands.send("Destroy", f"destroy {key}")
     expect("Destroyed" in ann.text("h1"), ann.text("h1"))
     everybody = (hands, *others)
-    return sum(one.met for one in everybody), sum(one.tabs for one in everybody)
+    return sum(person.met for person in everybody), sum(person.tabs for person in everybody)

@@ -56,7 +56,7 @@ def named(reader, page):
             expect(name.strip(), f"{page}: a {role} has no name: {node}")
     for role in ("banner", "main", "navigation", "status", "heading", "contentinfo"):
         expect(role in roles, f"{page} has no {role}: {set(roles)}")
-    expect(len(reader.find("h1")) == 1 and reader.run("return document.documentElement.lang") == "en",
+    expect(len(reader.find("h1")) == 1 and reader.execute("return document.documentElement.lang") == "en",
            f"{page}: its heading")
     return len(roles)
 
@@ -66,15 +66,15 @@ def focused(reader, page):
     script = """const all = [...document.querySelectorAll("a[href], button, input, select, summary, textarea")]
         .filter((place) => place.checkVisibility() && !place.disabled);
         return all.map((place, turn) => { place.dataset.turn = turn; return place.outerHTML.slice(0, 80); })"""
-    places = reader.run(script)
-    reader.run("document.activeElement.blur(); window.getSelection().removeAllRanges(); document.body.focus()")
-    reader.run("const body = document.body; body.setAttribute('tabindex', '-1'); body.focus(); "
-               "body.removeAttribute('tabindex')")
+    places = reader.execute(script)
+    reader.execute("document.activeElement.blur(); window.getSelection().removeAllRanges(); document.body.focus()")
+    reader.execute("const body = document.body; body.setAttribute('tabindex', '-1'); body.focus(); "
+                   "body.removeAttribute('tabindex')")
     came = []
     for _ in range(5 * len(places) + 9):
         reader.driver.switch_to.active_element.send_keys("\ue004")
-        turn, ring = reader.run("const at = document.activeElement, style = getComputedStyle(at);"
-                                "return [at.dataset.turn ?? null, style.outlineStyle + style.outlineWidth]")
+        turn, ring = reader.execute("const at = document.activeElement, style = getComputedStyle(at);"
+                                    "return [at.dataset.turn ?? null, style.outlineStyle + style.outlineWidth]")
         if turn is None:
             if came:
                 break
@@ -99,9 +99,9 @@ def looked_at(reader: Reader, page: str, folder: str = "") -> int:
         for dark, printed in ((False, False), (True, False), (False, True)):
             as_seen(reader.driver, width, dark=dark, printed=printed)
             where = f"{page} at {width}{' dark' * dark}{' printed' * printed}"
-            faint = reader.run(FAINT)
+            faint = reader.execute(FAINT)
             expect(not faint, f"{where}: faint are {faint[:5]}")
-            wide = reader.run("return document.scrollingElement.scrollWidth - window.innerWidth")
+            wide = reader.execute("return document.scrollingElement.scrollWidth - window.innerWidth")
             expect(wide <= 0, f"{where}: it is {wide} pixels wider than the screen")
             if folder:
                 picture(reader, os.path.join(folder, where.replace(" ", "-") + ".png"))
@@ -120,15 +120,15 @@ def all_pages(reader: Reader, pages: dict[str, str], folder: str = "") -> int:
         if address.startswith("key/"):
             reader.says("As the register told it")
             # All forms at once, which a reader has one by one.
-            reader.run("document.querySelectorAll('details').forEach((one) => {"
-                       "one.removeAttribute('name'); one.open = true; })")
+            reader.execute("document.querySelectorAll('details').forEach((one) => {"
+                           "one.removeAttribute('name'); one.open = true; })")
         parts += looked_at(reader, page, folder)
     return parts
 
 
 def picture(reader: Reader, place: str, height: int = 0) -> None:
     """The whole page, or its first pixels, as a PNG."""
-    size = reader.run("return [window.innerWidth, document.scrollingElement.scrollHeight]")
+    size = reader.execute("return [window.innerWidth, document.scrollingElement.scrollHeight]")
     clip = {"x": 0, "y": 0, "width": size[0], "height": height or size[1], "scale": 1}
     shot = reader.driver.execute_cdp_cmd("Page.captureScreenshot", {"clip": clip, "captureBeyondViewport": True})
     pathlib.Path(place).write_bytes(base64.b64decode(shot["data"]))
@@ -169,7 +169,7 @@ def letter_times(reader, count):
     of some pages counts."""
     reader.reload()
     reader.says(f"{count} of {count} keys", patience=60)
-    box = reader.one("input[type='search']")
+    box = reader.seen("input[type='search']")
     texts = ("h", "ha", "hall 9", "rack 7 team-3", "zzz", "", "5")
     times = [reader.driver.execute_async_script(LETTER, box, text) for text in texts]
     reader.anew("find")
@@ -194,9 +194,9 @@ def taken(desk, reader, folder, count):
     reader.open("find")
     reader.forget_all()
     reader.says(f"{count} of {count} keys", patience=60)
-    first = reader.run("return performance.getEntriesByName('shown')[0].startTime") / 1000
-    packed = reader.run("return performance.getEntriesByType('resource')"
-                        ".find((one) => one.name.endsWith('list.json')).encodedBodySize")
+    first = reader.execute("return performance.getEntriesByName('shown')[0].startTime") / 1000
+    packed = reader.execute("return performance.getEntriesByType('resource')"
+                            ".find((one) => one.name.endsWith('list.json')).encodedBodySize")
     letters = min((letter_times(reader, count) for _ in range(3)), key=max)
     searches = []
     for given in ({"state": "Active"}, {"days": "100"}, {"owner": "team-7.of.the.office@example"}, {"waits": "1"}):
@@ -221,4 +221,3 @@ def large(desk: Desk, reader: Reader, folder: File) -> Taken:
             if getattr(all_of_them, name) > TIMES * getattr(few, name)]
     expect(not late, f"{late}: {KEYS} keys took {all_of_them}, and a tenth of them {few}")
     return all_of_them
-

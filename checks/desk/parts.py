@@ -195,12 +195,12 @@ class Reader:
     def find(self, selector: str) -> list[Any]:
         return self.driver.find_elements(By.CSS_SELECTOR, selector)
 
-    def one(self, selector: str, holds: Callable[[Any], bool] = lambda element: True) -> Any:
+    def seen(self, selector: str, holds: Callable[[Any], bool] = lambda element: True) -> Any:
         """The first element that is seen there and suits, as soon as one is."""
-        def seen() -> Any:
+        def first() -> Any:
             return next((element for element in self.find(selector) if element.is_displayed() and holds(element)), None)
 
-        return self.wait(seen, f"{selector} is not seen")
+        return self.wait(first, f"{selector} is not seen")
 
     def wait(self, is_so: Callable[[], Any], fault: str, patience: float = 20) -> Any:
         late = time.monotonic() + patience
@@ -223,7 +223,7 @@ class Reader:
         self.wait(lambda: words in self.text(selector), f"{selector} does not say {words!r}", patience)
         return self.text(selector)
 
-    def run(self, script: str, *given: Any) -> Any:
+    def execute(self, script: str, *given: Any) -> Any:
         return self.driver.execute_script(script, *given)
 
     # ---- going
@@ -231,7 +231,7 @@ class Reader:
     def open(self, page: str) -> "Reader":
         """A page of the desk by its address."""
         if self.driver.current_url.split("#")[0] == self.place:
-            self.run("location.hash = arguments[0]", page)
+            self.execute("location.hash = arguments[0]", page)
         else:
             self.driver.get(f"{self.place}#{page}")
         self.wait(lambda: self.find(f"main[data-page='{page.split('?')[0]}']"), f"{page} does not open")
@@ -254,7 +254,7 @@ class Reader:
 
     def forget_all(self) -> None:
         """The page as in a new window."""
-        self.run("sessionStorage.clear()")
+        self.execute("sessionStorage.clear()")
         self.reload()
 
     def downloads_to(self, folder: File) -> None:
@@ -265,7 +265,7 @@ class Reader:
 
     def press(self, words: str, selector: str = "button") -> None:
         """Presses the button, or another part, that is seen with these words."""
-        self.one(selector, lambda button: button.text == words).click()
+        self.seen(selector, lambda button: button.text == words).click()
 
     def fill(self, form: Any, label: str, value: str) -> None:
         """Writes into the field with this label. A date is its text in UTC, as a calendar gives it."""
@@ -283,16 +283,16 @@ class Reader:
 
     def put(self, entry: Any, value: str) -> None:
         """A value as a calendar gives it."""
-        self.run("arguments[0].value = arguments[1]; arguments[0].dispatchEvent(new Event('input', {bubbles: true}))",
-                 entry, value)
+        self.execute("arguments[0].value = arguments[1];"
+                     "arguments[0].dispatchEvent(new Event('input', {bubbles: true}))", entry, value)
 
     def form(self, kind: str) -> Any:
         """The form of a command, opened where it is folded."""
         if kind not in ("register", "set-period"):
-            summary = self.one(f"details[data-kind='{kind}'] > summary")
+            summary = self.seen(f"details[data-kind='{kind}'] > summary")
             if not self.find(f"details[data-kind='{kind}'][open]"):
                 summary.click()
-        return self.one(f"form.command.{kind}")
+        return self.seen(f"form.command.{kind}")
 
     def submit(self, kind: str, fields: Sequence[tuple[str, str]] = (), edits: Sequence[tuple[str, str]] = ()) -> str:
         """Fills a form in and sends it; what the page foretells."""
@@ -315,7 +315,7 @@ class Reader:
 
     def forget(self) -> None:
         """Takes the last answer away, so that the next one is seen to be new."""
-        self.run("document.getElementById('said').replaceChildren()")
+        self.execute("document.getElementById('said').replaceChildren()")
 
     def answer(self, command: str = "") -> tuple[bool, str]:
         """What the page says of the request that was sent: whether it was accepted, and all its words. `command` is the
@@ -325,7 +325,7 @@ class Reader:
         is_accepted = bool(self.find("#said .answer .accepted"))
         is_refused = bool(self.find("#said .answer .refused"))
         expect(is_accepted != is_refused, f"{self.user}: an answer of both kinds: {words}")
-        has_focus = self.run("return document.activeElement.className") == "answer"
+        has_focus = self.execute("return document.activeElement.className") == "answer"
         expect(has_focus, f"{self.user}: the focus is not at the answer")
         begin = "Accepted." if is_accepted else ("Refused", "Not sent", "Given up")
         expect(words.startswith(begin), f"{self.user}: {words}")

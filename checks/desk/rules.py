@@ -6,7 +6,7 @@ those of office/register_rules.py. Some hundreds more are put to the program its
 
     checks/desk/rules.py [--requests N]
 
-It needs node 18 or later (Debian's `nodejs`). Build the program first: ./keyreg </dev/null
+It needs node 18 or later (Debian's `nodejs`).
 """
 import collections
 import json
@@ -141,12 +141,12 @@ def members_of(text):
 
 def ranges_of(text):
     """The ranges of the fields of a request line."""
-    found = re.search(r"A key is a number from (\d+) to (\d+), a need one from (\d+) to (\d+), a reason one from "
-                      r"(\d+) to (\d+)\.", text)
-    key, need, reason = ([int(found[place]), int(found[place + 1])] for place in (1, 3, 5))
-    found = re.search(r"originator months are a number from (\d+) to (\d+), the recipient months one from (\d+) to "
-                      r"(\d+)", text)
-    originator, recipient = ([int(found[place]), int(found[place + 1])] for place in (1, 3))
+    numbers = re.search(r"A key is a number from (\d+) to (\d+), a need one from (\d+) to (\d+), a reason one from "
+                        r"(\d+) to (\d+)\.", text)
+    key, need, reason = ([int(numbers[place]), int(numbers[place + 1])] for place in (1, 3, 5))
+    months = re.search(r"originator months are a number from (\d+) to (\d+), the recipient months one from (\d+) to "
+                       r"(\d+)", text)
+    originator, recipient = ([int(months[place]), int(months[place + 1])] for place in (1, 3))
     return {"key": key, "date": [0, 253402300799], "need": need, "reason": reason, "originator": originator,
             "recipient": recipient}
 

@@ -35,7 +35,7 @@ def counted(reader, count):
     """All rows are shown as changed, and none is marked to be sent."""
     reader.says(f"{count} rows, judged before they are sent: 0 would be accepted, 0 refused, 0 of another form, "
                 f"0 there already, 0 repeated, {count} changed by a spreadsheet", patience=10)
-    expect(not reader.run("return [...document.querySelectorAll('.rows input')].some((one) => one.checked)"),
+    expect(not reader.execute("return [...document.querySelectorAll('.rows input')].some((one) => one.checked)"),
            "a row that a spreadsheet changed is marked to be sent")
 
 

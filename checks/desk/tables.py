@@ -59,7 +59,7 @@ def taken_twice(reader, folder):
 
 def rows_shown(reader, which, holds):
     """Shows the rows of one sort alone, whose numbers are as they should be."""
-    reader.fill(reader.one("main"), "Rows shown", which)
+    reader.fill(reader.seen("main"), "Rows shown", which)
     reader.wait(lambda: holds([row.text for row in reader.find("table.rows tbody th")]), f"not the rows {which}")
 
 
@@ -73,9 +73,9 @@ def all_reached(reader, folder):
     judged(reader, 300, 298, 1, 1, 0, 0)
     first = [row.text for row in reader.find("table.rows tbody th")]
     expect(first[:2] == ["250", "260"] and len(first) == 200, f"the first rows are {first[:5]} of {len(first)}")
-    reader.one("button.more").click()
+    reader.seen("button.more").click()
     expect(len(reader.find("table.rows tbody tr")) == 300, "not all rows are reached")
-    place = reader.run("return document.activeElement.closest('tr')?.querySelector('th')?.textContent")
+    place = reader.execute("return document.activeElement.closest('tr')?.querySelector('th')?.textContent")
     expect(place == "199", f"the focus is at row {place}, and the first that came is 199")
     rows_shown(reader, "wrong", lambda rows: rows == ["260"])
     expect("Master, which is none of the seven" in reader.text("table.rows"), reader.text("table.rows"))
@@ -106,22 +106,22 @@ EMPTIES = """for (const name of Object.keys(sessionStorage).filter((name) => nam
 
 def asks_before(reader, folder):
     """A page is left without asking; with a table half sent it asks."""
-    expect(not reader.run(LEAVES), "the page asks before anything is sent")
+    expect(not reader.execute(LEAVES), "the page asks before anything is sent")
     chosen(reader, folder, HEAD + "".join(f"master,ann,,,,half sent {place}\n" for place in range(120)))
     judged(reader, 120, 120, 0, 0, 0, 0)
-    expect(not reader.run(LEAVES), "the page asks before a row is sent")
+    expect(not reader.execute(LEAVES), "the page asks before a row is sent")
     reader.desk.line.delay = 0.2
-    reader.one(".buttons button.send").click()
+    reader.seen(".buttons button.send").click()
     reader.wait(lambda: not reader.text(".progress .count").startswith("0 "), "no row is answered")
     reader.press("Stop")
     reader.says("Go on", ".buttons")
     reader.desk.line.delay = 0.0
     accepted = int(reader.text(".progress .count").split(" ")[0])
-    expect(0 < accepted < 120 and reader.run(LEAVES), f"{accepted} of 120 rows are sent, and the page does not ask")
+    expect(0 < accepted < 120 and reader.execute(LEAVES), f"{accepted} of 120 rows are sent, and the page does not ask")
     reader.press("Go on")
     reader.says("120 of 120 rows answered", ".progress", 200)
     reader.said += [(reader.user, None, f"register master ann - - - half sent {place}") for place in range(120)]
-    reader.wait(lambda: not reader.run(LEAVES), "the page asks when all is sent")
+    reader.wait(lambda: not reader.execute(LEAVES), "the page asks when all is sent")
     put_away(reader)
 
 
@@ -130,15 +130,15 @@ def full_store(reader, folder):
     before = len(reader.desk.line.posts)
     chosen(reader, folder, HEAD + "master,ann,,,,into a full store\n")
     judged(reader, 1, 1, 0, 0, 0, 0)
-    reader.run(FILLS)
+    reader.execute(FILLS)
     reader.forget()
-    reader.one(".buttons button.send").click()
+    reader.seen(".buttons button.send").click()
     reader.says("store for this window is full", "#said")
     reader.open("register")
     reader.submit("register", [("Type", "master"), ("Owner", "ann"), ("Purpose", "into a full store")])
     reader.says("store for this window is full", "#said")
     expect(len(reader.desk.line.posts) == before, "a request was sent without its number being kept")
-    reader.run(EMPTIES)
+    reader.execute(EMPTIES)
     reader.open("table")
     put_away(reader)
 
@@ -152,7 +152,7 @@ def long_table(reader, folder, count):
     judged(reader, count, count, 0, 0, 0, 0)
     line, rates = reader.desk.line, []
     before, keys_asked = len(line.posts), line.keys_asked
-    reader.one(".buttons button.send").click()
+    reader.seen(".buttons button.send").click()
     for part in range(1, 5):
         begun, first = time.monotonic(), len(line.posts)
         reader.wait(lambda part=part: len(line.posts) - before >= count * part // 4, "the rows are not sent", count)
@@ -160,7 +160,7 @@ def long_table(reader, folder, count):
     reader.says(f"{count} of {count} rows answered: {count} accepted", ".progress", 60)
     exchanges = len(line.posts) - before + line.keys_asked - keys_asked
     expect(exchanges == count, f"{count} rows took {exchanges} exchanges")
-    letters = reader.run("return Object.values(sessionStorage).reduce((sum, text) => sum + text.length, 0)")
+    letters = reader.execute("return Object.values(sessionStorage).reduce((sum, text) => sum + text.length, 0)")
     expect(letters < 150 * count, f"the store has {letters} letters of a table of {count} rows")
     expect(rates[-1] >= rates[0] / 2, f"rows a second by quarters: {rates}")
     reader.said += [(reader.user, None, f"register data-encryption ann {second(day(-5))} - - {purpose}")

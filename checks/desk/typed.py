@@ -16,7 +16,7 @@ LONG = "signing of the firmware images of the metering gateways, field trial of 
 
 def value_of(reader, form, name):
     """The value of a field; a browser leaves seconds out that are none."""
-    value = reader.run("return arguments[0].elements[arguments[1]].value", form, name)
+    value = reader.execute("return arguments[0].elements[arguments[1]].value", form, name)
     return f"{value}:00" if re.fullmatch(r"\d{4}-\d\d-\d\dT\d\d:\d\d", value) else value
 
 
@@ -26,13 +26,13 @@ def stays(reader):
     dates = [("Activation (UTC)", day(1)), ("Protect Stop (UTC)", day(9000))]
     reader.submit("register", [("Type", "master"), ("Owner", reader.user), ("Purpose", LONG), *dates])
     reader.refused("PeriodTooLong")
-    form = reader.one("form.command.register")
+    form = reader.seen("form.command.register")
     typed = [value_of(reader, form, name) for name in ("type", "owner", "purpose", "activation", "protect_stop")]
     expect(typed == ["master", reader.user, LONG, day(1), day(9000)], f"after a refusal the form has {typed}")
     key = register(reader, "master", reader.user, LONG)
     reader.submit("set", edits=[("set", day(9)), ("set", day(5)), ("keep", "")])
     reader.refused("DateOrder")
-    form = reader.one("form.command.set")
+    form = reader.seen("form.command.set")
     typed = [value_of(reader, form, name) for name in ("activation-edit", "activation", "protect_stop-edit",
                                                        "protect_stop", "deactivation-edit")]
     expect(typed == ["set", day(9), "set", day(5), "keep"], f"after a refusal the dates are {typed}")
@@ -47,15 +47,15 @@ def answered_meanwhile(reader, key):
     reader.submit("set-quorum", [("Approvals needed", "5")])
     reader.says("Not answered yet", "#kept")
     reader.open("register")
-    reader.put(reader.one("form.command.register").find_element(By.NAME, "purpose"), LONG)
+    reader.put(reader.seen("form.command.register").find_element(By.NAME, "purpose"), LONG)
     reader.accepted(f"set-quorum {key} 5")
-    form = reader.one("form.command.register")
+    form = reader.seen("form.command.register")
     expect(value_of(reader, form, "purpose") == LONG, "an answer to another request empties a form")
 
 
 def typed_letters(reader, field, *keys):
     """Types into a field by the keyboard, as its parts take it."""
-    reader.run("arguments[0].focus()", field)
+    reader.execute("arguments[0].focus()", field)
     for key in keys:
         reader.driver.switch_to.active_element.send_keys(key)
 
@@ -63,7 +63,7 @@ def typed_letters(reader, field, *keys):
 def half_a_date(reader):
     """A day whose time is not typed yet is said to be none, and nothing is foretold by it."""
     reader.anew("register")
-    form = reader.one("form.command.register")
+    form = reader.seen("form.command.register")
     for name in ("owner", "purpose"):
         reader.put(form.find_element(By.NAME, name), reader.user)
     field = form.find_element(By.NAME, "activation")
@@ -86,7 +86,7 @@ WRONG = [("owner", "Müller", "ü is none of the ASCII letters"), ("owner", "two
 def wrong_values(reader):
     """A wrong value says which letter, or how many; an empty one is lacking."""
     reader.anew("register")
-    form = reader.one("form.command.register")
+    form = reader.seen("form.command.register")
     for name, text, words in WRONG:
         reader.put(form.find_element(By.NAME, name), text)
         foretold = form.find_element(By.CSS_SELECTOR, ".foretold").text
@@ -106,8 +106,8 @@ def names_offered(reader, key):
     reader.key(key)
     form = reader.form("assign")
     field = form.find_element(By.NAME, "owner")
-    offered = reader.run("return [...document.getElementById(arguments[0].getAttribute('list')).options]"
-                         ".map((one) => one.value)", field)
+    offered = reader.execute("return [...document.getElementById(arguments[0].getAttribute('list')).options]"
+                             ".map((one) => one.value)", field)
     expect({"ann", "bob"} <= set(offered) and "zoe.unknown" not in offered, f"offered are {offered}")
     field.send_keys("zoe.unknown")
     reader.wait(lambda: "No key, custodian or request has the name zoe.unknown" in form.text, "a new name is not said")
@@ -116,19 +116,19 @@ def names_offered(reader, key):
     time.sleep(0.3)
     expect(not reader.find("#said .answer"), "a key is given to an unknown name without asking")
     box = form.find_element(By.CSS_SELECTOR, ".sure input")
-    expect(reader.run("return document.activeElement === arguments[0]", box), "the focus is not at what is asked")
+    expect(reader.execute("return document.activeElement === arguments[0]", box), "the focus is not at what is asked")
     field.clear()
     field.send_keys("bob")
     reader.wait(lambda: not form.find_elements(By.CSS_SELECTOR, ".sure input"), "a known name is asked about")
 
 
-def found(reader):
+def searched(reader):
     """The fields of a search: a part of an owner's name, a number of days that is none, and the focus after more."""
     reader.anew("find")
     reader.wait(lambda: reader.text(".count").split(" ")[0] == reader.text(".count").split(" ")[2],
                 f"with nothing asked not all are found: {reader.text('.count')}")
     all_rows = len(reader.find("table.cards tbody tr"))
-    owner = reader.one("input[list='owners']")
+    owner = reader.seen("input[list='owners']")
     owner.send_keys("AN")
     reader.wait(lambda: {row.text for row in reader.find("td[data-head='Owner']")} == {"ann"},
                 f"owners found are {[row.text for row in reader.find('td[data-head=Owner]')][:9]}")
@@ -142,15 +142,15 @@ def found(reader):
     expect(len(reader.find("table.cards tbody tr")) == all_rows, "the rows do not come again")
     if more := reader.find("button.more"):
         more[0].send_keys(Keys.ENTER)
-        place = reader.run("return [...document.querySelectorAll('tbody a')].indexOf(document.activeElement)")
+        place = reader.execute("return [...document.querySelectorAll('tbody a')].indexOf(document.activeElement)")
         expect(place == all_rows, f"after more the focus is at {place}, and the first new row is {all_rows}")
 
 
 def closed(reader, key):
     """An answer that is closed gives the focus back to the page."""
     reader.key(key).does(f"set-quorum {key} 3", [("Approvals needed", "3")])
-    reader.one("#said button.close").send_keys(Keys.ENTER)
-    expect(reader.run("return document.activeElement.id") == "main", "the focus is lost after an answer is closed")
+    reader.seen("#said button.close").send_keys(Keys.ENTER)
+    expect(reader.execute("return document.activeElement.id") == "main", "the focus is lost after an answer is closed")
 
 
 # The parts of cells that stand on more than one line, but for purposes.
@@ -172,7 +172,7 @@ def whole_cells(reader):
     reader.anew("find")
     for width in (900, 1200):
         as_seen(reader.driver, width)
-        broken = reader.run(BROKEN)
+        broken = reader.execute(BROKEN)
         expect(not broken, f"at {width} wide {broken[:5]} break across lines")
     as_usual(reader.driver)
 
@@ -201,15 +201,15 @@ def no_letters_meet(reader, key):
         reader.key(number)
         for width in (380, 1200):
             as_seen(reader.driver, width)
-            boxes = reader.run("return [...document.querySelectorAll('.line text')].map((part) => {"
-                               "const box = part.getBoundingClientRect();"
-                               "return [part.textContent, box.left, box.right, box.top, box.bottom]; })")
+            boxes = reader.execute("return [...document.querySelectorAll('.line text')].map((part) => {"
+                                   "const box = part.getBoundingClientRect();"
+                                   "return [part.textContent, box.left, box.right, box.top, box.bottom]; })")
             for (text, left, right, top, bottom), (other_text, *box) in itertools.combinations(boxes, 2):
                 apart = right <= box[0] or box[1] <= left or bottom - 3 <= box[2] or box[3] - 3 <= top
                 expect(apart, f"key {number} at {width}: {text} and {other_text} stand on one another")
-    bars = reader.run("return [...document.querySelectorAll('.line rect')].map((bar) => [bar.getAttribute('class'),"
-                      "bar.getBoundingClientRect().right])")
-    now = reader.run("return document.querySelector('.line text.now').getBoundingClientRect().right")
+    bars = reader.execute("return [...document.querySelectorAll('.line rect')].map((bar) => [bar.getAttribute('class'),"
+                          "bar.getBoundingClientRect().right])")
+    now = reader.execute("return document.querySelector('.line text.now').getBoundingClientRect().right")
     expect(all(right <= now + 2 for kind, right in bars if kind == "protect"), f"it protects beyond now: {bars}")
     as_usual(reader.driver)
 
@@ -224,16 +224,16 @@ def order_kept(reader, other):
     reader.open("waits")
     numbers = [link.text for link in reader.find("section.guarded tbody a")]
     third = reader.find("section.guarded tbody a")[2]
-    reader.run("arguments[0].focus()", third)
+    reader.execute("arguments[0].focus()", third)
     other.key(keys[2]).adds(keys[2], "cat")
     time.sleep(1.1)
     other.desk.make_list()
-    reader.run("dispatchEvent(new Event('visibilitychange'))")
+    reader.execute("dispatchEvent(new Event('visibilitychange'))")
     reader.says("A newer list is there", "#newer")
     expect([link.text for link in reader.find("section.guarded tbody a")] == numbers, "what waits moved")
-    expect(reader.run("return document.activeElement === arguments[0]", third), "the focus went")
+    expect(reader.execute("return document.activeElement === arguments[0]", third), "the focus went")
     expect(not reader.find("main button.send"), "a press in the list approves")
-    reader.one("#newer button").click()
+    reader.seen("#newer button").click()
     reader.wait(lambda: not reader.find("#newer button"), "the newer list is not shown")
 
 
@@ -247,5 +247,5 @@ def all_typed(ann: Reader, bob: Reader) -> None:
     overdue = overdue_seen(ann)
     whole_cells(ann)
     no_letters_meet(ann, overdue)
-    found(ann)
+    searched(ann)
     order_kept(bob, ann)

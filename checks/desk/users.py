@@ -27,8 +27,9 @@ def logs_in_beside(reader, user, is_seen=False):
     it was left meanwhile; else it does not ask by itself who sends."""
     first = reader.driver.current_window_handle
     if not is_seen:
-        reader.run("document.addEventListener('visibilitychange', (event) => event.stopImmediatePropagation(), true);"
-                   "for (let timer = setTimeout(() => {}); timer > 0; timer--) clearTimeout(timer);")
+        reader.execute("const stop = (event) => event.stopImmediatePropagation();"
+                       "document.addEventListener('visibilitychange', stop, true);"
+                       "for (let timer = setTimeout(() => {}); timer > 0; timer--) clearTimeout(timer);")
     reader.driver.switch_to.new_window("tab")
     reader.log_in(user)
     expect(reader.text("body") == user, f"the other page is of {reader.text('body')!r}")
@@ -44,7 +45,7 @@ def is_stopped(reader):
 
 def goes_on_as(reader, user):
     """The page is loaded anew, as whoever sends now."""
-    reader.one("#other button").click()
+    reader.seen("#other button").click()
     reader.wait(lambda: f"You: {user}" in reader.text("#who") and reader.find("main[data-page]"),
                 f"the page is not {user}'s: {reader.text('#who')}")
 
@@ -75,7 +76,7 @@ def kept_between(reader, key):
     reader.submit("add-custodian", [("Custodian", "bob")])
     number = waits(reader)
     logs_in_beside(reader, "office")
-    reader.one("#kept button").click()
+    reader.seen("#kept button").click()
     is_stopped(reader)
     expect_since(reader.desk, before, (reader.user, f"add-custodian {key} bob"))
     reader.desk.line.todo = []
@@ -90,7 +91,7 @@ def before_a_page(reader):
     """Where another user logged in beside, no further page is shown for the first one."""
     reader.open("find")
     logs_in_beside(reader, "office")
-    reader.run("location.hash = 'waits'")
+    reader.execute("location.hash = 'waits'")
     is_stopped(reader)
     goes_on_as(reader, "office")
     logs_in_beside(reader, reader.user)

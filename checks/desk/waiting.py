@@ -37,14 +37,14 @@ def answered(ann, folder):
     """A table with a refusal among its rows, which are all answered, and with a row that is of another form."""
     rows = [row.format(day(-9) + "Z", place) for place, row in enumerate(MIXED)]
     chosen(ann, folder, HEAD + "\n".join(rows) + "\n")
-    ann.one("input[aria-label='send row 3']").click()
+    ann.seen("input[aria-label='send row 3']").click()
     ann.press("Send 5 rows")
     ann.says("5 of 5 rows answered: 4 accepted, 1 refused", patience=60)
     sorts = [row.get_attribute("class") for row in ann.find("table.rows tbody tr")]
     expect(sorts == ["refused", "wrong", *["accepted"] * 4], f"the rows are {sorts}")
     ann.said += [(ann.user, None, f"register authentication ann {second(day(-9))} - - row {place} of the partners")
                  for place in (0, 1, 3, 5)]
-    ann.one("a.button", lambda link: link.text == "Take back 2 rows not registered")
+    ann.seen("a.button", lambda link: link.text == "Take back 2 rows not registered")
 
 
 @contextlib.contextmanager

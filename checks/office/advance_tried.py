@@ -6,8 +6,6 @@ it. The command is run as it stands in the file, with the port of the check.
     checks/office/advance_tried.py [--year]
 
 --year  also measures what such requests add to a file in a year, one an hour and one a minute
-
-Build the program first: ./keyreg </dev/null
 """
 import pathlib
 import re

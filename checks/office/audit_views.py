@@ -5,7 +5,7 @@ it does of the same file in version 2. What the commands of the page print is as
 
     checks/office/audit_views.py
 
-It needs SQLite's shell, of version 3.38 or above. Build the program first: ./keyreg </dev/null
+It needs SQLite's shell, of version 3.38 or above.
 """
 import pathlib
 import re

@@ -6,8 +6,7 @@ that is made here.
 
     checks/office/behind_nginx.py
 
-It needs Debian's nginx-light, and openssl. Build the program first:
-./keyreg </dev/null
+It needs Debian's nginx-light, and openssl.
 """
 import base64
 import json

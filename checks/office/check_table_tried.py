@@ -4,8 +4,6 @@ to make of fields, and with what LibreOffice does where it is installed; with ro
 refuses, and that stand twice; and of ten thousand rows that were all changed each is reported as it is found.
 
     checks/office/check_table_tried.py
-
-Build the program first: ./keyreg </dev/null
 """
 import csv
 import io

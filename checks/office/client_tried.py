@@ -5,8 +5,6 @@ end each request that was asked has acted once, in its order. Numbers rise thoug
 are raised with the values of the rules.
 
     checks/office/client_tried.py [--requests N]
-
-Build the program first: ./keyreg </dev/null
 """
 import contextlib
 import json

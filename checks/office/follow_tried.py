@@ -5,8 +5,6 @@ office/register_rules.py gives for so many of the first requests; after a last c
 the register is reported, and left as it is.
 
     checks/office/follow_tried.py [--lines N] [--kills N] [--longest SECONDS] [--seed N]
-
-Build the program first: ./keyreg </dev/null
 """
 import contextlib
 import os

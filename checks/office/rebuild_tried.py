@@ -6,8 +6,7 @@ to no line, and of a damaged file what is whole comes.
 
     checks/office/rebuild_tried.py [--requests N] [--registers N] [--lines N] [--seed N]
 
-It ends within the five minutes that checks/gate.py gives it. It needs SQLite's shell. Build the program first:
-./keyreg </dev/null
+It ends within the five minutes that checks/gate.py gives it. It needs SQLite's shell.
 """
 import pathlib
 import random

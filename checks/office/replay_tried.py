@@ -5,8 +5,6 @@ another order than in an earlier copy; tables as keyreg reads them, under other 
 program, whole and damaged. Last a register of many requests, for its time and memory.
 
     checks/office/replay_tried.py [--requests N] [--seed N]
-
-Build the program first: ./keyreg </dev/null
 """
 import hashlib
 import pathlib
@@ -203,10 +201,10 @@ def no_order(file: File, folder: pathlib.Path) -> None:
         expect_end(other, 1, "earlier copy", "--since", file)
 
 
-def swapped(one: int, other: int) -> list[Statement]:
+def swapped(first: int, second: int) -> list[Statement]:
     """Statements after which these two rows of `request` stand in each other's places."""
-    return [("UPDATE request SET rowid = -1 WHERE rowid = ?", (one,)),
-            ("UPDATE request SET rowid = ? WHERE rowid = ?", (one, other)),
+    return [("UPDATE request SET rowid = -1 WHERE rowid = ?", (first,)),
+            ("UPDATE request SET rowid = ? WHERE rowid = ?", (first, second)),
             ("UPDATE request SET rowid = ? WHERE rowid = -1", (other,))]
 
 
@@ -245,8 +243,8 @@ def earlier_order(folder: pathlib.Path, chance: random.Random) -> int:
     for later in (rebuilt(file, "vacuum"), rebuilt(file, "dump"), file):
         expect_end(later, 0, "", "--since", before)
     for _ in range(tries):
-        one, other = chance.sample(range(1, accepted // 2 + 1), 2)
-        expect_end(changed(file, *swapped(one, other)), 1, "stand in another order", "--since", before)
+        places = chance.sample(range(1, accepted // 2 + 1), 2)
+        expect_end(changed(file, *swapped(*places)), 1, "stand in another order", "--since", before)
     return tries + 3
 
 

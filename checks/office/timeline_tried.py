@@ -7,8 +7,7 @@ filtered, and turned over by pages, and are shown in at most TIMES the time that
 
     checks/office/timeline_tried.py [--screenshots FOLDER]
 
-It needs chromium, chromium-driver, python3-selenium and poppler-utils of Debian. Build the program first:
-./keyreg </dev/null
+It needs chromium, chromium-driver, python3-selenium and poppler-utils of Debian.
 """
 import csv
 import io

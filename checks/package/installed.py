@@ -288,7 +288,7 @@ def browsed(root: pathlib.Path, units: pathlib.Path) -> None:
     try:
         number = day.register(reader, "master", USER, "root of vault 2")
         call_well("keyreg-list", *unit_words(root, units / "keyreg-list.service"))
-        reader.run("sessionStorage.clear()")
+        reader.execute("sessionStorage.clear()")
         reader.open("find")
         reader.reload()
         reader.wait(lambda: f"{number} of {number} key" in reader.text(), "the list does not come")

@@ -6,8 +6,6 @@ of the page. office/units/keyreg.service starts the program with the options of 
 under packaging/ have the commands and options of the help, and no other.
 
     checks/package/man_page.py
-
-Build the program first: ./keyreg </dev/null
 """
 import pathlib
 import re
@@ -89,7 +87,7 @@ def page_faults(page: str, wanted: dict[str, Options]) -> Iterator[str]:
         for word in {**wanted, **options}:
             if options.get(word) != wanted.get(word):
                 yield f"{part}: {word or 'the program'} has {options.get(word)}, and --help {wanted.get(word)}"
-    names = {one or other for one, other in NAMED.findall(read("docs/SPECIFICATION.md"))}
+    names = {row or line for row, line in NAMED.findall(read("docs/SPECIFICATION.md"))}
     quoted = set(QUOTED.findall(page))
     for name in sorted(quoted ^ names):
         yield f"keyreg: {name} {'is quoted and not named' if name in quoted else 'is not quoted'}"

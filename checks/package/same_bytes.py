@@ -36,11 +36,11 @@ def digest(path: pathlib.Path) -> str:
     return hashlib.sha256(path.read_bytes()).hexdigest()
 
 
-def first_difference(one: pathlib.Path, other: pathlib.Path) -> str:
+def first_difference(first: pathlib.Path, second: pathlib.Path) -> str:
     """Where two files differ first."""
-    a, b = one.read_bytes(), other.read_bytes()
+    a, b = first.read_bytes(), second.read_bytes()
     place = next((at for at, (x, y) in enumerate(zip(a, b)) if x != y), min(len(a), len(b)))
-    return f"{one.name}: {len(a)} and {len(b)} bytes, other from byte {place} on"
+    return f"{first.name}: {len(a)} and {len(b)} bytes, other from byte {place} on"
 
 
 def sources() -> list[str]:
@@ -84,14 +84,14 @@ def main() -> None:
     if digest(pathlib.Path(programs[0])) != digest(pathlib.Path(programs[1])):
         faults.append("the programs differ: " + first_difference(*map(pathlib.Path, programs)))
     with fresh_folder() as base:
-        one, other = (packaged(base, place, program) for place, program in zip(PLACES, programs))
-        names = sorted({path.name for folder in (one, other) for path in folder.iterdir()})
+        first, second = (packaged(base, place, program) for place, program in zip(PLACES, programs))
+        names = sorted({path.name for folder in (first, second) for path in folder.iterdir()})
         for name in names:
-            if not all((folder / name).is_file() for folder in (one, other)):
+            if not all((folder / name).is_file() for folder in (first, second)):
                 faults.append(f"{name} is in one of the two alone")
-            elif digest(one / name) != digest(other / name):
-                faults.append(first_difference(one / name, other / name))
-        summed = {line.split()[1] for line in (one / "SHA256SUMS").read_text().splitlines()}
+            elif digest(first / name) != digest(second / name):
+                faults.append(first_difference(first / name, second / name))
+        summed = {line.split()[1] for line in (first / "SHA256SUMS").read_text().splitlines()}
         if summed != set(names) - {"SHA256SUMS"}:
             faults.append(f"SHA256SUMS names {sorted(summed)} of {names}")
     of = "of two builds" if sys.argv[1:] else "of one program"

@@ -15,7 +15,7 @@ No reply is long enough to fill a system's buffer. So a library stands before li
 bytes of the first reply, and then none within the time that the program gave the system, as where a client does not
 read. It counts the reads too.
 
-The parts run side by side, some 12 seconds. It wants Linux and gcc. Build the program first: ./keyreg </dev/null
+The parts run side by side, some 12 seconds. It wants Linux and gcc.
 """
 import contextlib
 import os

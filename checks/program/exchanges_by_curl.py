@@ -12,7 +12,7 @@ command meets the schema of requests there, and one that is refused as none does
 those of the specification.
 
 It needs Linux, curl, and Python's jsonschema and PyYAML: `pip install openapi-spec-validator` brings both, and Debian's
-are of /usr/bin/python3. Build the program first: ./keyreg </dev/null
+are of /usr/bin/python3.
 """
 import json
 import pathlib

@@ -6,7 +6,7 @@ request.
     checks/program/full_register.py [--keys N]
 
 With fewer keys a further registration is accepted. SQLite's own library writes the file, by the formats of
-docs/SPECIFICATION.md. Build the program first: ./keyreg </dev/null
+docs/SPECIFICATION.md.
 """
 import itertools
 import pathlib

@@ -7,8 +7,6 @@ replies were written, or one more.
 Each of the runs over one file is given the requests after those that it holds. Each of the migrations begins with a
 file of version 1, which SQLite's own library writes, and is killed in its opening or in the run after it: the file is
 left as it was, or it is of version 2. Then SQLite reads a copy of the file and its log, and the program opens the file.
-
-Build the program first: ./keyreg </dev/null
 """
 import pathlib
 import random

@@ -10,8 +10,6 @@ and more than 1600 requests; every tenth key goes through the day on which each 
 made by the program, and once more from a file of version 1 that SQLite's library wrote. Each is opened, exported,
 reported, served, imported into, asked behind its last key, and read by SQLite. Then so many rows as --rows says, 100000
 where nothing is said, are imported at once, and asked at the first and the last keys. It needs Linux.
-
-Build the program first: ./keyreg </dev/null
 """
 import collections
 import itertools

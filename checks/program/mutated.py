@@ -6,7 +6,7 @@ that opens after it.
 
 Each part has its share of the seconds. What is changed is a good input of its kind, or bytes of a good file or its log.
 After each input SQLite reads the file, and the program opens it; after a changed file it is enough that the program
-ends as it may. A fault comes with its seed, and --seed repeats it. Build the program first: ./keyreg </dev/null
+ends as it may. A fault comes with its seed, and --seed repeats it.
 """
 import collections
 import pathlib

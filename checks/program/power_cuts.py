@@ -14,7 +14,7 @@ be. Of every eighth pair all requests are sent again: each has its first reply, 
 A disk that keeps what it synced has to lose nothing. A second one, that takes every second sync for done and forgets
 it, has to be found out, or this check sees nothing. --forgets tries that one alone, which fails.
 
-It needs Linux and strace. Build the program first: ./keyreg </dev/null
+It needs Linux and strace.
 """
 import argparse
 import functools

@@ -13,7 +13,7 @@ After each end SQLite reads the file, and the program is given the same again, u
 bytes before. Two processes try side by side.
 
 A text after a part says how often the program ended so. *as asked* are runs in which the program did without what was
-refused. It needs Linux, gcc and glibc. Build the program first: ./keyreg </dev/null
+refused. It needs Linux, gcc and glibc.
 """
 import collections
 import csv

@@ -7,7 +7,7 @@ port and its number (checks/program/serve_words.py).
 
 The files are registers, what is none, paths of many bytes, and files that are not there or not to be read. A command
 copies the log into the database at its end: the database alone then holds the whole register. Other readers of CSV read
-an export back, and repeats take no memory. It needs Linux. Build the program first: ./keyreg </dev/null
+an export back, and repeats take no memory. It needs Linux.
 """
 import csv
 import io

@@ -9,8 +9,6 @@
               an office's own between its tables; each has the same rows in the end
     migrated  an opening takes a file of version 1 to version 2, in which every row stands as it was but for the
               version; each accepted request is answered as it was. Where that may not be, the file is left as it was
-
-Build the program first: ./keyreg </dev/null
 """
 import pathlib
 import sqlite3

@@ -7,7 +7,7 @@ Each copy in which `cmp` finds no difference is a sound database and a register 
 before it was begun, and with the first requests alone, and `keyreg export` and `keyreg report` have all its keys. Every
 other copy waits between the two until the program has copied its log into the database: `cmp` finds these.
 
-It needs SQLite's shell. Build the program first: ./keyreg </dev/null
+It needs SQLite's shell.
 """
 import itertools
 import os

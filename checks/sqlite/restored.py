@@ -11,8 +11,6 @@ these bytes. Then
                  the rows of all tables are those that office/register_rules.py gives for the requests that are there,
                  or office/replay.py finds it. How often it comes to what is printed
     the way      both files are moved aside, and the backup is copied to where no log is: its rows are there
-
-Build the program first: ./keyreg </dev/null
 """
 import collections
 import contextlib
