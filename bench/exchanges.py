@@ -33,14 +33,14 @@ import subprocess
 import sys
 import tempfile
 import time
-from typing import Any, Iterable, NamedTuple, Optional, Sequence
+from typing import Any, Iterable, NamedTuple, Sequence
 
 from measuring import STEP, clock_of, table
 from answers import MEMBERS, compact, request_object
 from places import PROGRAM
 from python_register import PythonRegister
-from register_rules import Refused, command_of, command_text, field_of
-from registers import STATES, TYPES, UNSET, columns_of, database, new_register
+from register_rules import Refused, command_of, command_text, date_of, field_of
+from registers import STATES, TYPES, columns_of, database, new_register
 from script import expect
 from serving import PATIENCE, free_port, get, listens, post, received
 
@@ -54,10 +54,6 @@ STOP, END = LATER + 1, LATER + 2
 
 ROUTE = re.compile(r"/keys/([1-9][0-9]{0,9})\Z")
 DATES = columns_of("keys")[5:]
-
-
-def date_of(cell: int) -> Optional[int]:
-    return None if cell == UNSET else cell
 
 
 class Bare(http.server.BaseHTTPRequestHandler):

@@ -205,7 +205,7 @@ def swapped(first: int, second: int) -> list[Statement]:
     """Statements after which these two rows of `request` stand in each other's places."""
     return [("UPDATE request SET rowid = -1 WHERE rowid = ?", (first,)),
             ("UPDATE request SET rowid = ? WHERE rowid = ?", (first, second)),
-            ("UPDATE request SET rowid = ? WHERE rowid = -1", (other,))]
+            ("UPDATE request SET rowid = ? WHERE rowid = -1", (second,))]
 
 
 def rebuilt(file: File, way: str) -> File:
