@@ -183,8 +183,8 @@ def late():
 # Targets that lead nowhere, by curl, and those that curl cannot ask.
 NO_ROUTES = ["/", "/requests/", "/requests?x=1", "/Requests", "//requests", "/keys/", "/keys/0", "/keys/01", "/keys/1/",
              "/keys/1?", "/keys/4294967296", "/keys/18446744073709551617", "/keys/" + "9" * 300, "/keys/+1",
-             "/keys/1e0", "/keys/%31", "/keys/1%2fusage", "/keys/1/Usage", "/keys/1/usage?x", "/keys/0/usage", "/keys//usage",
-             "/keys/./1", "/keys/1/../1", "/keys/1/usage/usage"]
+             "/keys/1e0", "/keys/%31", "/keys/1%2fusage", "/keys/1/Usage", "/keys/1/usage?x", "/keys/0/usage",
+             "/keys//usage", "/keys/./1", "/keys/1/../1", "/keys/1/usage/usage"]
 NO_TARGETS = ["http://localhost/keys/1", "localhost:80", "*", "keys/1", "/keys/1#a", "/keys/\u0661"]
 OTHER_METHODS = ["PUT", "DELETE", "OPTIONS", "BREW", "get", "GETS"]
 ALLOWED = {"/requests": "POST", "/keys/1": "GET", "/keys/9": "GET", "/keys/1/usage": "GET"}
