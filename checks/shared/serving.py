@@ -65,13 +65,14 @@ class Served:
     """A served register: a new one in a folder of its own, with what the lines make of it, or that of a given file."""
 
     def __init__(self, exchanges: int = 1_000_000, lines: Iterable[str] = (), file: Optional[str] = None,
-                 file_limit: Optional[int] = None, environment: Optional[dict[str, str]] = None) -> None:
+                 file_limit: Optional[int] = None, environment: Optional[dict[str, str]] = None,
+                 port: Optional[int] = None) -> None:
         self.folder = None if file else tempfile.TemporaryDirectory(dir=in_memory(2**24))
         self.file = file or os.path.join(self.folder.name, "office.keyreg")
         self.replies = keyreg(["run", "--file", file], lines) if file and lines else []
         if not file:
             self.replies = new_register(self.file, lines)
-        self.port = free_port()
+        self.port = port or free_port()
         words = [PROGRAM, "serve", "--file", self.file, "--port", str(self.port), "--exchanges", str(exchanges)]
 
         def limited() -> None:
