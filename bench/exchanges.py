@@ -42,7 +42,7 @@ from python_register import PythonRegister
 from register_rules import Refused, command_of, command_text, date_of, field_of
 from registers import STATES, TYPES, columns_of, database, new_register
 from script import expect
-from serving import PATIENCE, free_port, get, listens, post, received
+from serving import begins_to_listen, free_port, get, post, received
 
 THREADS, JOURNALS, MOMENT, MARK = 2, ("delete", "wal"), 1_000_000, 3
 # After the greatest moment of the clock in these runs: the keys stay Pre-Active.
@@ -231,10 +231,7 @@ class Server:
     def __init__(self, name: str, file: str, port: int, words: Sequence[str]) -> None:
         self.name, self.file, self.port = name, file, port
         self.process = subprocess.Popen(words, stdin=subprocess.DEVNULL)
-        late = time.monotonic() + PATIENCE
-        while not listens(port):
-            expect(self.process.poll() is None and time.monotonic() < late, f"{name} does not listen")
-            time.sleep(0.01)
+        expect(begins_to_listen(self.process, port), f"{name} does not listen")
         self.times: dict[str, list[Timed]] = {"get": [], "post": []}
         self.registered = 0
 

@@ -49,6 +49,14 @@ def listens(port: int) -> bool:
     return False
 
 
+def begins_to_listen(process: subprocess.Popen, port: int) -> bool:
+    """Waits until a program that was started listens at its port; whether it does."""
+    late = time.monotonic() + PATIENCE
+    while not listens(port) and process.poll() is None and time.monotonic() < late:
+        time.sleep(0.002)
+    return listens(port)
+
+
 def received(connection: socket.socket) -> bytes:
     """All that comes up to the end. A reset ends it too: the program closes a connection whose last bytes it did not
     read."""
@@ -82,12 +90,9 @@ class Served:
 
         self.process = subprocess.Popen(words, stdin=subprocess.DEVNULL, stdout=subprocess.PIPE,
                                         stderr=subprocess.PIPE, preexec_fn=limited, env=environment)
-        late = time.monotonic() + PATIENCE
-        while not listens(self.port):
-            if self.has_ended():
-                expect(False, f"serve ended with status {self.process.returncode}: {self.process.stderr.read()}")
-            expect(time.monotonic() < late, f"nothing listens at port {self.port}")
-            time.sleep(0.002)
+        if not begins_to_listen(self.process, self.port):
+            why = f"status {self.process.returncode}: {self.process.stderr.read()}" if self.has_ended() else "it is slow"
+            expect(False, f"serve does not listen at port {self.port}: {why}")
 
     def connected(self, patience: float = PATIENCE) -> socket.socket:
         return socket.create_connection(("127.0.0.1", self.port), timeout=patience)
