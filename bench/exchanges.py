@@ -41,7 +41,7 @@ from places import PROGRAM
 from python_register import PythonRegister
 from register_rules import Refused, command_of, command_text, date_of, field_of
 from registers import STATES, TYPES, columns_of, database, new_register
-from script import expect
+from script import expect, output_of
 from serving import begins_to_listen, free_port, get, post, received
 
 THREADS, JOURNALS, MOMENT, MARK = 2, ("delete", "wal"), 1_000_000, 3
@@ -240,9 +240,9 @@ class Server:
         words = ["wrk", f"-t{THREADS}", f"-c{given.connections}", f"-d{given.seconds}s", "-s", script,
                  f"http://127.0.0.1:{self.port}"]
         clocks = self.clocks()
-        done = subprocess.run([*words, "--", kind, caller, str(given.keys)], capture_output=True, text=True, check=True)
+        written = output_of([*words, "--", kind, caller, given.keys])
         server, client = (now - then for now, then in zip(self.clocks(), clocks))
-        count, micros, failed = map(int, done.stdout.splitlines()[-1].split())
+        count, micros, failed = map(int, written.splitlines()[-1].split())
         expect(count > 0 and failed == 0, f"{self.name}, {kind}: {count} exchanges, {failed} failed")
         self.times[kind].append(Timed(1e6 * count / micros, server / count, client / count))
         self.registered += count if kind == "post" else 0

@@ -153,8 +153,8 @@ def keys_of(file: File) -> dict[int, Key]:
     keys = {}
     for number, kind, owner, purpose, initial, *cells in rows:
         names, approved = ({name for key, name in pairs if key == number} for pairs in (custodians, approvals))
-        keys[number] = Key(TYPES[kind], owner, purpose, initial, *map(date_of, cells), custodians=names, approvals=approved,
-                           need=needs.get(number, 2))
+        keys[number] = Key(TYPES[kind], owner, purpose, initial, *map(date_of, cells), custodians=names,
+                           approvals=approved, need=needs.get(number, 2))
     return keys
 
 

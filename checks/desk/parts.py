@@ -10,7 +10,6 @@ import os
 import re
 import socket
 import struct
-import subprocess
 import sys
 import threading
 import time
@@ -20,7 +19,7 @@ from places import OFFICE
 from browser import chromium
 from nginx import HOST, Guard
 from registers import File, copy_files, database, new_register
-from script import expect
+from script import expect, output_of
 from selenium.common.exceptions import StaleElementReferenceException, WebDriverException
 from selenium.webdriver.common.action_chains import ActionChains
 from selenium.webdriver.common.by import By
@@ -144,10 +143,8 @@ class Desk:
 
     def make_list(self, file: Optional[File] = None) -> str:
         """Makes the list anew, of the register or of another file."""
-        words = [sys.executable, "-B", LIST, file or self.file, os.path.join(self.guard.list_folder, "list.json")]
-        done = subprocess.run(words, capture_output=True, text=True, check=False)
-        expect(done.returncode == 0, f"list.py: {done.stderr}")
-        return done.stdout
+        place = os.path.join(self.guard.list_folder, "list.json")
+        return output_of([sys.executable, "-B", LIST, file or self.file, place])
 
     def copy(self) -> str:
         """A copy of the register and its log, while nothing is sent."""

@@ -10,7 +10,7 @@ import tempfile
 from typing import Mapping, Optional, Union
 
 from places import DESK, UNITS
-from script import expect
+from script import expect, output_of
 from serving import PATIENCE, begins_to_listen, free_port
 
 CONF = UNITS / "nginx-keyreg.conf"
@@ -34,8 +34,7 @@ def certified(folder: str) -> None:
     words = ["openssl", "req", "-x509", "-newkey", "rsa:2048", "-nodes", "-days", "2", "-subj", f"/CN={HOST}",
              "-addext", f"subjectAltName=DNS:{HOST}", "-keyout", f"{folder}/key.pem", "-out",
              f"{folder}/certificate.pem"]
-    done = subprocess.run(words, capture_output=True, text=True, check=False)
-    expect(done.returncode == 0, f"openssl: {done.stderr}")
+    output_of(words)
 
 
 def by_tls(text: str, folder: str) -> str:

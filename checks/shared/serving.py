@@ -91,8 +91,8 @@ class Served:
         self.process = subprocess.Popen(words, stdin=subprocess.DEVNULL, stdout=subprocess.PIPE,
                                         stderr=subprocess.PIPE, preexec_fn=limited, env=environment)
         if not begins_to_listen(self.process, self.port):
-            why = f"status {self.process.returncode}: {self.process.stderr.read()}" if self.has_ended() else "it is slow"
-            expect(False, f"serve does not listen at port {self.port}: {why}")
+            why = f": status {self.process.returncode}, {self.process.stderr.read()}" if self.has_ended() else ""
+            expect(False, f"serve does not listen at port {self.port}{why}")
 
     def connected(self, patience: float = PATIENCE) -> socket.socket:
         return socket.create_connection(("127.0.0.1", self.port), timeout=patience)
