@@ -33,16 +33,16 @@ import subprocess
 import sys
 import tempfile
 import time
-from typing import Any, Iterable, NamedTuple, Optional, Sequence
+from typing import Any, Iterable, NamedTuple, Sequence
 
 from measuring import STEP, clock_of, table
 from answers import MEMBERS, compact, request_object
 from places import PROGRAM
 from python_register import PythonRegister
-from register_rules import Refused, command_of, command_text, field_of
-from registers import STATES, TYPES, UNSET, columns_of, database, new_register
-from script import expect
-from serving import PATIENCE, free_port, get, listens, post, received
+from register_rules import Refused, command_of, command_text, date_of, field_of
+from registers import STATES, TYPES, columns_of, database, new_register
+from script import expect, output_of
+from serving import begins_to_listen, free_port, get, post, received
 
 THREADS, JOURNALS, MOMENT, MARK = 2, ("delete", "wal"), 1_000_000, 3
 # After the greatest moment of the clock in these runs: the keys stay Pre-Active.
@@ -54,10 +54,6 @@ STOP, END = LATER + 1, LATER + 2
 
 ROUTE = re.compile(r"/keys/([1-9][0-9]{0,9})\Z")
 DATES = columns_of("keys")[5:]
-
-
-def date_of(cell: int) -> Optional[int]:
-    return None if cell == UNSET else cell
 
 
 class Bare(http.server.BaseHTTPRequestHandler):
@@ -235,10 +231,7 @@ class Server:
     def __init__(self, name: str, file: str, port: int, words: Sequence[str]) -> None:
         self.name, self.file, self.port = name, file, port
         self.process = subprocess.Popen(words, stdin=subprocess.DEVNULL)
-        late = time.monotonic() + PATIENCE
-        while not listens(port):
-            expect(self.process.poll() is None and time.monotonic() < late, f"{name} does not listen")
-            time.sleep(0.01)
+        expect(begins_to_listen(self.process, port), f"{name} does not listen")
         self.times: dict[str, list[Timed]] = {"get": [], "post": []}
         self.registered = 0
 
@@ -247,9 +240,9 @@ class Server:
         words = ["wrk", f"-t{THREADS}", f"-c{given.connections}", f"-d{given.seconds}s", "-s", script,
                  f"http://127.0.0.1:{self.port}"]
         clocks = self.clocks()
-        done = subprocess.run([*words, "--", kind, caller, str(given.keys)], capture_output=True, text=True, check=True)
+        written = output_of([*words, "--", kind, caller, given.keys])
         server, client = (now - then for now, then in zip(self.clocks(), clocks))
-        count, micros, failed = map(int, done.stdout.splitlines()[-1].split())
+        count, micros, failed = map(int, written.splitlines()[-1].split())
         expect(count > 0 and failed == 0, f"{self.name}, {kind}: {count} exchanges, {failed} failed")
         self.times[kind].append(Timed(1e6 * count / micros, server / count, client / count))
         self.registered += count if kind == "post" else 0

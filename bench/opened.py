@@ -4,12 +4,12 @@ row by row, as `keyreg` puts them. Where one fails the program ends.
 That a cell holds a whole number or a text is left to the tables, which are STRICT. The pages of the file are not
 audited, as the kit's `sqlite` audits them at each opening."""
 import sqlite3
-from typing import Any, Optional, Sequence
+from typing import Any, Sequence
 
 import measuring  # noqa: F401 - it has the path of modules
 from registers import STATES, TYPES, UNSET, VERSION, columns_of
 from register_rules import (
-    GREATEST_NUMBER, MOST_CUSTODIANS, MOST_KEYS, NAME, RANGES, command_of, field_of, state_at)
+    GREATEST_NUMBER, MOST_CUSTODIANS, MOST_KEYS, NAME, RANGES, command_of, date_of, field_of, state_at)
 from script import expect
 
 
@@ -41,10 +41,6 @@ def are_past(latest: int, initial: int, destroyed: int, compromised: int, occurr
     """Whether the dates are those of a key whose latest request was at this moment or before."""
     past = initial <= latest and all(date == UNSET or date <= latest for date in (destroyed, compromised))
     return past and (occurrence == UNSET) == (compromised == UNSET) and occurrence <= compromised
-
-
-def date_of(cell: int) -> Optional[int]:
-    return None if cell == UNSET else cell
 
 
 def is_sound(latest: int, row: Sequence[Any]) -> bool:

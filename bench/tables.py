@@ -45,7 +45,7 @@ from opened import opened
 from places import PROGRAM
 from registers import EXPORT_COLUMNS, EXPORT_DATES, IMPORT_COLUMNS, STATES, TYPES, UNSET
 from registers import columns_of, database, new_register, table_rows, write_register
-from register_rules import LAST, PERIODS, is_long, state_at, text_of
+from register_rules import LAST, PERIODS, date_of, is_long, state_at, text_of
 from script import expect, show
 
 # The cells of an export that are no column of `keys` of the same name, in SQL. What the text of such a cell is made of
@@ -102,7 +102,7 @@ def ends_at(place: int) -> tuple[int, int, int]:
 
 def state_of(moment: int, *cells: int) -> int:
     """The state by the cells of Activation, Deactivation, Destroy and Compromise."""
-    return state_at(moment, *(None if cell == UNSET else cell for cell in cells))
+    return state_at(moment, *map(date_of, cells))
 
 
 def registrations(keys: int) -> Iterator[tuple[Any, ...]]:
@@ -169,8 +169,7 @@ def listed_rows(connection: sqlite3.Connection, until: int) -> Iterator[Sequence
     periods = {kind: set_periods.get(kind, PERIODS[text]) for kind, text in TYPES.items()}
     for *row, activation, deactivation in connection.execute(DATED, (LAST,)):
         _, stop, kind, *_ = row
-        dates = (None if date == UNSET else date for date in (activation, stop, deactivation))
-        if stop <= until or is_long(dates, periods[kind]):
+        if stop <= until or is_long(map(date_of, (activation, stop, deactivation)), periods[kind]):
             yield row
 
 

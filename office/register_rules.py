@@ -8,7 +8,7 @@ import calendar
 import re
 import time
 from datetime import date, datetime, timedelta
-from typing import Any, NamedTuple, Optional, Sequence
+from typing import Any, Iterable, NamedTuple, Optional, Sequence
 
 # ---- moments and usage periods
 
@@ -97,7 +97,7 @@ def fitted(dates: Sequence[Optional[int]], period: tuple[int, int], trims: bool)
     return {"activation": activation, "stop": stop, "end": end}
 
 
-def is_long(dates: Sequence[Optional[int]], period: tuple[int, int]) -> bool:
+def is_long(dates: Iterable[Optional[int]], period: tuple[int, int]) -> bool:
     """Whether the three dates go past a limit of a usage period. One that is past the range limits nothing."""
     activation, stop, end = dates
     for first, last, months in ((activation, stop, period[0]), (stop, end, period[1])):
@@ -382,6 +382,11 @@ class Register:
 
 
 # ---- its rows
+
+def date_of(cell: int) -> Optional[int]:
+    """The date that a cell has; None where none is set."""
+    return None if cell == UNSET else cell
+
 
 def key_rows(number: int, key: Key, latest: int) -> dict[str, list[tuple]]:
     """The rows of a key, by table."""

@@ -8,8 +8,8 @@ import pathlib
 import time
 
 from parts import By, Reader
-from registers import STATES, TYPES, UNSET, File, database
-from register_rules import ACTIVE, ALL, STILL, Key
+from registers import STATES, TYPES, File, database
+from register_rules import ACTIVE, ALL, STILL, Key, date_of
 from script import expect
 
 
@@ -152,10 +152,9 @@ def keys_of(file: File) -> dict[int, Key]:
         needs = dict(connection.execute("SELECT key_no, need FROM quorum"))
     keys = {}
     for number, kind, owner, purpose, initial, *cells in rows:
-        dates = [None if cell == UNSET else cell for cell in cells]
         names, approved = ({name for key, name in pairs if key == number} for pairs in (custodians, approvals))
-        keys[number] = Key(TYPES[kind], owner, purpose, initial, *dates, custodians=names, approvals=approved,
-                           need=needs.get(number, 2))
+        keys[number] = Key(TYPES[kind], owner, purpose, initial, *map(date_of, cells), custodians=names,
+                           approvals=approved, need=needs.get(number, 2))
     return keys
 
 

@@ -23,7 +23,6 @@ import contextlib
 import os
 import pathlib
 import re
-import subprocess
 import sys
 from typing import Iterable, Iterator, Sequence
 
@@ -41,7 +40,7 @@ import users
 import waiting
 from parts import Desk, Reader
 from register_rules import FORMS
-from script import expect, fresh_folder, options, verdict
+from script import expect, fresh_folder, options, output_of, verdict
 
 REPLAY = OFFICE / "replay.py"
 # What Chromium itself writes to the console: of each refusal, and of what was broken on purpose.
@@ -73,9 +72,7 @@ class Office:
 
     def compared(self) -> int:
         """Compares the register with what the pages said; how many requests it has."""
-        words = [sys.executable, "-B", REPLAY, self.desk.copy()]
-        done = subprocess.run(words, capture_output=True, text=True, check=False)
-        expect(done.returncode == 0, f"replay.py: {done.stdout}{done.stderr}")
+        output_of([sys.executable, "-B", REPLAY, self.desk.copy()])
         rows = self.desk.requests()
         said = [request for reader in self.readers for request in reader.said]
         kept = {(caller, number): command for caller, number, command in rows}

@@ -21,7 +21,7 @@ sys.path.insert(1, str(pathlib.Path(__file__).resolve().parents[1] / "shared"))
 from nginx import HOST
 from parts import Desk, PASSWORDS
 from script import expect, fresh_folder, options, verdict
-from serving import free_port
+from serving import PATIENCE, begins_to_listen, free_port
 
 USER, PURPOSE = "ann", "a key of another browser"
 # The name of the desk leads to this machine, and a password may stand in an address.
@@ -32,7 +32,6 @@ PREFERENCES = {
     "network.http.phishy-userpass-length": 255,
     "toolkit.telemetry.reportingpolicy.firstRun": False,
 }
-PATIENCE = 60
 ELEMENT = "element-6066-11e4-a52e-4f735466cecf"
 
 
@@ -51,17 +50,10 @@ class Firefox:
         environment = {**os.environ, "HOME": str(folder), "MOZ_HEADLESS": "1", "TZ": "UTC"}
         self.process = subprocess.Popen([program, "--marionette", "--no-remote", "--profile", str(profile)],
                                         env=environment, stdout=subprocess.DEVNULL, stderr=subprocess.DEVNULL)
-        self.line = self.connected()
+        expect(begins_to_listen(self.process, self.port), "Firefox does not listen")
+        self.line = socket.create_connection(("127.0.0.1", self.port), timeout=PATIENCE)
         self.read()
         self.call("WebDriver:NewSession", {"capabilities": {"alwaysMatch": {"timeouts": {"implicit": 5000}}}})
-
-    def connected(self) -> socket.socket:
-        late = time.monotonic() + PATIENCE
-        while True:
-            with contextlib.suppress(OSError):
-                return socket.create_connection(("127.0.0.1", self.port), timeout=PATIENCE)
-            expect(self.process.poll() is None and time.monotonic() < late, "Firefox does not listen")
-            time.sleep(0.1)
 
     def read(self):
         """A message: its length in bytes, a colon, and so many bytes of JSON."""

@@ -10,23 +10,22 @@ import os
 import re
 import socket
 import struct
-import subprocess
 import sys
 import threading
 import time
 from typing import Any, Callable, Iterable, Optional, Sequence
 
-from places import OFFICE, PROGRAM
+from places import OFFICE
 from browser import chromium
 from nginx import HOST, Guard
 from registers import File, copy_files, database, new_register
-from script import expect
+from script import expect, output_of
 from selenium.common.exceptions import StaleElementReferenceException, WebDriverException
 from selenium.webdriver.common.action_chains import ActionChains
 from selenium.webdriver.common.by import By
 from selenium.webdriver.common.keys import Keys
 from selenium.webdriver.support.select import Select
-from serving import PATIENCE, free_port, listens, received
+from serving import Served, free_port, received
 
 LIST = OFFICE / "list.py"
 ZONE = "America/St_Johns"
@@ -131,30 +130,21 @@ class Desk:
     def __init__(self, folder: File, lines: Iterable[str] = ()) -> None:
         self.file, self.port = os.path.join(folder, "office.keyreg"), free_port()
         new_register(self.file, lines)
-        self.process = self.start()
+        self.start()
         self.guard = Guard(self.port, PASSWORDS)
         self.line = Line(self.guard.port)
         self.make_list()
 
-    def start(self) -> subprocess.Popen:
-        words = [PROGRAM, "serve", "--file", self.file, "--port", str(self.port), "--exchanges", "1000000"]
-        self.process = subprocess.Popen(words, stdin=subprocess.DEVNULL)
-        late = time.monotonic() + PATIENCE
-        while not listens(self.port):
-            expect(self.process.poll() is None and time.monotonic() < late, "keyreg does not serve")
-            time.sleep(0.005)
-        return self.process
+    def start(self) -> None:
+        self.served = Served(file=self.file, port=self.port)
 
     def kill(self) -> None:
-        self.process.kill()
-        self.process.wait()
+        self.served.close()
 
     def make_list(self, file: Optional[File] = None) -> str:
         """Makes the list anew, of the register or of another file."""
-        words = [sys.executable, "-B", LIST, file or self.file, os.path.join(self.guard.list_folder, "list.json")]
-        done = subprocess.run(words, capture_output=True, text=True, check=False)
-        expect(done.returncode == 0, f"list.py: {done.stderr}")
-        return done.stdout
+        place = os.path.join(self.guard.list_folder, "list.json")
+        return output_of([sys.executable, "-B", LIST, file or self.file, place])
 
     def copy(self) -> str:
         """A copy of the register and its log, while nothing is sent."""

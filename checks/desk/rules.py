@@ -14,7 +14,6 @@ import pathlib
 import random
 import re
 import shutil
-import subprocess
 import sys
 from datetime import datetime, timezone
 
@@ -23,7 +22,7 @@ from places import DESK, read
 from answers import MEMBERS, reply_line, request_object, shown, usage
 from registers import STATES, new_register
 from register_rules import PERIODS, RANGES, REFUSALS, WHO, Refused, Register, Request, line
-from script import expect, fresh_folder, options, verdict
+from script import expect, fresh_folder, options, output_of, verdict
 
 DAY, FIRST = 86400, 1_700_000_000
 # The last days of months, of leap years too: a month more has no such day often.
@@ -55,10 +54,8 @@ def node(word, given=""):
     with fresh_folder() as folder:
         (folder / "rules.mjs").write_bytes((DESK / "rules.js").read_bytes())
         (folder / "judge.mjs").write_text(JUDGE, encoding="ascii")
-        done = subprocess.run([program, folder / "judge.mjs", word], input=given, capture_output=True, text=True,
-                              check=False)
-    expect(done.returncode == 0, f"node: {done.stderr}")
-    return [json.loads(row) for row in done.stdout.split("\n") if row]
+        written = output_of([program, folder / "judge.mjs", word], input=given)
+    return [json.loads(row) for row in written.split("\n") if row]
 
 
 # ---- the tables of the document

@@ -10,7 +10,6 @@ It needs SQLite's shell, of version 3.38 or above.
 import pathlib
 import re
 import shutil
-import subprocess
 import sys
 
 sys.path.insert(1, str(pathlib.Path(__file__).resolve().parents[1] / "shared"))
@@ -18,7 +17,7 @@ from places import OFFICE, SAMPLES, VERSION_1
 from answers import reply_line
 from registers import STATES, File, database, keyreg, new_register, run_program
 from register_rules import Register, command_of
-from script import expect, fresh_folder, verdict
+from script import expect, fresh_folder, output_of, verdict
 
 VIEWS = OFFICE / "audit.sql"
 DAYS = 60
@@ -27,8 +26,7 @@ DAYS = 60
 def asked(file: File, question: str) -> list[list[str]]:
     """The rows of a question over the views."""
     words = ["sqlite3", "-readonly", "-list", file, f".read {VIEWS}", question]
-    done = subprocess.run(words, capture_output=True, text=True, check=True)
-    return [row.split("|") for row in done.stdout.splitlines()]
+    return [row.split("|") for row in output_of(words).splitlines()]
 
 
 def expect_same(what: str, rows: object, wanted: object) -> None:

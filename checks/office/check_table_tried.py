@@ -21,7 +21,7 @@ sys.path.insert(1, str(pathlib.Path(__file__).resolve().parents[1] / "shared"))
 from places import TOP
 from registers import IMPORT_COLUMNS, File, copy_files, new_register, run_program
 from register_rules import text_of
-from script import expect, fresh_folder, verdict
+from script import expect, fresh_folder, output_of, verdict
 from tools import exported, run_tool, words_of
 
 CASES = TOP / "desk" / "tests" / "made.json"
@@ -139,7 +139,7 @@ def by_libreoffice(folder: pathlib.Path) -> str:
         words = [program, "--headless", f"-env:UserInstallation=file://{folder}/profile", "--convert-to",
                  f"csv:{FILTER}:44,34,76", "--outdir", out, *([f"--infilter={FILTER}:{reading}"] if reading else []),
                  desk.table]
-        subprocess.run(words, capture_output=True, check=True, timeout=120)
+        output_of(words, timeout=120)
         status, lines = checked(out / "table.csv", desk.export)
         text, counts[name] = "\n".join(lines), sum(" was " in line for line in lines[:-1])
         is_same = (out / "table.csv").read_bytes() == desk.table.read_bytes()

@@ -2,11 +2,10 @@
 import html.parser
 import pathlib
 import re
-import subprocess
 from typing import Any, Optional
 
 from browser import as_seen, as_usual, chromium, print_page
-from script import expect
+from script import expect, output_of
 
 # What a person can see and reach of the page, in at most so many rows, if not in all.
 PROBE = """
@@ -117,7 +116,7 @@ class Browser:
         self.open(page)
         print_page(self.driver, sheets, printBackground=True, preferCSSPageSize=True)
         words = (["pdftotext", way, sheets, "-"] for way in ("-layout", "-bbox"))
-        text, boxes = (subprocess.run(of_way, capture_output=True, text=True, check=True).stdout for of_way in words)
+        text, boxes = map(output_of, words)
         filled = []
         for sheet in boxes.split("<page ")[1:]:
             height = float(re.search(r'height="([\d.]+)"', sheet)[1])

@@ -10,7 +10,6 @@ import hashlib
 import pathlib
 import random
 import shutil
-import subprocess
 import sys
 import time
 from typing import Any
@@ -19,7 +18,7 @@ sys.path.insert(1, str(pathlib.Path(__file__).resolve().parents[1] / "shared"))
 from places import VERSION_1
 from drawn_registers import DAY, FULL, KINDS, at_one_moment, changed, drawn, made
 from registers import UNSET, File, answered_and_killed, copy_files, database, keyreg, new_register
-from script import expect, fresh_folder, options, verdict
+from script import expect, fresh_folder, options, output_of, verdict
 from tools import many_requests, run_tool, words_of
 
 # So many bytes any requests may take, and each of them.
@@ -205,7 +204,7 @@ def swapped(first: int, second: int) -> list[Statement]:
     """Statements after which these two rows of `request` stand in each other's places."""
     return [("UPDATE request SET rowid = -1 WHERE rowid = ?", (first,)),
             ("UPDATE request SET rowid = ? WHERE rowid = ?", (first, second)),
-            ("UPDATE request SET rowid = ? WHERE rowid = -1", (other,))]
+            ("UPDATE request SET rowid = ? WHERE rowid = -1", (second,))]
 
 
 def rebuilt(file: File, way: str) -> File:
@@ -345,8 +344,7 @@ def measured(folder: pathlib.Path, count: int) -> tuple[float, int]:
     expect(accepted == count // 2 * 2, f"{accepted} of {count} accepted")
     begun = time.monotonic()
     words = [sys.executable, "-c", MEASURED, *words_of("replay", file)]
-    done = subprocess.run(words, capture_output=True, check=True)
-    status, kilobytes = map(int, done.stdout.split())
+    status, kilobytes = map(int, output_of(words).split())
     seconds, most = time.monotonic() - begun, LEAST_BYTES + BYTES_OF_ONE * count
     expect(status == 0, f"many requests: {status}")
     expect(kilobytes << 10 <= most, f"{count} requests took {kilobytes >> 10} MB, and not {most >> 20}")

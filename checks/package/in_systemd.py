@@ -20,8 +20,8 @@ from typing import Sequence
 
 sys.path.insert(1, str(pathlib.Path(__file__).resolve().parents[1] / "shared"))
 from places import TOP
-from roots import MIRROR, blocks_of, call, expect_well, made_package, make_base
-from script import expect, fresh_folder, options, verdict
+from roots import MIRROR, blocks_of, made_package, make_base
+from script import expect, fresh_folder, options, output_of, verdict
 
 MORE = ("systemd", "systemd-sysv", "dbus", "python3", "sqlite3", "curl", "nginx-light")
 PARTS = ("units", "accidents")
@@ -40,7 +40,7 @@ SECONDS = 900
 def furnish(root: pathlib.Path, parts: Sequence[str]) -> None:
     """The package in a root, whose systemd runs what is tried and then ends."""
     shutil.copy(made_package(), root / "keyreg.deb")
-    expect_well(call("chroot", root, "dpkg", "--install", "/keyreg.deb"))
+    output_of(["chroot", root, "dpkg", "--install", "/keyreg.deb"])
     shutil.copy(TOP / "checks" / "package" / "in_systemd.sh", root / "tried.sh")
     for heading, blocks in blocks_of(root / PAGE).items():
         for place, lines in enumerate(blocks, 1):

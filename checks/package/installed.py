@@ -28,7 +28,6 @@ import struct
 import subprocess
 import sys
 import tempfile
-import time
 import types
 from typing import Any, Iterator
 
@@ -39,7 +38,7 @@ import document_commands
 from client import Client
 from roots import MIRROR, PACKAGES, anchor_of, blocks_of, call, made_package, make_base
 from script import expect, fresh_folder, options, verdict
-from serving import free_port, listens
+from serving import begins_to_listen, free_port
 
 TOOLS = ("debootstrap", "lintian", "strace", "systemd-analyze", "tmux", "readelf", "zsh", "fish", "dpkg-deb")
 MORE = ("man-db", "bash-completion", "zsh", "fish", "python3", "sqlite3", "curl", "systemd", "nginx-light", "openssl")
@@ -59,7 +58,6 @@ LIBRARIES = {"libc.so.6": "libc6", "libm.so.6": "libc6", "ld-linux-x86-64.so.2":
 PAGES = ("README.md", "docs/OPERATING.md", "docs/AUDIT.md")
 # Where nginx listens, by its file, and the user whom the page adds, with a password.
 DESK_PORT, USER, PASSWORD = 8421, "alice.meyer", "wonder-land"
-SECONDS = 60
 faults: list[str] = []
 
 
@@ -266,11 +264,9 @@ def running(words: list[str], number: int) -> Iterator[bool]:
     """A program that runs meanwhile, once it listens; whether it does."""
     with subprocess.Popen(words, stdin=subprocess.DEVNULL) as process:
         try:
-            late = time.monotonic() + SECONDS
-            while not listens(number) and process.poll() is None and time.monotonic() < late:
-                time.sleep(0.05)
-            fault(listens(number), f"nothing listens at {number}: {words[-1]}")
-            yield listens(number)
+            does_listen = begins_to_listen(process, number)
+            fault(does_listen, f"nothing listens at {number}: {words[-1]}")
+            yield does_listen
         finally:
             process.terminate()
 

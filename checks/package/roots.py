@@ -6,7 +6,7 @@ import sys
 from typing import Any, Optional, Sequence
 
 from places import TOP
-from script import expect
+from script import output_of
 
 PACKAGES = TOP / "packages"
 MIRROR = "http://deb.debian.org/debian"
@@ -17,14 +17,9 @@ def call(*words: Any, given: Optional[str] = None, **more: Any) -> subprocess.Co
     return subprocess.run(words, input=given, capture_output=True, text=True, check=False, **more)
 
 
-def expect_well(done: subprocess.CompletedProcess) -> None:
-    what = " ".join(done.args[:3])
-    expect(done.returncode == 0, f"{what}: status {done.returncode}, {done.stdout[-2000:]}{done.stderr[-2000:]}")
-
-
 def made_package() -> pathlib.Path:
     """The package of Debian, made of the program."""
-    expect_well(call(TOP / "package"))
+    output_of([TOP / "package"])
     return next(PACKAGES.glob("*.deb"))
 
 
@@ -32,10 +27,10 @@ def make_base(root: pathlib.Path, base: str, mirror: str, more: Sequence[str]) -
     """Debian's base with more packages in a root: a copy of a folder, or what debootstrap fetches."""
     root.mkdir()
     if base:
-        expect_well(call("cp", "-a", f"{base}/.", root))
+        output_of(["cp", "-a", f"{base}/.", root])
     else:
         print("fetching Debian's base", file=sys.stderr)
-        expect_well(call("debootstrap", "--variant=minbase", f"--include={','.join(more)}", "bookworm", root, mirror))
+        output_of(["debootstrap", "--variant=minbase", f"--include={','.join(more)}", "bookworm", root, mirror])
 
 
 def anchor_of(heading: str) -> str:

@@ -14,13 +14,12 @@ import hashlib
 import os
 import pathlib
 import shutil
-import subprocess
 import sys
 from typing import Any
 
 sys.path.insert(1, str(pathlib.Path(__file__).resolve().parents[1] / "shared"))
 from places import PROGRAM, TOP
-from script import expect, fresh_folder, verdict
+from script import expect, fresh_folder, output_of, verdict
 
 # What differs between the two: the folder, the umask, by how many seconds its files are younger, what tools are told
 # from outside, the cores.
@@ -46,7 +45,7 @@ def first_difference(first: pathlib.Path, second: pathlib.Path) -> str:
 def sources() -> list[str]:
     """The files of the checkout, as git knows them or would take them."""
     words = ["git", "ls-files", "-z", "--cached", "--others", "--exclude-standard"]
-    names = subprocess.run(words, cwd=TOP, capture_output=True, text=True, check=True).stdout.split("\0")
+    names = output_of(words, cwd=TOP).split("\0")
     return [name for name in names if name and (TOP / name).is_file()]
 
 
@@ -71,9 +70,7 @@ def packaged(base: pathlib.Path, place: tuple[Any, ...], program: str) -> pathli
         if cores:
             os.sched_setaffinity(0, cores)
 
-    done = subprocess.run(["./package"], cwd=folder, env=environment, preexec_fn=begins, capture_output=True, text=True,
-                          check=False)
-    expect(done.returncode == 0, f"./package in {name}: {done.stderr}")
+    output_of(["./package"], cwd=folder, env=environment, preexec_fn=begins)
     return folder / "packages"
 
 

@@ -40,7 +40,7 @@ from registers import INDEXES, all_rows, answered_and_killed, are_sound, databas
 from register_rules import OF_VERSION_2, Register, Request, line
 from rules_shown import Rows, import_table, tables
 from script import expect, fresh_folder, options, show, verdict
-from serving import PATIENCE, free_port, listens, post_command, received
+from serving import PATIENCE, begins_to_listen, free_port, post_command, received
 
 PROCESSES = 2
 # Of so many pairs of files one is given all requests again.
@@ -168,10 +168,7 @@ def exchanges(file: str) -> Recording:
     files, port, trace = files_of(file), free_port(), file + ".trace"
     words = [PROGRAM, "serve", "--file", file, "--port", str(port), "--exchanges", str(len(asks))]
     with subprocess.Popen(traced(trace, words)) as served:
-        late = time.monotonic() + PATIENCE
-        while not listens(port):
-            expect(served.poll() is None and time.monotonic() < late, "exchanges: nothing listens")
-            time.sleep(0.01)
+        expect(begins_to_listen(served, port), "exchanges: nothing listens")
         replies, requests, register = [], [], Register()
         for ask in asks:
             begun = int(time.time())

@@ -11,7 +11,7 @@ from answers import BAD, get_reply, post_reply
 from places import PROGRAM
 from registers import APPROVED_ANEW, database, new_register, run_program
 from register_rules import Register, request_of
-from serving import Served, free_port, get, listens, post_command
+from serving import Served, begins_to_listen, free_port, get, listens, post_command
 
 # So long, in seconds, an end may take, and so long a program is looked at that is not to end.
 PATIENCE, GLANCE = 10, 0.2
@@ -96,9 +96,7 @@ def full_output(folder: pathlib.Path) -> Iterator[Case]:
     port = free_port()
     words = [PROGRAM, "serve", "--file", made(folder / "full"), "--port", str(port), "--exchanges", "1"]
     with open("/dev/full", "wb") as full, subprocess.Popen(words, stdout=full) as process:
-        late = time.monotonic() + PATIENCE
-        while not listens(port) and time.monotonic() < late:
-            time.sleep(0.01)
+        begins_to_listen(process, port)
         socket.create_connection(("127.0.0.1", port)).close()
         yield "serve, output full", fault_of(process.wait(PATIENCE), 0)
 

@@ -7,12 +7,11 @@ import socket
 import ssl
 import subprocess
 import tempfile
-import time
 from typing import Mapping, Optional, Union
 
 from places import DESK, UNITS
-from script import expect
-from serving import PATIENCE, free_port, listens
+from script import expect, output_of
+from serving import PATIENCE, begins_to_listen, free_port
 
 CONF = UNITS / "nginx-keyreg.conf"
 HOST, USERS = "keyreg.example", {"alice.meyer": "wonder", "office": "desk"}
@@ -35,8 +34,7 @@ def certified(folder: str) -> None:
     words = ["openssl", "req", "-x509", "-newkey", "rsa:2048", "-nodes", "-days", "2", "-subj", f"/CN={HOST}",
              "-addext", f"subjectAltName=DNS:{HOST}", "-keyout", f"{folder}/key.pem", "-out",
              f"{folder}/certificate.pem"]
-    done = subprocess.run(words, capture_output=True, text=True, check=False)
-    expect(done.returncode == 0, f"openssl: {done.stderr}")
+    output_of(words)
 
 
 def by_tls(text: str, folder: str) -> str:
@@ -75,11 +73,9 @@ class Guard:
         for name, given in (("keyreg.conf", text), ("users", users), ("nginx.conf", main)):
             pathlib.Path(folder, name).write_text(given, encoding="ascii")
         self.process = subprocess.Popen([program(), "-p", folder, "-c", f"{folder}/nginx.conf"], stderr=subprocess.PIPE)
-        late = time.monotonic() + PATIENCE
-        while not listens(self.port):
-            expect(self.process.poll() is None, f"nginx ended: {self.process.stderr and self.process.stderr.read()}")
-            expect(time.monotonic() < late, "nginx does not listen")
-            time.sleep(0.01)
+        if not begins_to_listen(self.process, self.port):
+            self.process.terminate()
+            expect(False, f"nginx does not listen: {self.process.stderr.read()}")
 
     def connected(self, name: str = HOST) -> Union[socket.socket, ssl.SSLSocket]:
         """A connection to it, by TLS with this name in its first message."""

@@ -4,6 +4,7 @@ import contextlib
 import os
 import pathlib
 import shutil
+import subprocess
 import sys
 import tempfile
 from typing import Any, Iterable, Iterator, NoReturn, Optional, Sequence, Union
@@ -51,6 +52,14 @@ def expect(holds: object, fault: str) -> None:
     """Ends the script by a fault, where something does not hold."""
     if not holds:
         sys.exit(f"FAILED: {fault}")
+
+
+def output_of(words: Sequence[Any], **how: Any) -> str:
+    """What another program writes that has to end with status 0."""
+    done = subprocess.run([*map(str, words)], **{"capture_output": True, "text": True, "check": False, **how})
+    expect(done.returncode == 0,
+           f"{' '.join(done.args[:3])}: status {done.returncode}, {done.stdout[-2000:]}{done.stderr[-2000:]}")
+    return done.stdout
 
 
 def show(progress: str = "") -> None:

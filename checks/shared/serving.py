@@ -49,6 +49,14 @@ def listens(port: int) -> bool:
     return False
 
 
+def begins_to_listen(process: subprocess.Popen, port: int) -> bool:
+    """Waits until a program that was started listens at its port; whether it does."""
+    late = time.monotonic() + PATIENCE
+    while not listens(port) and process.poll() is None and time.monotonic() < late:
+        time.sleep(0.002)
+    return listens(port)
+
+
 def received(connection: socket.socket) -> bytes:
     """All that comes up to the end. A reset ends it too: the program closes a connection whose last bytes it did not
     read."""
@@ -65,13 +73,14 @@ class Served:
     """A served register: a new one in a folder of its own, with what the lines make of it, or that of a given file."""
 
     def __init__(self, exchanges: int = 1_000_000, lines: Iterable[str] = (), file: Optional[str] = None,
-                 file_limit: Optional[int] = None, environment: Optional[dict[str, str]] = None) -> None:
+                 file_limit: Optional[int] = None, environment: Optional[dict[str, str]] = None,
+                 port: Optional[int] = None) -> None:
         self.folder = None if file else tempfile.TemporaryDirectory(dir=in_memory(2**24))
         self.file = file or os.path.join(self.folder.name, "office.keyreg")
         self.replies = keyreg(["run", "--file", file], lines) if file and lines else []
         if not file:
             self.replies = new_register(self.file, lines)
-        self.port = free_port()
+        self.port = port or free_port()
         words = [PROGRAM, "serve", "--file", self.file, "--port", str(self.port), "--exchanges", str(exchanges)]
 
         def limited() -> None:
@@ -81,12 +90,9 @@ class Served:
 
         self.process = subprocess.Popen(words, stdin=subprocess.DEVNULL, stdout=subprocess.PIPE,
                                         stderr=subprocess.PIPE, preexec_fn=limited, env=environment)
-        late = time.monotonic() + PATIENCE
-        while not listens(self.port):
-            if self.has_ended():
-                expect(False, f"serve ended with status {self.process.returncode}: {self.process.stderr.read()}")
-            expect(time.monotonic() < late, f"nothing listens at port {self.port}")
-            time.sleep(0.002)
+        if not begins_to_listen(self.process, self.port):
+            why = f": status {self.process.returncode}, {self.process.stderr.read()}" if self.has_ended() else ""
+            expect(False, f"serve does not listen at port {self.port}{why}")
 
     def connected(self, patience: float = PATIENCE) -> socket.socket:
         return socket.create_connection(("127.0.0.1", self.port), timeout=patience)
