@@ -87,7 +87,7 @@ REFUSED = {
     "register_desk/src/desk/look_ups.rt": 5,
     "register_desk/src/end.rt": 1,
     "register_desk/src/memory.rt": 1,
-    "register_desk/src/opening.rt": 2,
+    "register_desk/src/opening.rt": 1,
     "register_desk/src/rows.rt": 1,
     "register_program/src/faults.rt": 1,
     "register_report/src/table_writing.rt": 1,
