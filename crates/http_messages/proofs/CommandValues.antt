@@ -51,12 +51,13 @@ none_then (Some x) P Q f p = tt
 -- ---- the kind of a value
 
 -- the value of a command's kind stands in the member `kind`, whatever its fields
-kind_member : (kind : Data) (f : Fields) → get (codes "kind") (object (fields_members kind f)) ≡ Some kind
-kind_member kind Nothing = refl
-kind_member kind f = refl
+kind_member : (of : CommandKind) (kind : Data) (f : Fields)
+    → get (codes "kind") (object (fields_members of kind f)) ≡ Some kind
+kind_member of kind Nothing = refl
+kind_member of kind f = refl
 
 kind_found : (c : Command) → get (codes "kind") (command_data c) ≡ Some (kind_data (kind_of c))
-kind_found c = kind_member (kind_data (kind_of c)) (fields_of c)
+kind_found c = kind_member (kind_of c) (kind_data (kind_of c)) (fields_of c)
 
 one_kind : (j k : CommandKind) → Some (kind_data j) ≡ Some (kind_data k) → j ≡ k
 one_kind j k e = one_text command_kinds j k cc
@@ -100,15 +101,15 @@ one_reason a b e = one_text reasons a b (ap decimal e)
 -- ---- fields and commands
 
 -- The last two rows have every other two fields: of two shapes, or such that the members show them as they are.
-same_members : (kind : Data) (p q : Fields) → shape_of p ≡ shape_of q → fields_members kind p ≡ fields_members kind q
-    → p ≡ q
-same_members kind (TypeAndPeriod type period) (TypeAndPeriod other months) same e =
+same_members : (of : CommandKind) (kind : Data) (p q : Fields) → shape_of p ≡ shape_of q
+    → fields_members of kind p ≡ fields_members of kind q → p ≡ q
+same_members of kind (TypeAndPeriod type period) (TypeAndPeriod other months) same e =
     let types = one_type type other cc in
     let first : period.originator ≡ months.originator = cc in
     let second : period.recipient ≡ months.recipient = cc in
     let periods = one_period period months first second in
     cc (types, periods)
-same_members kind (Registration new) (Registration other) same e =
+same_members of kind (Registration new) (Registration other) same e =
     let types = one_type new.kind other.kind cc in
     let owners : new.owner ≡ other.owner = cc in
     let activations = one_date new.activation other.activation cc in
@@ -117,17 +118,17 @@ same_members kind (Registration new) (Registration other) same e =
     let purposes : new.purpose ≡ other.purpose = cc in
     ap (λ r. Registration r)
     (one_registration new other types owners activations protect_stops deactivations purposes)
-same_members kind (DateEdits key a p d) (DateEdits other a2 p2 d2) same e =
+same_members of kind (DateEdits key a p d) (DateEdits other a2 p2 d2) same e =
     let activations = one_edit a a2 cc in
     let protect_stops = one_edit p p2 cc in
     let deactivations = one_edit d d2 cc in
     cc (activations, protect_stops, deactivations)
-same_members kind (Revocation key reason occurrence) (Revocation other why date) same e =
+same_members of kind (Revocation key reason occurrence) (Revocation other why date) same e =
     let reasons = one_reason reason why cc in
     let occurrences = one_date occurrence date cc in
     cc (reasons, occurrences)
-same_members kind p Nothing same e = cc
-same_members kind p q same e = cc
+same_members of kind p Nothing same e = cc
+same_members of kind p q same e = cc
 
 some_members : (a b : Members) → object a ≡ object b → a ≡ b
 some_members a b e = cc
@@ -137,6 +138,6 @@ one_command_data p q e =
     let found = sym (kind_found p) ∙ ap (get (codes "kind")) e ∙ kind_found q in
     let same : kind_of p ≡ kind_of q = one_kind (kind_of p) (kind_of q) found in
     let shapes = has_shape p ∙ ap command_shape same ∙ sym (has_shape q) in
-    let members = e ∙ ap (λ kind. object (fields_members (kind_data kind) (fields_of q))) (sym same) in
+    let members = e ∙ ap (λ kind. object (fields_members kind (kind_data kind) (fields_of q))) (sym same) in
     same_command p q same
-    (same_members (kind_data (kind_of p)) (fields_of p) (fields_of q) shapes (some_members _ _ members))
+    (same_members (kind_of p) (kind_data (kind_of p)) (fields_of p) (fields_of q) shapes (some_members _ _ members))

@@ -18,8 +18,9 @@ ghost use Rattle.register_requests.specs.{declared.request.Edit.Edit, Fields.fie
 ghost use Rattle.register_requests.specs.{Name.IsName, Quorum.IsQuorum, CommandKind.kind_of};
 ghost use Rattle.register_requests.specs.declared.command_fields.Fields.TheVariants as fields;
 ghost use Rattle.register_requests.specs.declared.command_fields.Shape.TheVariants as shapes;
+ghost use Rattle.register_requests.specs.declared.command_fields.CommandKind.TheVariants as kinds;
 ghost use Rattle.http_messages.specs.CommandValue.{number_data, kind_data, command_data};
-ghost use Rattle.http_messages.specs.CommandValue.{members_of, fields_members};
+ghost use Rattle.http_messages.specs.CommandValue.{members_of, name_member, fields_members};
 ghost use Rattle.http_messages.specs.Within.CommandValue.{HasMembers, IsShaped};
 
 use crate::member_values::{
@@ -66,9 +67,10 @@ fn last_named<'v>(members: &mut Iter<'v, String, Value>, name: &str) -> Option<&
 
 /// No fields: there is no member beside the kind.
 fn empty_fields_of(members: &Map<String, Value>) -> Option<Fields>
-    ensures found { IfSome result (IsShaped shapes.Nothing (members_view members.now.entries)) }
+    ensures found { (of : CommandKind) → IfSome result
+        (IsShaped of shapes.Nothing (members_view members.now.entries)) }
     ensures none { IfNone result ((kind : Data) →
-        members_view members.now.entries ≢ fields_members kind Nothing) }
+        members_view members.now.entries ≢ fields_members kinds.Advance kind Nothing) }
 {
     let _kind = last_named(&mut members.iter(), "kind")?;
     Some(Fields::Nothing)
@@ -77,9 +79,9 @@ fn empty_fields_of(members: &Map<String, Value>) -> Option<Fields>
 /// The key of members that name a key alone.
 fn lone_key_of(members: &Map<String, Value>) -> Option<u32>
     ensures found { IfSome result (λ key. IsKeyNumber key
-        × HasMembers (members_view members.now.entries) (Key key)) }
+        × HasMembers kinds.Activate (members_view members.now.entries) (Key key)) }
     ensures none { IfNone result ((key : ℕ) (kind : Data) → IsKeyNumber key →
-        members_view members.now.entries ≢ fields_members kind (Key key)) }
+        members_view members.now.entries ≢ fields_members kinds.Activate kind (Key key)) }
 {
     let mut rest = members.iter();
     let key = key_number_of(next_named(&mut rest, "key")?)?;
@@ -105,11 +107,12 @@ fn key_and_value_of<'v>(members: &'v Map<String, Value>, name: &str) -> Option<(
 
 /// The fields that are a type and its period.
 fn type_and_period_fields_of(members: &Map<String, Value>) -> Option<Fields>
-    ensures found { IfSome result
-        (IsShaped shapes.TypeAndPeriod (members_view members.now.entries)) }
+    ensures found { (of : CommandKind) → IfSome result
+        (IsShaped of shapes.TypeAndPeriod (members_view members.now.entries)) }
     ensures none { IfNone result ((type : KeyType) (period : Period) (kind : Data) →
         AreFieldsInRange (TypeAndPeriod type period) →
-        members_view members.now.entries ≢ fields_members kind (TypeAndPeriod type period)) }
+        members_view members.now.entries
+        ≢ fields_members kinds.SetPeriod kind (TypeAndPeriod type period)) }
 {
     let mut rest = members.iter();
     let _kind = next_named(&mut rest, "kind")?;
@@ -123,12 +126,13 @@ fn type_and_period_fields_of(members: &Map<String, Value>) -> Option<Fields>
 
 /// The fields of a revocation. It has an occurrence only where its reason is a compromise.
 fn revocation_fields_of(members: &Map<String, Value>) -> Option<Fields>
-    ensures found { IfSome result
-        (IsShaped shapes.Revocation (members_view members.now.entries)) }
+    ensures found { (of : CommandKind) → IfSome result
+        (IsShaped of shapes.Revocation (members_view members.now.entries)) }
     ensures none { IfNone result (
         (key : ℕ) (reason : Reason) (occurrence : Option ℕ) (kind : Data) →
         AreFieldsInRange (Revocation key reason occurrence) →
-        members_view members.now.entries ≢ fields_members kind (Revocation key reason occurrence)) }
+        members_view members.now.entries
+        ≢ fields_members kinds.Revoke kind (Revocation key reason occurrence)) }
 {
     let mut rest = members.iter();
     let key = next_named(&mut rest, "key")?;
@@ -150,13 +154,14 @@ fn revocation_fields_of(members: &Map<String, Value>) -> Option<Fields>
 
 /// The fields of a change of dates.
 fn date_edit_fields_of(members: &Map<String, Value>) -> Option<Fields>
-    ensures found { IfSome result
-        (IsShaped shapes.DateEdits (members_view members.now.entries)) }
+    ensures found { (of : CommandKind) → IfSome result
+        (IsShaped of shapes.DateEdits (members_view members.now.entries)) }
     ensures none { IfNone result (
         (key : ℕ) (activation protect_stop deactivation : Edit) (kind : Data) →
         AreFieldsInRange (DateEdits key activation protect_stop deactivation) →
         members_view members.now.entries
-        ≢ fields_members kind (DateEdits key activation protect_stop deactivation)) }
+        ≢ fields_members kinds.SetDates kind
+        (DateEdits key activation protect_stop deactivation)) }
 {
     let mut rest = members.iter();
     let activation = next_named(&mut rest, "activation")?;
@@ -174,11 +179,12 @@ fn date_edit_fields_of(members: &Map<String, Value>) -> Option<Fields>
 
 /// The fields of a registration.
 fn registration_fields_of(members: &Map<String, Value>) -> Option<Fields>
-    ensures found { IfSome result
-        (IsShaped shapes.Registration (members_view members.now.entries)) }
+    ensures found { (of : CommandKind) → IfSome result
+        (IsShaped of shapes.Registration (members_view members.now.entries)) }
     ensures none { IfNone result ((new : Registration) (kind : Data) →
         AreFieldsInRange (fields.Registration new) →
-        members_view members.now.entries ≢ fields_members kind (fields.Registration new)) }
+        members_view members.now.entries
+        ≢ fields_members kinds.Register kind (fields.Registration new)) }
 {
     let mut rest = members.iter();
     let activation = next_named(&mut rest, "activation")?;
@@ -198,24 +204,34 @@ fn registration_fields_of(members: &Map<String, Value>) -> Option<Fields>
     }))
 }
 
-/// The fields of this shape with these members, whatever the value of `kind` among them.
-fn fields_of_shape(shape: Shape, members: &Map<String, Value>) -> Option<Fields>
-    ensures found { IfSome result (IsShaped shape (members_view members.now.entries)) }
+/// The member in which a command of the kind has a name beside a key.
+fn name_member(kind: CommandKind) -> &'static str
+    ensures { result.now ≡ name_member kind }
+{
+    match kind {
+        CommandKind::Assign => "owner",
+        _ => "name",
+    }
+}
+
+/// The fields of this shape, of a command of this kind with these members, whatever the value of
+/// `kind` among them.
+fn fields_of_shape(
+    kind: CommandKind,
+    shape: Shape,
+    members: &Map<String, Value>,
+) -> Option<Fields>
+    ensures found { IfSome result (IsShaped kind shape (members_view members.now.entries)) }
     ensures none { IfNone result ((fields : Fields) →
-        IsShaped shape (members_view members.now.entries) fields → ⊥) }
+        IsShaped kind shape (members_view members.now.entries) fields → ⊥) }
 {
     match shape {
         Shape::Nothing => empty_fields_of(members),
         Shape::Key => lone_key_of(members).map(|key| Fields::Key { key }),
         Shape::KeyAndName => {
-            let (key, value) = key_and_value_of(members, "name")?;
+            let (key, value) = key_and_value_of(members, name_member(kind))?;
             let name = name_of(value)?;
             Some(Fields::KeyAndName { key, name })
-        }
-        Shape::KeyAndOwner => {
-            let (key, value) = key_and_value_of(members, "owner")?;
-            let owner = name_of(value)?;
-            Some(Fields::KeyAndOwner { key, owner })
         }
         Shape::KeyAndNeed => {
             let (key, value) = key_and_value_of(members, "need")?;
@@ -240,12 +256,12 @@ fn command_kind_of(value: &Value) -> Option<CommandKind>
 /// The command of this kind with these members, whatever the value of `kind` among them.
 fn command_with_members(kind: CommandKind, members: &Map<String, Value>) -> Option<Command>
     ensures found { IfSome result (λ c. IsCommand c × (kind_of c ≡ kind) ×
-        HasMembers (members_view members.now.entries) (fields_of c)) }
+        HasMembers kind (members_view members.now.entries) (fields_of c)) }
     ensures none { IfNone result ((c : Command) → IsCommand c → kind_of c ≡ kind →
-        HasMembers (members_view members.now.entries) (fields_of c) → ⊥) }
+        HasMembers kind (members_view members.now.entries) (fields_of c) → ⊥) }
 {
     // By reference: the checker makes no proof of a `?` on fields that are held by value.
-    match &fields_of_shape(kind.shape(), members) {
+    match &fields_of_shape(kind, kind.shape(), members) {
         Some(fields) => Command::with_fields(kind, fields),
         None => None,
     }

@@ -139,7 +139,7 @@ abbrev pub need_after : Option ℕ → Command → Option ℕ
 need_after before (SetQuorum key need) = Some need
 need_after before _ = before
 
--- what becomes of the custody of a key with these dates, by a caller's command
+-- the custody of a key with these dates after a caller's command
 abbrev pub custody_change : Dates → List ℕ → Command → CustodyChange
 custody_change d caller (Revoke key reason occurrence) =
     if is_compromise reason && is_none d.destroy then ApprovalsEnded else Kept

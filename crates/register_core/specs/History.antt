@@ -60,7 +60,7 @@ abbrev pub dates : List Request → ℕ → Dates
 dates h k =
     fold (λ d p. dates_after (period p.before (type h k)) d p.request.moment p.request.command) unset_dates (own h k)
 
--- the period that the dates of key k were held to when a command gave it dates last
+-- the period that the dates of key k had to fit when a command gave it dates last
 abbrev pub dated_by : List Request → ℕ → Period
 dated_by h k =
     fold (λ before p. if sets_dates p.request.command then period p.before (type h k) else before) (periods (type h k))

@@ -14,9 +14,9 @@ use Rattle.register_store.specs.{declared.counted.Counted.Counted, Tables.Tables
 use Rattle.register_store.specs.{Schema.no_schema, TableChanges.AreRightAt, Creation.MakesRegister}
 use Rattle.register_desk.specs.Desk.{IsWhole, Asks, ChangesNothing, Ends, IsClean, IsOpen, KeepsToSteps}
 use Rattle.register_desk.specs.Register.{tables, StandsFor, HasCommitted, IsOver, Sees, Keeps, Leaves}
-use Rattle.register_desk.specs.Within.DeskCalls.{IsOfStore, LooksUp, left_by}
+use Rattle.register_desk.specs.Within.DeskCalls.{IsOfStore, LooksUp, ended, left_at, left_by}
 use Rattle.register_desk.specs.{declared.desk.Desk.Desk, declared.end.End.End, End.end_of_error}
-use Rattle.std.specs.Prelude.{IfErr, OnOk}
+use Rattle.std.specs.Prelude.{IfErr, OnOk, true}
 use Rattle.sqlite.proofs.StateLemmas.{survives_then}
 use Rattle.register_core.specs.Verdict.{max_keys}
 use Rattle.register_store.proofs.Readings.{survives_none}
@@ -183,34 +183,46 @@ module _ {S : Type 0} (g : store.Ghosts S) where
       → LooksUp g most old new (Ok y)
   looks_given most old new x y looks = record {
     mark = looks.mark;
-    ends = tt;
     reads = looks.reads;
     steps = looks.steps;
     opened = looks.opened;
   }
 
-  -- so does an end that is handed on
-  pub looks_ended : {T R : Type 0} (most : ℕ) (old new : Desk S g) (end : End) (r : Result R End) → r ≡ Err end
-      → LooksUp {T = T} g most old new (Err end) → LooksUp g most old new r
-  looks_ended {T} {R} most old new end r is looks = subst (LooksUp {T = R} g most old new) (sym is) (record {
+  -- so does an error that is handed on
+  pub looks_ended : {T R : Type 0} (most : ℕ) (old new : Desk S g) (error : StoreError) (r : Result R StoreError)
+      → r ≡ Err error → LooksUp {T = T} g most old new (Err error) → LooksUp g most old new r
+  looks_ended {T} {R} most old new error r is looks = subst (LooksUp {T = R} g most old new) (sym is) (record {
     mark = looks.mark;
-    ends = looks.ends;
     reads = looks.reads;
     steps = looks.steps;
     opened = tt;
   })
 
   -- another look-up after one that answered
-  pub looks_then : {T R : Type 0} (old mid new : Desk S g) (first second : ℕ) (x : T) (r : Result R End)
+  pub looks_then : {T R : Type 0} (old mid new : Desk S g) (first second : ℕ) (x : T) (r : Result R StoreError)
       → LooksUp g first old mid (Ok x) → LooksUp g second mid new r → LooksUp g (first + second) old new r
   looks_then old mid new first second x r one two = record {
     mark = two.mark ∙ one.mark;
-    ends = two.ends;
-    reads = nothing_then old mid (left_by r new) one.reads two.reads;
+    reads = nothing_then old mid (left_by (ended r) new) one.reads two.reads;
     steps = steps_then old mid new first second one.reads one.steps
-        (λ clean. two.reads.clean (clean_left r new clean)) two.steps;
+        (λ clean. two.reads.clean (clean_left (ended r) new clean)) two.steps;
     opened = two.opened;
   }
+
+  -- an error of the store is an end of one
+  pub end_of_store : (error : StoreError) → IsOfStore (end_of_error error)
+  end_of_store Memory = tt
+  end_of_store error = tt
+
+  -- memory gave out where the store says so
+  pub memory_of : (error : StoreError) → end_of_error error ≡ ends.Memory → error ≡ Memory
+  memory_of Memory is = refl
+  memory_of error is = absurd cc
+
+  pub never_memory : {T R : Type 0} (failed : Result T StoreError) (r : Result R End) (error : StoreError) (end : End)
+      → failed ≡ Err error → r ≡ Err end → end ≡ end_of_error error → (failed ≡ Err Memory → ⊥) → r ≡ Err ends.Memory
+      → ⊥
+  never_memory failed r error end was is of never same = never (was ∙ ap Err (memory_of error cc))
 
   ends_left : {T : Type 0} (old mid : Desk S g) (r : Result T End) → IfErr r IsOfStore → IsWhole old → IsWhole mid
       → Ends old (left_by r mid) r
@@ -238,12 +250,21 @@ module _ {S : Type 0} (g : store.Ghosts S) where
         on_ok_weaker r (λ opened clean. subst (λ c. IsTrue (seen g c).is_open)
         (sym (ap (λ (desk : Desk S g). desk.connection) left ∙ left_connection r mid)) (opened (clean_so clean)))
 
-    pub asks_so : IsWhole old → LooksUp g most old mid r → Asks g most old new r
-    asks_so whole looks = record {
-      ends = ends_so looks.ends whole looks.mark;
-      reads = subst (ChangesNothing g old) (sym left) looks.reads;
-      steps = steps_so looks.steps;
-    }
+  -- what was found answers a call that asks, and an error of its look-up ends it
+  pub asks_answered : {T : Type 0} (most : ℕ) (old new : Desk S g) (x : T) → IsWhole old
+      → LooksUp g most old new (Ok x) → Asks g most old new (Ok x)
+  asks_answered most old new x whole looks =
+      record { ends = (whole, looks.mark ∙ whole); reads = looks.reads; steps = looks.steps }
+
+  pub asks_ended : {T : Type 0} (most : ℕ) (old mid new : Desk S g) (error : StoreError) (end : End) → IsWhole old
+      → LooksUp {T = T} g most old mid (Err error) → end ≡ end_of_error error → new ≡ left_at end mid
+      → Asks {T = T} g most old new (Err end)
+  asks_ended {T} most old mid new error end whole looks is left = record {
+    ends = ends_so {T = T} most old mid new (Err end) left (subst IsOfStore (sym is) (end_of_store error)) whole looks.mark;
+    reads = subst (ChangesNothing g old) (sym left)
+        (subst (λ (e : End). ChangesNothing g old (left_at e mid)) (sym is) looks.reads);
+    steps = steps_so {T = T} most old mid new (Err end) left looks.steps;
+  }
 
 -- ---- look-ups
 
@@ -264,50 +285,54 @@ module _ {S T : Type 0} (g : store.Ghosts S) (Found : Tables → T → Type 0) (
       survives = reads.survives;
     }
 
-    looks : {R : Type 0} (given : Result R End) → IfErr given IsOfStore
-        → ChangesNothing g old (left_by given (called old after within))
+    looks : {R : Type 0} (given : Result R StoreError)
+        → ChangesNothing g old (left_by (ended given) (called old after within))
         → OnOk given (IsOpen g (called old after within)) → LooksUp g most old (called old after within) given
-    looks given of_store changes opened =
-        record { mark = refl; ends = of_store; reads = changes; steps = calls; opened = opened }
+    looks given changes opened = record { mark = refl; reads = changes; steps = calls; opened = opened }
 
-    -- the store refused, or what it gives is none that a register holds
-    pub looks_refused : (R : Type 0) → LooksUp {T = R} g most old (called old after within) (Err ends.Store)
-    looks_refused R = looks (Err ends.Store) tt (record {
+    -- a desk that breaks shows nothing
+    broken_changes : ChangesNothing g old (record (called old after within) { is_broken = true })
+    broken_changes = record {
       clean = reads.clean;
       counts = record { latest = refl; keys = refl };
       rows = λ t sees still clean. absurd cc;
       survives = reads.survives;
-    }) tt
+    }
 
     -- what the store gives is handed on
     pub looks_well : {R : Type 0} (value : T) (x : R) → r ≡ Ok value
         → LooksUp g most old (called old after within) (Ok x)
     looks_well value x is =
         let well = subst (ReadsBy Found (seen g old.connection) (seen g after)) is reads in
-        looks (Ok x) tt
+        looks (Ok x)
         (goes_on (λ t sees clean.
         (well.found clean t (seen_where_open t (seen g old.connection) (sees whole (well.clean clean)))).1))
         (λ clean. (well.opened clean).is_open)
 
-    -- so is it where it may be, and else refused
-    pub looks_where : {R : Type 0} (value : T) (given : Result R End) → r ≡ Ok value
-        → IfErr given (λ end. end ≡ ends.Store)
+    -- so is it where it may be, and else it is none that a register holds
+    pub looks_where : {R : Type 0} (value : T) (given : Result R StoreError) → r ≡ Ok value
+        → IfErr given (λ error. error ≡ NoRegister)
         → LooksUp g most old (called old after within) given
-    looks_where value (Ok x) is store = looks_well value x is
-    looks_where {R} value (Err end) is store =
-        subst (λ (e : End). LooksUp {T = R} g most old (called old after within) (Err e)) (sym store) (looks_refused R)
+    looks_where value (Ok x) is none = looks_well value x is
+    looks_where {R} value (Err error) is none =
+        subst (λ (e : StoreError). LooksUp {T = R} g most old (called old after within) (Err e)) (sym none)
+        (looks (Err NoRegister) broken_changes tt)
 
     -- the store's error ends the call
     pub looks_failed : (R : Type 0) (error : StoreError) → r ≡ Err error
-        → LooksUp {T = R} g most old (called old after within) (Err (end_of_error error))
+        → LooksUp {T = R} g most old (called old after within) (Err error)
     looks_failed R Memory is =
         let failed = subst (ReadsBy Found (seen g old.connection) (seen g after)) is reads in
-        looks (Err ends.Memory) tt
+        looks (Err Memory)
         (goes_on (λ t sees clean.
         (failed.failed clean t (seen_where_open t (seen g old.connection) (sees whole (failed.clean clean)))).unchanged
         refl)) tt
-    looks_failed R (Refused error) is = looks_refused R
-    looks_failed R NoRegister is = looks_refused R
+    looks_failed R (Refused error) is = looks (Err (Refused error)) broken_changes tt
+    looks_failed R NoRegister is = looks (Err NoRegister) broken_changes tt
+
+    pub looks_handed : (given : Result T StoreError) → r ≡ given → LooksUp g most old (called old after within) given
+    looks_handed (Ok value) is = looks_well value value is
+    looks_handed (Err error) is = looks_failed T error is
 
 -- ---- A desk over tables that were just made.
 

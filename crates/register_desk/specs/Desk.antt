@@ -32,7 +32,7 @@ module _ {S : Type 0} {g : Ghosts S} where
 
   -- ---- ends
 
-  -- each end comes of one kind of desk and leaves one
+  -- the desk before and after each end: whole or broken
   abbrev pub EndsBy : Desk S g → Desk S g → End → Type 0
   EndsBy old new Memory = IsWhole old × IsWhole new
   EndsBy old new Store = IsWhole old × IsBroken new
@@ -46,7 +46,7 @@ module _ {S : Type 0} {g : Ghosts S} where
     pub whole : IsWhole old → IsWhole new
     pub broken : IsBroken old → new ≡ old
 
-  -- a call that uses the database: an answer comes of a whole desk and leaves it whole, and an end as it says
+  -- a call that uses the database: a whole desk alone answers, and stays whole; an end leaves it as it says
   abbrev pub Ends : {T : Type 0} → Desk S g → Desk S g → Result T End → Type 0
   Ends old new result = MatchResult result (λ _. IsWhole old × IsWhole new) (EndsBy old new)
 

@@ -97,7 +97,7 @@ module _ {S : Type 0} {g : Ghosts S} where
     pub after : IsAfterRows rows.scan given
     pub ended : AreEnded rows → AreAll (until_of rows) all given
 
-  -- what comes of the next row, or of none
+  -- what the next row gives, or the end of the rows
   abbrev pub GiveNext : KeyRows S g → List KeyRow → List KeyRow → Option KeyRow → Type 0
   GiveNext rows all given None = HaveGiven rows all given × AreEnded rows
   GiveNext rows all given (Some row) = HaveGiven rows all (given ++ row ∷ [])

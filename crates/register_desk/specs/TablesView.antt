@@ -59,7 +59,7 @@ key_needed t q =
 abbrev pub period_over : Tables → KeyType → Period
 period_over t kind = period_or_default (period_at kind t.periods) kind
 
--- ---- what comes of a request
+-- ---- what a request gives
 
 -- the judgement that rests on what these tables count, and hold of the key that the request names
 abbrev pub judgement_over : Tables → Request → Option Refusal

@@ -40,7 +40,7 @@ module _ {S : Type 0} (g : Ghosts S) where
   abbrev pub StandsForEither : List Request → List Request → Desk S g → Type 0
   StandsForEither h other desk = StandsFor g desk h ⊎ StandsFor g desk other
 
-  -- The desk was asked this at a moment, and what came of it is the text of a reply, or an end.
+  -- The desk was asked this at a moment, and gave the text of a reply, or an end.
   pub record Acts (moment : ℕ) (asked : Asked) (old new : Desk S g) (result : Result (String Global) End) : Type 0 where
     pub clean : IsClean g new → IsClean g old
     pub ends : MatchResult result (λ _. GoesOn old new) (StopsAsked old new)

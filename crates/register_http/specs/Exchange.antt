@@ -38,7 +38,7 @@ module _ {S : Type 0} (g : Ghosts S) where
     pub sends : Sends reply old new outcome.written outcome.replies
     pub ends : outcome.end ≡ end
 
-  -- by what came of reading: something is asked, or nothing, as the input is empty; or memory gave out, or a read
+  -- by what reading gave: something is asked, or nothing, as the input is empty; or memory gave out, or a read
   -- failed
   abbrev pub ServesAsked : ℕ → Result (Option Asked) AskFault → Desk S g → Desk S g → Option (List ℕ)
       → Option (List ℕ) → Outcome → Type 0
@@ -58,8 +58,8 @@ module _ {S : Type 0} (g : Ghosts S) where
     pub asks : (bytes : List ℕ) → input ≡ Some bytes → IfOk asked (AsksFor bytes)
     pub serves : ServesAsked moment asked kept now old new outcome
 
--- What it leaves of its reader: each byte that was read is counted, a read that failed is told, a fault is the reader's
--- own or the bound on reads, and that is never passed. The turns are those of this exchange alone.
+-- What it leaves of its reader: each byte that was read is counted, a read that failed is reported, a fault is the
+-- reader's own or the bound on reads, and that is never passed. The turns are those of this exchange alone.
 pub record LeavesHttpReader {R : Type 0} (remaining : R → Option (List ℕ)) (old new : Watched R)
     (outcome : Outcome) : Type 0 where
   pub took : TookBytes (remaining old.inner) (remaining new.inner) outcome.read

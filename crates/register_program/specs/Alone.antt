@@ -18,7 +18,7 @@ end_alone (Err refusal) = Err refusal
 
 module _ {R W E : Type 0} (remaining : R → Option (List ℕ)) (written : W → Option (List ℕ))
     (told : E → Option (List ℕ)) where
-  -- It was run over this reader; the status is that of what this came to, which the writer of faults was told.
+  -- It was run over this reader; the status is that of its end, which was written to the writer of faults.
   pub record ActsAlone (reader reader_new : Watched R) (old new : Outputs W E) (status : ℕ) : Type 0 where
     pub came : Result Outcome OpenRefusal
     pub runs : RunsWithoutFile (remaining reader.inner) (written old.writer.inner) (written new.writer.inner) came

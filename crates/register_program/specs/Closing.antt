@@ -31,7 +31,7 @@ module _ {S : Type 0} (g : Ghosts S) (may_leave : S → Image → Type 0) where
   HoldsRecovered store left = ∥ ((db : Trees) × (g.recovers store db) × HoldsDatabase left db) ∥₁
 
   -- The files of a store were closed: what may be found in them is a database that it could come back as. A copy of the
-  -- log that is told as broken shut the store, which was not broken before.
+  -- log that is reported as broken shut the store, which was not broken before.
   pub record ClosesFiles (store : S) (closed : Closed S) : Type 0 where
     pub clean : IsCleanStore (g.view closed.store) → IsCleanStore (g.view store)
     pub shut : closed.log ≡ Broken → IsCleanStore (g.view closed.store)

@@ -1,4 +1,4 @@
--- What comes of a job over a register in a file.
+-- What a job over a register in a file does.
 use Rattle.std.specs.Prelude.{◌≡◌, ℕ, List, Option, Result, Ok, Err, IfOk, OnErr}
 use Rattle.sqlite_trees.specs.declared.store.Store.{Ghosts}
 use Rattle.sqlite.specs.Recovery.{Image}

@@ -166,7 +166,7 @@ pub record LivesOver {S : Type 0} (g : Ghosts S) (h : List Request) (items : Lis
       → LeavesInFiles (history h (take (outcome.replies + 1) items))
       (history h (take (outcome.replies + 1) items)) may_leave
 
--- Whatever its reader told, it ran over some items from the history h and wrote what it has to, and whatever a stop
+-- Whatever its reader reported, it ran over some items from the history h and wrote what it has to, and whatever a stop
 -- leaves in the files holds the register after the life that it was: of the items that were answered, and perhaps of
 -- one more. An import without its header row has no items.
 pub record LivesSome {S : Type 0} (g : Ghosts S) (h : List Request) (outcome : Outcome) (old new : Option (List ℕ))

@@ -20,7 +20,7 @@ use Rattle.register_words.specs.declared.words.Job.TheVariants.{Import, Run, Ser
 -- ---- a run
 
 -- A run of the program over the register's files: what these held; its job; what it read, what had been written before
--- it and was then; what came of it, where it opened the register; and what it left in the files, or a stop did.
+-- it and was then; its life, where it opened the register; and what it left in the files, or a stop did.
 pub record ProgramRun : Type 0 where
   pub found : Image
   pub job : Job
@@ -44,7 +44,7 @@ pub record WroteAnswers (h : List Request) (life : Life) (old new : Option (List
   pub answered : IsPrefixOf (answer_lines (take life.replies (answers h life.items))) text
   pub at_most_applied : IsPrefixOf text (answer_lines (take life.applied (answers h life.items)))
 
--- How a life fits the job of its run and what came of it. `Run` and `Import` wrote its answers and counted its replies;
+-- How a life fits the job of its run and its end. `Run` and `Import` wrote its answers and counted its replies;
 -- the items of `Run` are those of its input. `Serve` may be any life. Any other job, or one that opened no register,
 -- has no items.
 abbrev pub IsLifeOf : List Request → Job → Option Outcome → ProgramRun → Life → Type 0
@@ -104,7 +104,7 @@ AreFoundAgain =
 
 -- ---- what a job leaves in the files
 
--- what came of a job that opened the register
+-- the life of a job that opened the register
 abbrev pub outcome_of : {S U : Type 0} → Done S U → Option Outcome
 outcome_of (Lived (Ok lived)) = Some lived.outcome
 outcome_of _ = None

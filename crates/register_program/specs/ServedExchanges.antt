@@ -22,7 +22,7 @@ pub record TookThenSome (before after : Option (List ℕ)) (read : ℕ) : Type 0
   pub counted : read ≡ length bytes
 
 -- how serving ends: as many exchanges as were asked for came and went, or none may follow, or no connection was
--- accepted or no moment told
+-- accepted or no moment read
 abbrev pub EndsServing : Finish → Type 0
 EndsServing (AtEnd rest) = rest ≡ 0
 EndsServing (Ended Memory) = ⊥

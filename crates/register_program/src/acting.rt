@@ -12,7 +12,7 @@ use crate::files::{Closed, Files};
 use crate::network::Network;
 use crate::refused::Refused;
 use crate::register_file::{
-    FileLife, export_file, import_file, init_file, report_file, run_file, serve_file,
+    FileLife, RegisterFile, export_file, import_file, init_file, report_file, run_file, serve_file,
 };
 use clap::Error;
 use register_desk::{Finish, OpenRefusal, Outcome, Watched, run_in_memory};
@@ -166,16 +166,17 @@ fn perform<F: Files + Drop, N: Network + Clock + Drop, R: Read, W: Write>(
         network,
     } = machine;
     let Inputs { reader, attendance } = inputs;
+    let register = RegisterFile { path: file, files };
     match *job {
-        Job::Init => Done::Made(init_file(alloc, file, files)),
-        Job::Run => Done::Lived(run_file(alloc, file, files, reader, writer)),
+        Job::Init => Done::Made(init_file(alloc, register)),
+        Job::Run => Done::Lived(run_file(alloc, register, reader, writer)),
         Job::Import { terms } => {
-            Done::Lived(import_file(alloc, file, files, &terms, reader, writer))
+            Done::Lived(import_file(alloc, register, &terms, reader, writer))
         }
-        Job::Export => Done::Lived(export_file(alloc, file, files, writer)),
-        Job::Report { days } => Done::Lived(report_file(alloc, file, files, days, writer)),
+        Job::Export => Done::Lived(export_file(alloc, register, writer)),
+        Job::Report { days } => Done::Lived(report_file(alloc, register, days, writer)),
         Job::Serve { bounds } => {
-            Done::Lived(serve_file(alloc, file, files, &network, &bounds, attendance))
+            Done::Lived(serve_file(alloc, register, &network, &bounds, attendance))
         }
     }
 }

@@ -19,8 +19,9 @@ pub use files::{Absent, Closed, Files, LogCopy, NotConnected};
 pub use network::{Client, Listener, Network, ReadHalf, WriteHalf};
 pub use refused::{Refused, RefusedFiles};
 pub use register_file::{
-    FileLife, export_file, import_file, init_file, open_file, report_file, run_file, serve_file,
+    FileLife, RegisterFile, export_file, import_file, init_file, open_file, report_file, run_file,
+    serve_file,
 };
 pub use serving::{
-    MachineClock, Means, Now, ServedConnection, serve_at, serve_connection, serve_on,
+    Accepted, MachineClock, Means, Now, ServedConnection, serve_at, serve_connection, serve_on,
 };

@@ -21,6 +21,15 @@ use std::alloc::Global;
 use std::io::{Read, Write};
 use std::time::Clock;
 
+/// A register in a file.
+#[derive(Drop)]
+pub struct RegisterFile<'a, F> {
+    /// Where the file is.
+    pub path: &'a str,
+    /// What opens it.
+    pub files: F,
+}
+
 /// What one life of a register in a file came to.
 #[derive(Drop)]
 pub struct FileLife<S> {
@@ -57,13 +66,12 @@ fn close_desk<F: Files>(desk: Desk<F::Opened>) -> (Closed<F::Opened>, DeskMark)
 /// gave out.
 pub fn init_file<F: Files>(
     alloc: Global,
-    file: &str,
-    files: F,
+    register: RegisterFile<'_, F>,
 ) -> Result<Closed<F::Opened>, Refused<F::Opened, F::Failed>>
     ensures { MakesFile F.Opened.Store F.may_leave F.may_leave_failed
-        (F.start file.now) result }
+        (F.start register.path.now) result }
 {
-    let connection = files.connect(file, Absent::Made)?;
+    let connection = register.files.connect(register.path, Absent::Made)?;
     let desk = Desk::create(alloc, connection)?;
     let (closed, _) = close_desk::<F>(desk);
     Ok(closed)
@@ -76,12 +84,11 @@ pub fn init_file<F: Files>(
 /// or is no database.
 pub fn open_file<F: Files + Drop>(
     alloc: Global,
-    file: &str,
-    files: F,
+    register: RegisterFile<'_, F>,
 ) -> Result<Desk<F::Opened>, Refused<F::Opened, F::Failed>>
-    ensures { OpensFile F.Opened.Store F.may_leave F.may_leave_failed (F.start file.now) result }
+    ensures { OpensFile F.Opened.Store F.may_leave F.may_leave_failed (F.start register.path.now) result }
 {
-    let connection = files.connect(file, Absent::Refused)?;
+    let connection = register.files.connect(register.path, Absent::Refused)?;
     let desk = Desk::open(alloc, connection)?;
     Ok(desk)
 }
@@ -92,14 +99,13 @@ pub fn open_file<F: Files + Drop>(
 /// As [`open_file`]; nothing was read or written then.
 pub fn run_file<F: Files + Drop, R: Read, W: Write>(
     alloc: Global,
-    file: &str,
-    files: F,
+    register: RegisterFile<'_, F>,
     reader: &mut Watched<R>,
     writer: &mut Watched<W>,
 ) -> Result<FileLife<F::Opened>, Refused<F::Opened, F::Failed>>
     requires reader { reader.old.failed ≡ false }
     requires writer { writer.old.failed ≡ false }
-    ensures runs { RunsLines F.Opened.Store F.may_leave F.may_leave_failed (F.start file.now)
+    ensures runs { RunsLines F.Opened.Store F.may_leave F.may_leave_failed (F.start register.path.now)
         (R.remaining reader.old.inner) (W.contents writer.old.inner) (W.contents writer.new.inner)
         result }
     ensures ends { IfOk result (λ life. EndsRun R.remaining W.contents reader.old reader.new
@@ -107,7 +113,7 @@ pub fn run_file<F: Files + Drop, R: Read, W: Write>(
     ensures desk { IfOk result (λ life. BreaksAs life.outcome.end life.mark) }
     ensures untouched { IfErr result (λ _. writer.new ≡ writer.old) }
 {
-    let mut desk = open_file(alloc, file, files)?;
+    let mut desk = open_file(alloc, register)?;
     let outcome = run(reader, writer, &mut desk);
     let (files, mark) = close_desk::<F>(desk);
     Ok(FileLife {
@@ -124,8 +130,7 @@ pub fn run_file<F: Files + Drop, R: Read, W: Write>(
 /// As [`open_file`]; nothing was read or written then.
 pub fn import_file<F: Files + Drop, R: Read, W: Write>(
     alloc: Global,
-    file: &str,
-    files: F,
+    register: RegisterFile<'_, F>,
     terms: &Terms,
     reader: &mut Watched<R>,
     writer: &mut Watched<W>,
@@ -133,14 +138,14 @@ pub fn import_file<F: Files + Drop, R: Read, W: Write>(
     requires reader { reader.old.failed ≡ false }
     requires writer { writer.old.failed ≡ false }
     ensures imports { ImportsRows F.Opened.Store F.may_leave F.may_leave_failed
-        (F.start file.now) terms.now (R.remaining reader.old.inner) (W.contents writer.old.inner)
+        (F.start register.path.now) terms.now (R.remaining reader.old.inner) (W.contents writer.old.inner)
         (W.contents writer.new.inner) result }
     ensures ends { IfOk result (λ life. EndsImport R.remaining W.contents reader.old reader.new
         writer.old writer.new life.outcome) }
     ensures desk { IfOk result (λ life. BreaksAs life.outcome.end life.mark) }
     ensures untouched { IfErr result (λ _. writer.new ≡ writer.old) }
 {
-    let mut desk = open_file(alloc, file, files)?;
+    let mut desk = open_file(alloc, register)?;
     let outcome = import(
         alloc,
         &mut desk,
@@ -164,18 +169,17 @@ pub fn import_file<F: Files + Drop, R: Read, W: Write>(
 /// As [`open_file`]; nothing was written then.
 pub fn export_file<F: Files + Drop, W: Write>(
     alloc: Global,
-    file: &str,
-    files: F,
+    register: RegisterFile<'_, F>,
     writer: &mut Watched<W>,
 ) -> Result<FileLife<F::Opened>, Refused<F::Opened, F::Failed>>
     requires { writer.old.failed ≡ false }
-    ensures exports { Exports F.Opened.Store F.may_leave F.may_leave_failed (F.start file.now)
+    ensures exports { Exports F.Opened.Store F.may_leave F.may_leave_failed (F.start register.path.now)
         (W.contents writer.old.inner) (W.contents writer.new.inner) result }
     ensures ends { IfOk result (λ life. EndsWriting W.contents writer.old writer.new life.outcome) }
     ensures desk { IfOk result (λ life. BreaksNone life.outcome.end life.mark) }
     ensures untouched { IfErr result (λ _. writer.new ≡ writer.old) }
 {
-    let mut desk = open_file(alloc, file, files)?;
+    let mut desk = open_file(alloc, register)?;
     let outcome = export(alloc, &mut desk, writer);
     let (files, mark) = close_desk::<F>(desk);
     Ok(FileLife {
@@ -192,19 +196,18 @@ pub fn export_file<F: Files + Drop, W: Write>(
 /// As [`open_file`]; nothing was written then.
 pub fn report_file<F: Files + Drop, W: Write>(
     alloc: Global,
-    file: &str,
-    files: F,
+    register: RegisterFile<'_, F>,
     days: u32,
     writer: &mut Watched<W>,
 ) -> Result<FileLife<F::Opened>, Refused<F::Opened, F::Failed>>
     requires { writer.old.failed ≡ false }
-    ensures reports { Reports F.Opened.Store F.may_leave F.may_leave_failed (F.start file.now) days
+    ensures reports { Reports F.Opened.Store F.may_leave F.may_leave_failed (F.start register.path.now) days
         (W.contents writer.old.inner) (W.contents writer.new.inner) result }
     ensures ends { IfOk result (λ life. EndsWriting W.contents writer.old writer.new life.outcome) }
     ensures desk { IfOk result (λ life. BreaksNone life.outcome.end life.mark) }
     ensures untouched { IfErr result (λ _. writer.new ≡ writer.old) }
 {
-    let mut desk = open_file(alloc, file, files)?;
+    let mut desk = open_file(alloc, register)?;
     let outcome = rotation(alloc, &mut desk, days, writer);
     let (files, mark) = close_desk::<F>(desk);
     Ok(FileLife {
@@ -220,20 +223,19 @@ pub fn report_file<F: Files + Drop, W: Write>(
 /// As [`open_file`]; no connection was accepted then.
 pub fn serve_file<F: Files + Drop, N: Network + Clock>(
     alloc: Global,
-    file: &str,
-    files: F,
+    register: RegisterFile<'_, F>,
     network: &N,
     bounds: &Bounds,
     attendance: &mut Attendance,
 ) -> Result<FileLife<F::Opened>, Refused<F::Opened, F::Failed>>
     requires { attendance.old ≡ nobody }
     ensures serves { ServesExchanges F.Opened.Store F.may_leave F.may_leave_failed
-        (F.start file.now) bounds.now.exchanges result }
+        (F.start register.path.now) bounds.now.exchanges result }
     ensures ends { IfOk result (λ life.
         ExplainsEnd bounds.now.exchanges attendance.new life.outcome.end) }
     ensures desk { IfOk result (λ life. BreaksAs life.outcome.end life.mark) }
 {
-    let mut desk = open_file(alloc, file, files)?;
+    let mut desk = open_file(alloc, register)?;
     let end = serve_at(alloc, &mut desk, network, bounds, attendance);
     let (files, mark) = close_desk::<F>(desk);
     Ok(FileLife {

@@ -103,6 +103,17 @@ impl<W: WriteHalf, C: Clock> Write for Timed<'_, W, C> {
     }
 }
 
+/// A client who was accepted.
+#[derive(Drop)]
+pub struct Accepted<'a, R, W, C: Clock> {
+    /// Its connection.
+    pub client: Client<R, W>,
+    /// Measures how long it takes.
+    pub timer: &'a C,
+    /// The moment of its exchange.
+    pub moment: Moment,
+}
+
 /// What serving one connection came to.
 #[derive(Drop)]
 pub struct ServedConnection<R, W> {
@@ -119,14 +130,13 @@ pub fn serve_connection<S: Alter, R: ReadHalf, W: WriteHalf, C: Clock>(
     alloc: Global,
     routes: &mut Routes,
     desk: &mut Desk<S>,
-    client: Client<R, W>,
-    timer: &C,
-    moment: Moment,
+    accepted: Accepted<'_, R, W, C>,
 ) -> ServedConnection<R, W>
     // Where the client's bytes are known, the reply is to those, and it is what was sent.
-    ensures exchanges { Exchanges S.Store moment (R.remaining client.read_half) desk.old desk.new
-        (W.contents client.write_half) (W.contents result.client.write_half) result.outcome }
-    ensures reads { TookThenSome (R.remaining client.read_half)
+    ensures exchanges { Exchanges S.Store accepted.moment
+        (R.remaining accepted.client.read_half) desk.old desk.new
+        (W.contents accepted.client.write_half) (W.contents result.client.write_half) result.outcome }
+    ensures reads { TookThenSome (R.remaining accepted.client.read_half)
         (R.remaining result.client.read_half) result.outcome.read }
     ensures ended { W.has_ended result.client.write_half ≡ true }
     ensures drained { R.is_drained result.client.read_half ≡ true }
@@ -137,6 +147,11 @@ pub fn serve_connection<S: Alter, R: ReadHalf, W: WriteHalf, C: Clock>(
     ensures desk { LeavesDesk desk.old desk.new result.outcome.end }
     ensures steps { KeepsToSteps S.Store 51 desk.old desk.new }
 {
+    let Accepted {
+        client,
+        timer,
+        moment,
+    } = accepted;
     let Client {
         read_half,
         write_half,
@@ -203,7 +218,12 @@ pub fn serve_on<S: Alter, L: Listener, C: Clock, N: Now>(
         let Some(moment) = attendance.tell_moment(means.moments) else {
             return Finish::Ended(End::ReadFault);
         };
-        let connection = serve_connection(alloc, &mut routes, desk, client, means.timer, moment);
+        let accepted = Accepted {
+            client,
+            timer: means.timer,
+            moment,
+        };
+        let connection = serve_connection(alloc, &mut routes, desk, accepted);
         let finish = connection.outcome.end;
         if !may_serve_on(finish) {
             return finish;

@@ -29,7 +29,7 @@ EndsText (AtEnd rest) = rest ≡ 0
 EndsText (Ended end) = IsEndOfWriting end
 
 -- What such a call leaves of its desk: nothing changes, not even where the database refused a row,
--- and a broken desk is told as such.
+-- and a broken desk is reported as such.
 pub record LeavesAlone {S : Type 0} (g : Ghosts S) (old new : Desk S g)
     (end : Finish) : Type 0 where
   pub reads : ChangesNothing g old new

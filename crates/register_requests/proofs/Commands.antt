@@ -1,6 +1,6 @@
 -- A command is its kind and its fields.
 use Rattle.std.proofs.Common.{◌≡◌, ℕ, List, ◌++◌, Some, None, Option, arith}
-use Rattle.register_requests.specs.declared.command_fields.Fields.TheVariants.{Nothing, Key, KeyAndName, KeyAndOwner}
+use Rattle.register_requests.specs.declared.command_fields.Fields.TheVariants.{Nothing, Key, KeyAndName}
 use Rattle.register_requests.specs.declared.command_fields.Fields.TheVariants.{KeyAndNeed, TypeAndPeriod, Registration}
 use Rattle.register_requests.specs.declared.command_fields.Fields.TheVariants.{DateEdits, Revocation}
 use Rattle.register_requests.specs.CommandKind.{command_kind_text, command_shape, kind_of}
@@ -62,7 +62,7 @@ pub made : (fields : Fields) (kind : CommandKind) (c : Command) → command_with
 made Nothing kinds.Advance c e = record { kind_is = cc; fields_are = cc }
 made (Key key) kinds.Activate c e = record { kind_is = cc; fields_are = cc }
 made (KeyAndName key name) kinds.AddCustodian c e = record { kind_is = cc; fields_are = cc }
-made (KeyAndOwner key owner) kinds.Assign c e = record { kind_is = cc; fields_are = cc }
+made (KeyAndName key name) kinds.Assign c e = record { kind_is = cc; fields_are = cc }
 made (KeyAndNeed key need) kinds.SetQuorum c e = record { kind_is = cc; fields_are = cc }
 made (TypeAndPeriod kind period) kinds.SetPeriod c e = record { kind_is = cc; fields_are = cc }
 made (Registration new) kinds.Register c e = record { kind_is = cc; fields_are = cc }

@@ -7,7 +7,7 @@ use Rattle.std.specs.Prelude.{codes, decimal, ◌⊎◌}
 use Rattle.period_core.specs.Period.{Period, IsPeriod, of_months, max_months}
 use Rattle.period_core.specs.{KeyType.key_type_text, declared.key_type.KeyType.KeyType}
 use Rattle.lifecycle_core.specs.{declared.reason.Reason.Reason, Reason.is_compromise}
-use Rattle.register_requests.specs.declared.command_fields.Fields.TheVariants.{Nothing, Key, KeyAndName, KeyAndOwner}
+use Rattle.register_requests.specs.declared.command_fields.Fields.TheVariants.{Nothing, Key, KeyAndName}
 use Rattle.register_requests.specs.declared.command_fields.Fields.TheVariants.{KeyAndNeed, TypeAndPeriod, Registration}
 use Rattle.register_requests.specs.declared.command_fields.Fields.TheVariants.{DateEdits, Revocation}
 use Rattle.register_requests.specs.CommandKind.{command_kind_text, command_shape, kind_of}
@@ -168,15 +168,6 @@ name_back bytes f is = absurd (let other = is.shape_is in cc)
 
 pub key_and_name : Makes IsNamed (λ x. KeyAndName x.0 x.1) (AreAfter shapes.KeyAndName)
 key_and_name = record { there = λ bytes x is. grind (arith, spelled, joined_named); back = name_back }
-
-owner_back : (bytes : List ℕ) (f : Fields) → AreAfter shapes.KeyAndOwner bytes f
-    → (x : ℕ × List ℕ) × IsNamed bytes x × (f ≡ KeyAndOwner x.0 x.1)
-owner_back bytes (KeyAndOwner key owner) is =
-    ((key, owner), named bytes key owner is.in_range.0 is.in_range.1 is.text, refl)
-owner_back bytes f is = absurd (let other = is.shape_is in cc)
-
-pub key_and_owner : Makes IsNamed (λ x. KeyAndOwner x.0 x.1) (AreAfter shapes.KeyAndOwner)
-key_and_owner = record { there = λ bytes x is. grind (arith, spelled, joined_named); back = owner_back }
 
 -- a key's number, and how many approvals its destruction needs
 abbrev IsNeeding : List ℕ → ℕ × ℕ → Type 0
@@ -352,7 +343,6 @@ shaped shapes.Nothing = record {
 }
 shaped shapes.Key = made_exact key_alone key_numbers.exact
 shaped shapes.KeyAndName = made_exact key_and_name named_exact
-shaped shapes.KeyAndOwner = made_exact key_and_owner named_exact
 shaped shapes.KeyAndNeed = made_exact key_and_need (split_exact key_numbers.exact quorums.exact)
 shaped shapes.TypeAndPeriod = made_exact type_and_period (split_exact key_types.exact periods)
 shaped shapes.Registration =

@@ -4,7 +4,7 @@ use Rattle.register_requests.specs.declared.request.Command.TheVariants.{Registe
 use Rattle.register_requests.specs.declared.request.Command.TheVariants.{AddCustodian, RemoveCustodian, Approve}
 use Rattle.register_requests.specs.declared.request.Command.TheVariants.{Withdraw, Destroy, Advance, SetQuorum}
 use Rattle.register_requests.specs.declared.request.Command.TheVariants.{SetPeriod}
-use Rattle.register_requests.specs.declared.command_fields.Fields.TheVariants.{Nothing, Key, KeyAndName, KeyAndOwner}
+use Rattle.register_requests.specs.declared.command_fields.Fields.TheVariants.{Nothing, Key, KeyAndName}
 use Rattle.register_requests.specs.declared.command_fields.Fields.TheVariants.{KeyAndNeed, TypeAndPeriod, Registration}
 use Rattle.register_requests.specs.declared.command_fields.Fields.TheVariants.{DateEdits, Revocation}
 use Rattle.register_requests.specs.{declared.command_fields.CommandKind.CommandKind, declared.request.Command.Command}
@@ -18,7 +18,7 @@ fields_of (Register new) = Registration new
 fields_of (Activate key) = Key key
 fields_of (SetDates key activation protect_stop deactivation) = DateEdits key activation protect_stop deactivation
 fields_of (Revoke key reason occurrence) = Revocation key reason occurrence
-fields_of (Assign key owner) = KeyAndOwner key owner
+fields_of (Assign key owner) = KeyAndName key owner
 fields_of (AddCustodian key name) = KeyAndName key name
 fields_of (RemoveCustodian key name) = KeyAndName key name
 fields_of (Approve key) = Key key
@@ -35,7 +35,7 @@ command_with kinds.Activate (Key key) = Some (Activate key)
 command_with kinds.SetDates (DateEdits key activation protect_stop deactivation) =
     Some (SetDates key activation protect_stop deactivation)
 command_with kinds.Revoke (Revocation key reason occurrence) = Some (Revoke key reason occurrence)
-command_with kinds.Assign (KeyAndOwner key owner) = Some (Assign key owner)
+command_with kinds.Assign (KeyAndName key name) = Some (Assign key name)
 command_with kinds.AddCustodian (KeyAndName key name) = Some (AddCustodian key name)
 command_with kinds.RemoveCustodian (KeyAndName key name) = Some (RemoveCustodian key name)
 command_with kinds.Approve (Key key) = Some (Approve key)
@@ -51,7 +51,6 @@ abbrev pub shape_of : Fields → Shape
 shape_of Nothing = shapes.Nothing
 shape_of (Key key) = shapes.Key
 shape_of (KeyAndName key name) = shapes.KeyAndName
-shape_of (KeyAndOwner key owner) = shapes.KeyAndOwner
 shape_of (KeyAndNeed key need) = shapes.KeyAndNeed
 shape_of (TypeAndPeriod kind period) = shapes.TypeAndPeriod
 shape_of (Registration new) = shapes.Registration

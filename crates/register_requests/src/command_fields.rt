@@ -78,7 +78,7 @@ impl CommandKind {
             CommandKind::Activate => CommandForm { word: "activate", shape: Shape::Key, since: First },
             CommandKind::SetDates => CommandForm { word: "set", shape: Shape::DateEdits, since: First },
             CommandKind::Revoke => CommandForm { word: "revoke", shape: Shape::Revocation, since: First },
-            CommandKind::Assign => CommandForm { word: "assign", shape: Shape::KeyAndOwner, since: First },
+            CommandKind::Assign => CommandForm { word: "assign", shape: Shape::KeyAndName, since: First },
             CommandKind::AddCustodian => CommandForm { word: "add-custodian", shape: Shape::KeyAndName, since: First },
             CommandKind::RemoveCustodian => CommandForm { word: "remove-custodian", shape: Shape::KeyAndName, since: First },
             CommandKind::Approve => CommandForm { word: "approve", shape: Shape::Key, since: First },
@@ -138,7 +138,6 @@ pub enum Shape {
     Nothing,
     Key,
     KeyAndName,
-    KeyAndOwner,
     KeyAndNeed,
     TypeAndPeriod,
     Registration,
@@ -157,11 +156,6 @@ pub enum Fields {
     KeyAndName {
         key: u32,
         name: Name,
-    },
-    /// A name that a JSON value has in the member `owner`.
-    KeyAndOwner {
-        key: u32,
-        owner: Name,
     },
     KeyAndNeed {
         key: u32,
@@ -186,7 +180,29 @@ pub enum Fields {
 }
 
 impl Command {
-    ghost use Rattle.register_requests.specs.{Request.is_in_range, Subject.named};
+    ghost use Rattle.register_requests.specs.{CommandKind.kind_of, Request.is_in_range};
+    ghost use Rattle.register_requests.specs.{Subject.named};
+
+    /// The kind of the command.
+    pub fn kind(&self) -> CommandKind
+        ensures { result ≡ kind_of self.now }
+    {
+        match self {
+            Command::Register(_) => CommandKind::Register,
+            Command::Activate { .. } => CommandKind::Activate,
+            Command::SetDates { .. } => CommandKind::SetDates,
+            Command::Revoke { .. } => CommandKind::Revoke,
+            Command::Assign { .. } => CommandKind::Assign,
+            Command::AddCustodian { .. } => CommandKind::AddCustodian,
+            Command::RemoveCustodian { .. } => CommandKind::RemoveCustodian,
+            Command::Approve { .. } => CommandKind::Approve,
+            Command::Withdraw { .. } => CommandKind::Withdraw,
+            Command::Destroy { .. } => CommandKind::Destroy,
+            Command::Advance => CommandKind::Advance,
+            Command::SetQuorum { .. } => CommandKind::SetQuorum,
+            Command::SetPeriod { .. } => CommandKind::SetPeriod,
+        }
+    }
 
     /// The number of the key that the command names, if it names one.
     pub fn key(&self) -> Option<u32>
@@ -238,7 +254,7 @@ impl Command {
             (Kind::Revoke, Fields::Revocation { key, reason, occurrence }) => {
                 Some(Command::Revoke { key, reason, occurrence })
             }
-            (Kind::Assign, Fields::KeyAndOwner { key, owner }) => Some(Command::Assign { key, owner }),
+            (Kind::Assign, Fields::KeyAndName { key, name }) => Some(Command::Assign { key, owner: name }),
             (Kind::AddCustodian, Fields::KeyAndName { key, name }) => Some(Command::AddCustodian { key, name }),
             (Kind::RemoveCustodian, Fields::KeyAndName { key, name }) => Some(Command::RemoveCustodian { key, name }),
             (Kind::Approve, Fields::Key { key }) => Some(Command::Approve { key }),

@@ -1,7 +1,6 @@
 //! The rule of each command, as a table.
 ghost use Rattle.std.specs.Prelude.{◌≡◌};
 
-use crate::command_fields::CommandKind;
 use crate::request::Command;
 use lifecycle_core::State;
 
@@ -35,11 +34,9 @@ pub enum KeyPart {
 /// register's own.
 #[derive(Clone, Copy)]
 pub struct Rule {
-    pub kind: CommandKind,
     pub giver: Giver,
     /// Those in which a key may be for it.
     pub states: &'static [State],
-    pub looks_at: KeyPart,
 }
 
 /// A key in these states is not destroyed.
@@ -69,70 +66,47 @@ static ACTIVE: [State; 1] = [State::Active];
 static DATED_BY_HAND: [State; 2] = [State::PreActive, State::Active];
 
 impl Command {
-    ghost use Rattle.register_requests.specs.CommandKind.{kind_of};
     ghost use Rattle.register_requests.specs.CommandRule.{rule, looks_at};
 
     /// The command's rule.
     #[rattlefmt::skip]
     pub fn rule(&self) -> Rule
-        ensures kind { result.kind ≡ kind_of self.now }
         ensures giver { result.giver ≡ (rule self.now).giver }
         ensures states { result.states.now ≡ (rule self.now).states }
-        ensures looks_at { result.looks_at ≡ looks_at self.now }
     {
-        use CommandKind as Kind;
         use Giver::{Anybody, Custodian, Office, Owner};
-        use KeyPart::{Custody, CustodyAndNeed, Row};
         match *self {
-            Command::Register(_) => {
-                Rule { kind: Kind::Register, giver: Anybody, states: &State::ALL, looks_at: Row }
-            }
-            Command::Activate { .. } => {
-                Rule { kind: Kind::Activate, giver: Owner, states: &PRE_ACTIVE, looks_at: Row }
-            }
-            Command::SetDates { .. } => {
-                Rule { kind: Kind::SetDates, giver: Owner, states: &DATED_BY_HAND, looks_at: Row }
-            }
+            Command::Register(_) => Rule { giver: Anybody, states: &State::ALL },
+            Command::Activate { .. } => Rule { giver: Owner, states: &PRE_ACTIVE },
+            Command::SetDates { .. } => Rule { giver: Owner, states: &DATED_BY_HAND },
             Command::Revoke { reason, .. } if reason.is_compromise() => {
-                Rule { kind: Kind::Revoke, giver: Anybody, states: &BEFORE_COMPROMISE, looks_at: Row }
+                Rule { giver: Anybody, states: &BEFORE_COMPROMISE }
             }
-            Command::Revoke { .. } => {
-                Rule { kind: Kind::Revoke, giver: Owner, states: &ACTIVE, looks_at: Row }
-            }
-            Command::Assign { .. } => {
-                Rule { kind: Kind::Assign, giver: Owner, states: &State::ALL, looks_at: Custody }
-            }
-            Command::AddCustodian { .. } => {
-                Rule { kind: Kind::AddCustodian, giver: Owner, states: &State::ALL, looks_at: Custody }
-            }
-            Command::RemoveCustodian { .. } => {
-                Rule { kind: Kind::RemoveCustodian, giver: Owner, states: &NOT_DESTROYED, looks_at: Custody }
-            }
-            Command::Approve { .. } => {
-                Rule { kind: Kind::Approve, giver: Custodian, states: &BEFORE_DESTRUCTION, looks_at: Custody }
-            }
-            Command::Withdraw { .. } => {
-                Rule { kind: Kind::Withdraw, giver: Custodian, states: &NOT_DESTROYED, looks_at: Custody }
-            }
-            Command::Destroy { .. } => {
-                Rule { kind: Kind::Destroy, giver: Owner, states: &BEFORE_DESTRUCTION, looks_at: CustodyAndNeed }
-            }
-            Command::Advance => {
-                Rule { kind: Kind::Advance, giver: Anybody, states: &State::ALL, looks_at: Row }
-            }
-            Command::SetQuorum { .. } => {
-                Rule { kind: Kind::SetQuorum, giver: Owner, states: &State::ALL, looks_at: Row }
-            }
-            Command::SetPeriod { .. } => {
-                Rule { kind: Kind::SetPeriod, giver: Office, states: &State::ALL, looks_at: Row }
-            }
+            Command::Revoke { .. } => Rule { giver: Owner, states: &ACTIVE },
+            Command::Assign { .. } => Rule { giver: Owner, states: &State::ALL },
+            Command::AddCustodian { .. } => Rule { giver: Owner, states: &State::ALL },
+            Command::RemoveCustodian { .. } => Rule { giver: Owner, states: &NOT_DESTROYED },
+            Command::Approve { .. } => Rule { giver: Custodian, states: &BEFORE_DESTRUCTION },
+            Command::Withdraw { .. } => Rule { giver: Custodian, states: &NOT_DESTROYED },
+            Command::Destroy { .. } => Rule { giver: Owner, states: &BEFORE_DESTRUCTION },
+            Command::Advance => Rule { giver: Anybody, states: &State::ALL },
+            Command::SetQuorum { .. } => Rule { giver: Owner, states: &State::ALL },
+            Command::SetPeriod { .. } => Rule { giver: Office, states: &State::ALL },
         }
     }
 
-    /// The kind of the command.
-    pub fn kind(&self) -> CommandKind
-        ensures { result ≡ kind_of self.now }
+    /// What a decision on the command looks at of the key that it names (this register's own).
+    pub fn looks_at(&self) -> KeyPart
+        ensures { result ≡ looks_at self.now }
     {
-        self.rule().kind
+        match self {
+            Command::Assign { .. }
+            | Command::AddCustodian { .. }
+            | Command::RemoveCustodian { .. }
+            | Command::Approve { .. }
+            | Command::Withdraw { .. } => KeyPart::Custody,
+            Command::Destroy { .. } => KeyPart::CustodyAndNeed,
+            _ => KeyPart::Row,
+        }
     }
 }

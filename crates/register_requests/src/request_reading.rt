@@ -67,10 +67,6 @@ fn read_fields(shape: Shape, bytes: &[u8]) -> Option<Fields>
             let (key, name) = FromBytes::from_bytes(bytes)?;
             Some(Fields::KeyAndName { key, name })
         }
-        Shape::KeyAndOwner => {
-            let (key, owner) = FromBytes::from_bytes(bytes)?;
-            Some(Fields::KeyAndOwner { key, owner })
-        }
         Shape::KeyAndNeed => {
             let (key, need) = FromBytes::from_bytes(bytes)?;
             Some(Fields::KeyAndNeed { key, need })

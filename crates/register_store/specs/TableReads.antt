@@ -91,7 +91,7 @@ pub record ReadsBy {T : Type 0} (Found : Tables → T → Type 0) (old new : Sta
   pub clean : HasCleanDisk new → HasCleanDisk old
   pub survives : Survives old new (λ _. ⊥)
 
--- whatever came of the call, a connection that is open sees what it saw, where that was committed
+-- whatever the call gave, a connection that is open sees what it saw, where that was committed
 pub record SeesStill (old new : State) : Type 0 where
   pub was_open : IsTrue old.is_open
   pub now_is : new.now ≡ old.now

@@ -206,7 +206,7 @@ to_custodian = reference (1 ∷ 2 ∷ []) (codes "custodian") (codes "key_no" �
 
 -- ---- what each table is
 
--- What is told of one table.
+-- What is said of one table.
 pub record Form : Type 1 where
   -- its place among the tables
   pub place : ℕ

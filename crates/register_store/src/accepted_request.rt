@@ -1,5 +1,5 @@
 //! What an accepted request writes, as one transaction; its own row, and finding it again.
-ghost use Rattle.std.specs.Prelude.{◌≡◌, ◌≢◌, ℕ, pos, Option, MatchOption, ◌≤◌, ◌+◌, IfOk};
+ghost use Rattle.std.specs.Prelude.{◌≡◌, ◌≢◌, ℕ, pos, Option, MatchOption, ◌≤◌, ◌+◌, IfOk, Err};
 ghost use Rattle.sqlite.specs.declared.types.Value.TheVariants.{Int, Text as Words};
 ghost use Rattle.sqlite.specs.{Held.state, Order.column};
 ghost use Rattle.sqlite_value.specs.Value.{owned};
@@ -138,6 +138,7 @@ pub fn find_request<S: Alter>(
     ensures counted { Calls 2 connection.old connection.new }
     ensures reads { Reads S.Store (HasRequest caller.now number)
         connection.old connection.new result }
+    ensures no_memory { result ≢ Err StoreError.Memory }
 {
     connection.find_one_row(
         columns!(request listed "SELECT ", " FROM request WHERE caller = ?1 AND number = ?2"),

@@ -1,5 +1,6 @@
 //! What is set beside the keys themselves: the usage periods of types, and how many approvals the
 //! destruction of a key needs.
+ghost use Rattle.std.specs.Prelude.{◌≢◌, Err};
 ghost use Rattle.register_store.specs.Within.TableChanges.{Always, HasNoneSet, more_set};
 ghost use Rattle.register_store.specs.Within.TableChanges.{with_setting, without_set};
 ghost use Rattle.register_store.specs.TableReads.{Calls, HasNeed, HasPeriod, KeepsSight, Reads};
@@ -107,6 +108,7 @@ pub fn find_key_need<S: Alter>(
 ) -> Result<Option<Quorum>, StoreError>
     ensures counted { Calls 2 connection.old connection.new }
     ensures reads { Reads S.Store (HasNeed key) connection.old connection.new result }
+    ensures no_memory { result ≢ Err StoreError.Memory }
 {
     connection.find_one_row(
         columns!(quorum listed "SELECT ", " FROM quorum WHERE key_no = ?1"),
@@ -133,6 +135,7 @@ pub fn find_office_period<S: Alter>(
     ensures counted { Calls 2 connection.old connection.new }
     ensures sight { KeepsSight (seen S.Store connection.old) (seen S.Store connection.new) }
     ensures reads { Reads S.Store (HasPeriod kind) connection.old connection.new result }
+    ensures no_memory { result ≢ Err StoreError.Memory }
 {
     connection.find_one_row(
         columns!(period listed "SELECT ", " FROM period WHERE kind = ?1"),

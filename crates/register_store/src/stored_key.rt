@@ -1,6 +1,6 @@
 //! A key in its tables: its row, which is found, added and changed in what can change of it, and its
 //! custody.
-ghost use Rattle.std.specs.Prelude.{◌≡◌, ◌≢◌, ◌≤◌, MatchOption, ◌+◌, Option, length, IfOk, IfErr};
+ghost use Rattle.std.specs.Prelude.{◌≡◌, ◌≢◌, ◌≤◌, MatchOption, ◌+◌, Option, length, IfOk, IfErr, Err};
 ghost use Rattle.sqlite.specs.Held.{state};
 ghost use Rattle.lifecycle_core.specs.declared.dates.Dates.{Dates};
 ghost use Rattle.register_core.specs.{declared.key.Key.Key, Dates.AreDates};
@@ -97,6 +97,7 @@ pub fn find_key_row<S: Alter>(
     ensures counted { Calls 2 connection.old connection.new }
     ensures sight { KeepsSight (seen S.Store connection.old) (seen S.Store connection.new) }
     ensures reads { Reads S.Store (HasRow number) connection.old connection.new result }
+    ensures no_memory { result ≢ Err StoreError.Memory }
 {
     connection.find_one_row(FIND_KEY, params![number], key_in)
 }

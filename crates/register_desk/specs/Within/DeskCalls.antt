@@ -1,11 +1,12 @@
 -- What the private calls of a desk say of one another.
-use Rattle.std.specs.Prelude.{◌≡◌, ℕ, true, Ok, Err, IfErr, OnOk, Result}
+use Rattle.std.specs.Prelude.{◌≡◌, ℕ, true, Ok, Err, OnOk, Result}
+use Rattle.register_store.specs.declared.error.StoreError.{StoreError}
 use Rattle.sqlite_trees.specs.declared.store.Store.{Ghosts}
 use Rattle.register_desk.specs.declared.end.End.TheVariants.{Memory, Store}
 use Rattle.register_desk.specs.Desk.{ChangesNothing, IsOpen, KeepsToSteps}
-use Rattle.register_desk.specs.{declared.desk.Desk.Desk, declared.end.End.End}
+use Rattle.register_desk.specs.{declared.desk.Desk.Desk, declared.end.End.End, End.end_of_error}
 
--- an end that comes of a call of the store
+-- an end that a failed call of the store gives
 abbrev pub IsOfStore : End → Type 0
 IsOfStore Memory = Unit {0}
 IsOfStore Store = Unit {0}
@@ -22,12 +23,16 @@ module _ {S : Type 0} {g : Ghosts S} where
   left_by (Ok value) desk = desk
   left_by (Err end) desk = left_at end desk
 
--- What a look-up does, before an end of it breaks the desk: that changes nothing, takes at most so many steps where the
+-- the result of a call of the store, as a call of the desk gives it
+abbrev pub ended : {T : Type 0} → Result T StoreError → Result T End
+ended (Ok value) = Ok value
+ended (Err error) = Err (end_of_error error)
+
+-- What a look-up does, before its failure breaks the desk: that changes nothing, takes at most so many steps where the
 -- desk stands for a history, and where it answers the connection is open.
-pub record LooksUp {S T : Type 0} (g : Ghosts S) (most : ℕ) (old new : Desk S g) (result : Result T End)
+pub record LooksUp {S T : Type 0} (g : Ghosts S) (most : ℕ) (old new : Desk S g) (result : Result T StoreError)
     : Type 0 where
   pub mark : new.is_broken ≡ old.is_broken
-  pub ends : IfErr result IsOfStore
-  pub reads : ChangesNothing g old (left_by result new)
+  pub reads : ChangesNothing g old (left_by (ended result) new)
   pub steps : KeepsToSteps g most old new
   pub opened : OnOk result (IsOpen g new)

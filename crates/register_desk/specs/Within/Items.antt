@@ -1,4 +1,4 @@
--- What is to come of an input, beside `specs/Items.antt`.
+-- What the items of an input have to give, beside `specs/Items.antt`.
 use Rattle.std.specs.Prelude.{◌≡◌, ◌++◌, ℕ, List, Option}
 use Rattle.register_requests.specs.declared.request.Request.{Request}
 

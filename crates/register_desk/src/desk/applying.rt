@@ -3,7 +3,7 @@
 use crate::desk::Desk;
 use crate::end::End;
 use register_core::{Accept, Answer, KeptReply, Name, Refusal, Request, RequestNumber, decide};
-use register_store::{commit_request, find_request};
+use register_store::{StoreError, commit_request, find_request};
 use sqlite::Alter;
 
 impl<S: Alter> Desk<S> {
@@ -148,21 +148,21 @@ impl<S: Alter> Desk<S> {
         &mut self,
         caller: &Name,
         number: RequestNumber,
-    ) -> Result<Option<KeptReply>, End>
+    ) -> Result<Option<KeptReply>, StoreError>
         requires { IsWhole self.old }
         ensures looks { LooksUp S.Store 2 self.old self.new result }
-        ensures no_memory { result ≢ Err End.Memory }
+        ensures no_memory { result ≢ Err StoreError.Memory }
         ensures kept { (t : Tables) → Sees S.Store t self.old → IsClean S.Store self.new
             → IfOk result (HasRequest caller.now number t) }
         ensures within { IfOk result (λ found. IfSome found (λ kept.
             (kept.reply.moment ≤ latest_of self.old) × (kept.reply.key ≤ keys_of self.old))) }
     {
-        match find_request(&mut self.connection, caller, number) {
-            Ok(Some(kept)) if !kept.reply.is_within_counts(self.latest, self.keys) => {
-                Err(End::Store)
+        let found = find_request(&mut self.connection, caller, number)?;
+        match found {
+            Some(kept) if !kept.reply.is_within_counts(self.latest, self.keys) => {
+                Err(StoreError::NoRegister)
             }
-            Ok(found) => Ok(found),
-            Err(_) => Err(End::Store),
+            found => Ok(found),
         }
     }
 }

@@ -3,12 +3,11 @@ ghost use Rattle.std.specs.Prelude.{◌≡◌, unwrap_or};
 ghost use Rattle.register_desk.specs.TablesView.{held_without_custody};
 
 use crate::desk::Desk;
-use crate::end::End;
 use period_core::{KeyType, Period};
 use register_core::{
     Command, Held, Key, KeyPart, Names, Purpose, Quorum, Request, View, needed_period_type,
 };
-use register_store::{find_key_need, find_key_row, find_office_period, load_key};
+use register_store::{StoreError, find_key_need, find_key_row, find_office_period, load_key};
 use sqlite::Alter;
 use std::alloc::Global;
 
@@ -27,14 +26,14 @@ impl<S: Alter> Desk<S> {
     ghost use Rattle.register_core.specs.{Decision.IsRightKey, Settings.period_at};
 
     /// What the decision on the request rests on.
-    pub(super) fn look_up_needed_view(&mut self, request: &Request) -> Result<View, End>
+    pub(super) fn look_up_needed_view(&mut self, request: &Request) -> Result<View, StoreError>
         requires whole { IsWhole self.old }
         requires opened { IsOpen S.Store self.old }
         ensures looks { LooksUp S.Store 40 self.old self.new result }
         ensures latest { IfOk result (λ view. view.latest ≡ self.new.latest) }
         ensures keys { IfOk result (λ view. view.keys ≡ self.new.keys) }
         ensures right { IfOk result (λ view. IsRightKey view.key view.latest) }
-        ensures memory { result ≡ Err End.Memory → looks_at_custody request.now.command ≡ true }
+        ensures memory { result ≡ Err StoreError.Memory → looks_at_custody request.now.command ≡ true }
         ensures there { IfOk result (λ view. view.key ≡ None
             → (request.now.moment < self.old.latest)
             ⊎ NamesNoKey self.old.keys request.now.command) }
@@ -58,11 +57,11 @@ impl<S: Alter> Desk<S> {
         &mut self,
         key: &Option<Held>,
         command: &Command,
-    ) -> Result<Option<Period>, End>
+    ) -> Result<Option<Period>, StoreError>
         requires whole { IsWhole self.old }
         requires opened { IsOpen S.Store self.old }
         ensures looks { LooksUp S.Store 2 self.old self.new result }
-        ensures no_memory { result ≢ Err End.Memory }
+        ensures no_memory { result ≢ Err StoreError.Memory }
         ensures found { (t : Tables) → Sees S.Store t self.old → IsClean S.Store self.new
             → IfOk result (λ set. IfSome (needed_period_type key.now command.now) (λ kind.
             set ≡ period_at kind t.periods)) }
@@ -75,29 +74,26 @@ impl<S: Alter> Desk<S> {
 
     /// The usage period that the office set for the type, if it set one, by the tables. Whatever came
     /// of it an open connection sees what it saw.
-    pub(super) fn look_up_office_period(&mut self, kind: KeyType) -> Result<Option<Period>, End>
+    pub(super) fn look_up_office_period(&mut self, kind: KeyType) -> Result<Option<Period>, StoreError>
         ensures looks { IsWhole self.old → LooksUp S.Store 2 self.old self.new result }
         ensures reads { ChangesNothing S.Store self.old self.new }
         ensures mark { self.new.is_broken ≡ self.old.is_broken }
         ensures steps { TakesSteps 2 self.old self.new }
-        ensures refused { IfErr result (λ end. end ≡ End.Store) }
+        ensures no_memory { result ≢ Err StoreError.Memory }
         ensures found { (t : Tables) → Sees S.Store t self.old → IsWhole self.old
             → IsClean S.Store self.new → IfOk result (λ set. set ≡ period_at kind t.periods) }
     {
-        match find_office_period(&mut self.connection, kind) {
-            Ok(set) => Ok(set),
-            Err(_) => Err(End::Store),
-        }
+        find_office_period(&mut self.connection, kind)
     }
 
     /// What the decision on the request needs of the key that it names, as that stands at the
     /// latest moment.
-    fn look_up_needed_key(&mut self, request: &Request) -> Result<Option<Held>, End>
+    fn look_up_needed_key(&mut self, request: &Request) -> Result<Option<Held>, StoreError>
         requires whole { IsWhole self.old }
         requires opened { IsOpen S.Store self.old }
         ensures looks { LooksUp S.Store 38 self.old self.new result }
         ensures right { IfOk result (λ key. IsRightKey key self.old.latest) }
-        ensures memory { result ≡ Err End.Memory → looks_at_custody request.now.command ≡ true }
+        ensures memory { result ≡ Err StoreError.Memory → looks_at_custody request.now.command ≡ true }
         ensures there { IfOk result (λ key. key ≡ None
             → (request.now.moment < self.old.latest)
             ⊎ NamesNoKey self.old.keys request.now.command) }
@@ -111,7 +107,7 @@ impl<S: Alter> Desk<S> {
             return Ok(None);
         };
         match self.look_up_key_for_command(&request.command, number)? {
-            Some(held) if !held.row.has_right_state_at(self.latest) => Err(End::Store),
+            Some(held) if !held.row.has_right_state_at(self.latest) => Err(StoreError::NoRegister),
             found => Ok(found),
         }
     }
@@ -122,16 +118,16 @@ impl<S: Alter> Desk<S> {
         &mut self,
         command: &Command,
         number: u32,
-    ) -> Result<Option<Held>, End>
+    ) -> Result<Option<Held>, StoreError>
         requires whole { IsWhole self.old }
         requires opened { IsOpen S.Store self.old }
         ensures looks { LooksUp S.Store 38 self.old self.new result }
-        ensures memory { result ≡ Err End.Memory → looks_at_custody command.now ≡ true }
+        ensures memory { result ≡ Err StoreError.Memory → looks_at_custody command.now ≡ true }
         ensures there { IfOk result (λ key. key ≡ None → IsNoKey self.old.keys number) }
         ensures found { (t : Tables) → Sees S.Store t self.old → IsClean S.Store self.new
             → IfOk result (λ key. key ≡ key_for t command.now number) }
     {
-        match command.rule().looks_at {
+        match command.looks_at() {
             KeyPart::Row => self.look_up_key_without_custody(number),
             KeyPart::Custody => self.look_up_key_with_custody(number, Quorum::LEAST),
             KeyPart::CustodyAndNeed => {
@@ -142,10 +138,10 @@ impl<S: Alter> Desk<S> {
     }
 
     /// The key with this number as it stands in the tables, with nobody in its custody.
-    fn look_up_key_without_custody(&mut self, number: u32) -> Result<Option<Held>, End>
+    fn look_up_key_without_custody(&mut self, number: u32) -> Result<Option<Held>, StoreError>
         requires { IsWhole self.old }
         ensures looks { LooksUp S.Store 2 self.old self.new result }
-        ensures no_memory { result ≢ Err End.Memory }
+        ensures no_memory { result ≢ Err StoreError.Memory }
         ensures there { IfOk result (λ key. key ≡ None → IsNoKey self.old.keys number) }
         ensures found { (t : Tables) → Sees S.Store t self.old → IsClean S.Store self.new
             → IfOk result (λ key. key ≡ key_without_custody t number) }
@@ -158,7 +154,7 @@ impl<S: Alter> Desk<S> {
 
     /// The key with this number as it stands in the tables, with its custody, where its destruction
     /// needs so many approvals.
-    fn look_up_key_with_custody(&mut self, number: u32, need: Quorum) -> Result<Option<Held>, End>
+    fn look_up_key_with_custody(&mut self, number: u32, need: Quorum) -> Result<Option<Held>, StoreError>
         requires { IsWhole self.old }
         ensures looks { LooksUp S.Store 36 self.old self.new result }
         ensures there { IfOk result (λ key. key ≡ None → IsNoKey self.old.keys number) }
@@ -180,46 +176,42 @@ impl<S: Alter> Desk<S> {
     }
 
     /// What was found of the key with this number. That of a key that is counted is to be there.
-    fn unless_missing<T: Drop>(&self, number: u32, found: Option<T>) -> Result<Option<T>, End>
+    fn unless_missing<T: Drop>(&self, number: u32, found: Option<T>) -> Result<Option<T>, StoreError>
         ensures given { IfOk result (λ key. key ≡ found) }
         ensures there { IfOk result (λ key. key ≡ None → IsNoKey self.now.keys number) }
-        ensures gone { IfErr result (λ end.
+        ensures gone { IfErr result (λ error.
             (found ≡ None) × (IsNoKey self.now.keys number → ⊥)) }
-        ensures store { IfErr result (λ end. end ≡ End.Store) }
+        ensures unregistered { IfErr result (λ error. error ≡ StoreError.NoRegister) }
     {
         if found.is_none() && self.is_counted_key(number) {
-            return Err(End::Store);
+            return Err(StoreError::NoRegister);
         }
         Ok(found)
     }
 
     /// The row of the key with this number as it stands in the tables.
-    pub(super) fn look_up_key_row(&mut self, number: u32) -> Result<Option<Key>, End>
+    pub(super) fn look_up_key_row(&mut self, number: u32) -> Result<Option<Key>, StoreError>
         requires { IsWhole self.old }
         ensures looks { LooksUp S.Store 2 self.old self.new result }
-        ensures no_memory { result ≢ Err End.Memory }
+        ensures no_memory { result ≢ Err StoreError.Memory }
         ensures there { IfOk result (λ key. key ≡ None → IsNoKey self.old.keys number) }
         ensures found { (t : Tables) → Sees S.Store t self.old → IsClean S.Store self.new
             → IfOk result (HasRow number t) }
     {
-        match find_key_row(&mut self.connection, number) {
-            Ok(found) => self.unless_missing(number, found),
-            Err(_) => Err(End::Store),
-        }
+        let found = find_key_row(&mut self.connection, number)?;
+        self.unless_missing(number, found)
     }
 
     /// How many approvals the destruction of the key with this number needs, by the tables.
-    pub(super) fn look_up_need(&mut self, number: u32) -> Result<Quorum, End>
+    pub(super) fn look_up_need(&mut self, number: u32) -> Result<Quorum, StoreError>
         requires { IsWhole self.old }
         ensures looks { LooksUp S.Store 2 self.old self.new result }
-        ensures no_memory { result ≢ Err End.Memory }
+        ensures no_memory { result ≢ Err StoreError.Memory }
         ensures found { (t : Tables) → Sees S.Store t self.old → IsClean S.Store self.new
             → IfOk result (λ need. need ≡ need_over t number) }
     {
-        match find_key_need(&mut self.connection, number) {
-            Ok(found) => Ok(found.unwrap_or(Quorum::LEAST)),
-            Err(_) => Err(End::Store),
-        }
+        let found = find_key_need(&mut self.connection, number)?;
+        Ok(found.unwrap_or(Quorum::LEAST))
     }
 
     /// The key with this number as it stands in the tables where its destruction needs so many
@@ -228,7 +220,7 @@ impl<S: Alter> Desk<S> {
         &mut self,
         number: u32,
         need: Quorum,
-    ) -> Result<Option<(Held, Purpose)>, End>
+    ) -> Result<Option<(Held, Purpose)>, StoreError>
         requires { IsWhole self.old }
         ensures looks { LooksUp S.Store 36 self.old self.new result }
         ensures there { IfOk result (λ key. key ≡ None → IsNoKey self.old.keys number) }

@@ -5,6 +5,7 @@ use crate::end::End;
 use key_rows::Record;
 use lifecycle_core::{Usage, usage};
 use period_core::{KeyType, OfficePeriods, Period, period_or_default};
+use register_store::StoreError;
 use sqlite::Alter;
 
 impl<S: Alter> Desk<S> {
@@ -34,13 +35,14 @@ impl<S: Alter> Desk<S> {
         if self.is_broken {
             return Err(End::Broken);
         }
-        let found = self.look_up_record(number);
-        self.break_if_refused(&found);
-        found
+        match self.look_up_record(number) {
+            Ok(found) => Ok(found),
+            Err(error) => Err(self.end_at(error)),
+        }
     }
 
     /// The key with this number, as a reader is shown it.
-    fn look_up_record(&mut self, number: u32) -> Result<Option<Record>, End>
+    fn look_up_record(&mut self, number: u32) -> Result<Option<Record>, StoreError>
         requires { IsWhole self.old }
         ensures looks { LooksUp S.Store 38 self.old self.new result }
         ensures shown { (h : List Request) → StandsFor S.Store self.old h → IsClean S.Store self.new
@@ -68,16 +70,17 @@ impl<S: Alter> Desk<S> {
         if self.is_broken {
             return Err(End::Broken);
         }
-        let found = self.look_up_period(kind);
-        self.break_if_refused(&found);
-        found
+        match self.look_up_period(kind) {
+            Ok(found) => Ok(found),
+            Err(error) => Err(self.end_at(error)),
+        }
     }
 
     /// The usage period that keys of the type are held to.
-    fn look_up_period(&mut self, kind: KeyType) -> Result<Period, End>
+    fn look_up_period(&mut self, kind: KeyType) -> Result<Period, StoreError>
         requires { IsWhole self.old }
         ensures looks { LooksUp S.Store 2 self.old self.new result }
-        ensures no_memory { result ≢ Err End.Memory }
+        ensures no_memory { result ≢ Err StoreError.Memory }
         ensures found { (h : List Request) → StandsFor S.Store self.old h → IsClean S.Store self.new
             → IfOk result (λ found. found ≡ period h kind) }
     {
@@ -124,16 +127,17 @@ impl<S: Alter> Desk<S> {
         if self.is_broken {
             return Err(End::Broken);
         }
-        let found = self.look_up_usage(number);
-        self.break_if_refused(&found);
-        found
+        match self.look_up_usage(number) {
+            Ok(found) => Ok(found),
+            Err(error) => Err(self.end_at(error)),
+        }
     }
 
     /// What the key with this number may be used for.
-    fn look_up_usage(&mut self, number: u32) -> Result<Option<Usage>, End>
+    fn look_up_usage(&mut self, number: u32) -> Result<Option<Usage>, StoreError>
         requires { IsWhole self.old }
         ensures looks { LooksUp S.Store 2 self.old self.new result }
-        ensures no_memory { result ≢ Err End.Memory }
+        ensures no_memory { result ≢ Err StoreError.Memory }
         ensures used { (h : List Request) → StandsFor S.Store self.old h → IsClean S.Store self.new
             → IfOk result (λ found. found ≡ usage h number) }
         ensures there { IfOk result (λ found. found ≡ None → IsNoKey self.old.keys number) }

@@ -2,7 +2,7 @@
 use Rattle.register_requests.specs.declared.request.Command.TheVariants.{Register, Activate, SetDates, Revoke, Assign}
 use Rattle.register_requests.specs.declared.request.Command.TheVariants.{AddCustodian, Advance, SetQuorum, SetPeriod}
 use Rattle.register_requests.specs.declared.command_fields.Fields.{Fields}
-use Rattle.register_requests.specs.declared.command_fields.Fields.TheVariants.{Nothing, Key, KeyAndName, KeyAndOwner}
+use Rattle.register_requests.specs.declared.command_fields.Fields.TheVariants.{Nothing, Key, KeyAndName}
 use Rattle.register_requests.specs.declared.command_fields.Fields.TheVariants.{KeyAndNeed, TypeAndPeriod, Registration}
 use Rattle.register_requests.specs.declared.command_fields.Fields.TheVariants.{DateEdits, Revocation}
 use Rattle.register_requests.specs.{declared.request.Command.Command, Request.IsCommand}
@@ -12,7 +12,6 @@ abbrev pub command_of : Fields → Command
 command_of Nothing = Advance
 command_of (Key key) = Activate key
 command_of (KeyAndName key name) = AddCustodian key name
-command_of (KeyAndOwner key owner) = Assign key owner
 command_of (KeyAndNeed key need) = SetQuorum key need
 command_of (TypeAndPeriod kind period) = SetPeriod kind period
 command_of (Registration new) = Register new

@@ -73,7 +73,7 @@ abbrev pub AnswersBy : {A : Type 0} → (Row → Option A → Type 0) → Result
 AnswersBy {A} Gives (Ok row) result = (given : Option A) × Gives row given × (result ≡ given_of given)
 AnswersBy Gives (Err error) result = result ≡ given_without error
 
--- A search for one row: what came of the query, and the result is what the reader gives of that.
+-- A search for one row: what the query gave, and the result is what the reader gives of that.
 pub record FindsOne {S T : Type 0} (g : Ghosts S) (sql : List ℕ) (params : Row) (Gives : Row → Option T → Type 0)
     (old new : Counted S g) (result : Result (Option T) StoreError) : Type 0 where
   pub answer : Result Row Error

@@ -19,7 +19,7 @@ returns-in_err-protect_stop-clause-none c = rw c.from_residual-in_err-protect_st
     past c.in_ok-deactivation.ensures.found past c.in_ok-key.ensures.found past c.in_ok-_kind.ensures.found))
 
 pub returns-clause-found : goal.returns-clause-found
-returns-clause-found c =
+returns-clause-found c _ =
     let (key_in, keys) = c.in_ok-key_number_of.ensures.found in
     let (activation_in, activations) = c.in_ok-edit_of.ensures.found in
     let (protect_stop_in, protect_stops) = c.in_ok-edit_of-2.ensures.found in

@@ -2,6 +2,7 @@ use Rattle.std.proofs.Common.{◌≡◌, [], ◌∷◌, refl, sym, ap, ◌∙◌
 use Rattle.std.specs.Prelude.{codes}
 use Rattle.period_core.specs.KeyType.{key_type_text}
 use Rattle.register_requests.specs.declared.command_fields.Fields.TheVariants as fields
+use Rattle.register_requests.specs.declared.command_fields.CommandKind.TheVariants as kinds
 use Rattle.register_requests.specs.declared.request.Registration.{Registration}
 use Rattle.serde_json.specs.{Data.Data, Data.string, View.view, View.members_view}
 use Rattle.http_messages.specs.CommandValue.{date_data, fields_members, members_of}
@@ -44,13 +45,13 @@ module _ (new : Registration) (kind : Data) {activation deactivation owner prote
     (purposes : purpose ≡ string new.purpose) (types : type ≡ string (key_type_text new.kind)) where
   registered : members_of ((codes "activation", activation) ∷ (codes "deactivation", deactivation)
       ∷ (codes "kind", kind) ∷ (codes "owner", owner) ∷ (codes "protect_stop", protect_stop)
-      ∷ (codes "purpose", purpose) ∷ (codes "type", type) ∷ []) ≡ fields_members kind (fields.Registration new)
+      ∷ (codes "purpose", purpose) ∷ (codes "type", type) ∷ []) ≡ fields_members kinds.Register kind (fields.Registration new)
   registered = λ i. members_of ((codes "activation", activations i) ∷ (codes "deactivation", deactivations i)
       ∷ (codes "kind", kind) ∷ (codes "owner", owners i) ∷ (codes "protect_stop", protect_stops i)
       ∷ (codes "purpose", purposes i) ∷ (codes "type", types i) ∷ [])
 
 pub returns-clause-found : goal.returns-clause-found
-returns-clause-found c =
+returns-clause-found c _ =
     let (owner_in, owners) = c.in_ok-name_of.ensures.found in
     let (activation_in, activations) = c.in_ok-date_of.ensures.found in
     let (protect_stop_in, protect_stops) = c.in_ok-date_of-2.ensures.found in

@@ -9,7 +9,7 @@ returns-in_err-occurrence-clause-none c = rw c.from_residual-in_err-occurrence.e
     c.in_err-occurrence.ensures.none _ _ (all past c.in_ok-key.ensures.found past c.in_ok-_kind.ensures.found))
 
 pub returns-clause-found : goal.returns-clause-found
-returns-clause-found c =
+returns-clause-found c _ =
     let (key_in, keys) = c.in_ok-key-2.ensures.found in
     let (occurrence_in, occurrences) = c.in_ok-occurrence-2.ensures.found in
     let all = c.in_ok-key.ensures.found before c.in_ok-_kind.ensures.found

@@ -14,7 +14,7 @@ returns-in_err-recipient-clause-none c = rw c.from_residual-in_err-recipient.ens
     c.in_err-recipient.ensures.none _ _ (all past c.in_ok-_kind.ensures.found past c.in_ok-originator.ensures.found))
 
 pub returns-clause-found : goal.returns-clause-found
-returns-clause-found c =
+returns-clause-found c _ =
     let (in_range, originators, recipients) = c.in_ok-period.ensures.found in
     let all = c.in_ok-_kind.ensures.found before c.in_ok-originator.ensures.found
     before c.in_ok-recipient.ensures.found before c.in_ok-key_type.ensures.found in

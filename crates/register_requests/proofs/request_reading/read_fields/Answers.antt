@@ -1,17 +1,12 @@
 use Rattle.std.proofs.Common.{None}
 use Rattle.register_requests.proofs.Texts.{made_stands}
-use Rattle.register_requests.proofs.Lines.{key_and_name, key_and_owner, key_and_need, type_and_period}
+use Rattle.register_requests.proofs.Lines.{key_and_name, key_and_need, type_and_period}
 use Rattle.register_requests.proofs.request_reading.read_fields.Goals as goal
 
 pub returns-in_err-key-in-KeyAndName : goal.returns-in_err-key-in-KeyAndName
 returns-in_err-key-in-KeyAndName c =
     rw (c.from_residual.ensures, c.in-KeyAndName.is)
     (made_stands key_and_name c.args.bytes.now None c.in_err-key-in-KeyAndName.ensures)
-
-pub returns-in_err-key-in-KeyAndOwner : goal.returns-in_err-key-in-KeyAndOwner
-returns-in_err-key-in-KeyAndOwner c =
-    rw (c.from_residual-in_err-key-in-KeyAndOwner.ensures, c.in-KeyAndOwner.is)
-    (made_stands key_and_owner c.args.bytes.now None c.in_err-key-in-KeyAndOwner.ensures)
 
 pub returns-in_err-key-in-KeyAndNeed : goal.returns-in_err-key-in-KeyAndNeed
 returns-in_err-key-in-KeyAndNeed c =

@@ -1,14 +1,15 @@
 use Rattle.std.proofs.Common.{◌≡◌, Option, Result, Ok, IfOk, ap, subst, ◌∙◌}
 use Rattle.period_core.specs.Period.{Period, period_or_default}
 use Rattle.register_core.proofs.Histories.{periods_are}
-use Rattle.register_desk.specs.{declared.end.End.End, Register.tables}
+use Rattle.register_store.specs.declared.error.StoreError.{StoreError}
+use Rattle.register_desk.specs.Register.{tables}
 use Rattle.register_desk.proofs.desk.Desk.look_up_period.Goals as goal
 
 -- what was told is what was found
-told_so : (other set : Option Period) (told : Result (Option Period) End) → told ≡ Ok set
+told_so : (other set : Option Period) (told : Result (Option Period) StoreError) → told ≡ Ok set
     → IfOk told (λ found. found ≡ other) → set ≡ other
 told_so other set told is found =
-    subst (λ (result : Result (Option Period) End). IfOk result (λ found. found ≡ other)) is found
+    subst (λ (result : Result (Option Period) StoreError). IfOk result (λ found. found ≡ other)) is found
 
 pub returns-clause-found : goal.returns-clause-found
 returns-clause-found g c h stands clean =

@@ -8,7 +8,7 @@ returns-clause-looks g c =
     looks_where g.S.Store _ 36 _ _ _ c.requires _ c.in_ok-found.ensures.reads
     (loads_few g.S.Store c.args.number c.args.self.now c.load_key.new.connection c.requires
     c.in_ok-found.ensures.reads.clean c.load_key.ensures.counted)
-    c.in_ok-found.found _ refl c.unless_missing.ensures.store
+    c.in_ok-found.found _ refl c.unless_missing.ensures.unregistered
 
 pub returns-in_err-found-clause-looks : goal.returns-in_err-found-clause-looks
 returns-in_err-found-clause-looks g c =
