@@ -216,11 +216,7 @@ fn name_member(kind: CommandKind) -> &'static str
 
 /// The fields of this shape, of a command of this kind with these members, whatever the value of
 /// `kind` among them.
-fn fields_of_shape(
-    kind: CommandKind,
-    shape: Shape,
-    members: &Map<String, Value>,
-) -> Option<Fields>
+fn fields_of_shape(kind: CommandKind, shape: Shape, members: &Map<String, Value>) -> Option<Fields>
     ensures found { IfSome result (IsShaped kind shape (members_view members.now.entries)) }
     ensures none { IfNone result ((fields : Fields) →
         IsShaped kind shape (members_view members.now.entries) fields → ⊥) }

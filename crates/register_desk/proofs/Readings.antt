@@ -154,16 +154,6 @@ module _ {S : Type 0} (g : store.Ghosts S) where
     survives = reads.survives;
   }
 
-  -- what was found is of the tables that the desk saw
-  module _ {T : Type 0} (Found : Tables → T → Type 0) (old : Desk S g) (after : Counted S g) (value : T)
-      (whole : IsWhole old) (reads : ReadsBy Found (seen g old.connection) (seen g after) (Ok value))
-      (t : Tables) (sees : Sees g t old) (clean : HasCleanDisk (seen g after)) where
-    found_so : Found t value × IsUnchanged (seen g old.connection) (seen g after)
-    found_so = reads.found clean t (seen_where_open t (seen g old.connection) (sees whole (reads.clean clean)))
-
-    pub found_in : Found t value
-    found_in = found_so.0
-
   -- ---- what a look-up leaves
 
   -- the desk breaks by its mark alone

@@ -1,6 +1,6 @@
 -- An exchange hands at most one request to the register.
 use Rattle.std.proofs.Common.{◌≡◌, ◌≢◌, inl, inr, ℕ, List, [], ◌∷◌, Option, Some, None, String, Result, Ok, Err, refl}
-use Rattle.std.proofs.Common.{sym, subst, ◌∙◌, IfOk, IfSome, ◌⊎◌, ap, ◌≤◌, true, false, arith}
+use Rattle.std.proofs.Common.{sym, subst, ◌∙◌, IfOk, IfSome, ◌⊎◌, ap, ◌≤◌, true, false}
 use Rattle.std.proofs.lemmas.Result.{IfErr-at_err}
 use Rattle.std.specs.{declared.alloc.Global.Global, Io.KnownBytes.Consumes, Prelude.IfErr, Prelude.OnOk}
 use Rattle.sqlite_trees.specs.declared.store.Store.{Ghosts}
@@ -19,9 +19,9 @@ use Rattle.http_messages.specs.{declared.asked.Asked.Asked, CommandBody.IsAskedI
 use Rattle.http_messages.specs.declared.asked.AskFault.TheVariants as fault
 use Rattle.register_http.specs.ActionReply.{history_after_asked, request_at}
 use Rattle.register_http.specs.Exchange.{EndsAs, ServesExchange, ServesAsked, LeavesUnasked, LeavesHttpReader}
-use Rattle.register_http.specs.Exchange.{LeavesHttpWriter, max_exchange_reads}
+use Rattle.register_http.specs.Exchange.{max_exchange_reads}
 use Rattle.register_http.specs.SentReply.{Sends, sent_text}
-use Rattle.register_http.specs.{Action.Acts, Action.StandsForEither, OneItem.LeavesOne, Within.Exchange.KeepsWriter}
+use Rattle.register_http.specs.{Action.Acts, Action.StandsForEither, OneItem.LeavesOne}
 use Rattle.streams.specs.{declared.watched.Watched.Watched, Watched.IsFaulted}
 
 -- the item that is handed to the register
@@ -280,14 +280,4 @@ module _ {S : Type 0} (g : Ghosts S) (moment : ℕ) (kept now : Desk S g) where
       fault = λ is. IfErr-at_err (λ f. f ≡ fault.ReadFault → IsFaulted new.failed max_exchange_reads new.turns)
           (was_read_fault asked v w o serves is) faulted refl;
       bounded = bounded;
-    }
-
-    -- what is left of the writer, where a reply was begun
-    pub leaves_writer : {W : Type 0} (old new : Watched W) → KeepsWriter old new o.replies → old.idle ≡ 0
-        → LeavesHttpWriter new o
-    leaves_writer old new keeps idle = record {
-      flushed = keeps.flushed;
-      unanswered = λ none. inr (inr (keeps.fault none));
-      fault = λ is. keeps.fault (was_cut_off asked v w o serves is);
-      bounded = keeps.bounded (omega (arith, idle));
     }

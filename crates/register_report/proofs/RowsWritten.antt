@@ -14,7 +14,7 @@ use Rattle.key_rows.specs.{declared.key_row.KeyRow.KeyRow, Report.report_line, R
 use Rattle.key_rows.proofs.DueRows.{a_list, fewer}
 use Rattle.register_requests.specs.declared.request.Request.{Request}
 use Rattle.register_core.specs.{Fold.IsLawful, History.period, History.set_period}
-use Rattle.register_desk.specs.KeyRows.{all_rows, AreAll, AreSoFar, GiveNext, HaveGiven, until_of}
+use Rattle.register_desk.specs.KeyRows.{all_rows, AreSoFar, GiveNext, HaveGiven, until_of}
 use Rattle.register_desk.specs.Desk.{ChangesNothing, IsClean, IsWhole}
 use Rattle.register_desk.specs.{declared.end.End.End, declared.end.End.TheVariants.WriteFault, declared.desk.Desk.Desk}
 use Rattle.register_desk.specs.{declared.rows.KeyRows.KeyRows, Register.StandsFor}
@@ -231,21 +231,6 @@ module _ {W S : Type 0} {contents : W → Option (List ℕ)} {g : Ghosts S} {tab
           let has = given_next it h stands whole clean none in
           subst (λ until. AreSoFar until (all_rows h) (so.given ++ row ∷ [])) (it.until ∙ so.until)
           has.so_far;
-    }
-
-  module _ {next : KeyRows S g} where
-    -- no row more
-    pub all_written : Next rows next None
-        → PutsRows contents g old now before after start next table (Ok count)
-    all_written it = record {
-      given = so.given;
-      text = text_as (Ok count) (no_fault count);
-      counted = so.counted;
-      are =
-          λ h stands whole clean none.
-          let last = given_next it h stands whole clean none in
-          subst (λ until. AreAll until (all_rows h) so.given) (it.until ∙ so.until)
-          (last.0.ended last.1);
     }
 
 module _ {W S : Type 0} {contents : W → Option (List ℕ)} {g : Ghosts S} {old new : Watched W}

@@ -74,7 +74,10 @@ impl<S: Alter> Desk<S> {
 
     /// The usage period that the office set for the type, if it set one, by the tables. Whatever came
     /// of it an open connection sees what it saw.
-    pub(super) fn look_up_office_period(&mut self, kind: KeyType) -> Result<Option<Period>, StoreError>
+    pub(super) fn look_up_office_period(
+        &mut self,
+        kind: KeyType,
+    ) -> Result<Option<Period>, StoreError>
         ensures looks { IsWhole self.old → LooksUp S.Store 2 self.old self.new result }
         ensures reads { ChangesNothing S.Store self.old self.new }
         ensures mark { self.new.is_broken ≡ self.old.is_broken }
@@ -154,7 +157,11 @@ impl<S: Alter> Desk<S> {
 
     /// The key with this number as it stands in the tables, with its custody, where its destruction
     /// needs so many approvals.
-    fn look_up_key_with_custody(&mut self, number: u32, need: Quorum) -> Result<Option<Held>, StoreError>
+    fn look_up_key_with_custody(
+        &mut self,
+        number: u32,
+        need: Quorum,
+    ) -> Result<Option<Held>, StoreError>
         requires { IsWhole self.old }
         ensures looks { LooksUp S.Store 36 self.old self.new result }
         ensures there { IfOk result (λ key. key ≡ None → IsNoKey self.old.keys number) }
@@ -176,7 +183,11 @@ impl<S: Alter> Desk<S> {
     }
 
     /// What was found of the key with this number. That of a key that is counted is to be there.
-    fn unless_missing<T: Drop>(&self, number: u32, found: Option<T>) -> Result<Option<T>, StoreError>
+    fn unless_missing<T: Drop>(
+        &self,
+        number: u32,
+        found: Option<T>,
+    ) -> Result<Option<T>, StoreError>
         ensures given { IfOk result (λ key. key ≡ found) }
         ensures there { IfOk result (λ key. key ≡ None → IsNoKey self.now.keys number) }
         ensures gone { IfErr result (λ error.

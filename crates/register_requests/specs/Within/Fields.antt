@@ -1,5 +1,5 @@
 -- What functions within the crate, and readers of fields above it, say of one another.
-use Rattle.register_requests.specs.declared.request.Command.TheVariants.{Register, Activate, SetDates, Revoke, Assign}
+use Rattle.register_requests.specs.declared.request.Command.TheVariants.{Register, Activate, SetDates, Revoke}
 use Rattle.register_requests.specs.declared.request.Command.TheVariants.{AddCustodian, Advance, SetQuorum, SetPeriod}
 use Rattle.register_requests.specs.declared.command_fields.Fields.{Fields}
 use Rattle.register_requests.specs.declared.command_fields.Fields.TheVariants.{Nothing, Key, KeyAndName}

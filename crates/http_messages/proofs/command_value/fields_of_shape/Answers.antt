@@ -6,9 +6,8 @@ use Rattle.register_requests.specs.declared.command_fields.Fields.TheVariants.{T
 use Rattle.register_requests.specs.declared.command_fields.Fields.TheVariants.{Revocation}
 use Rattle.register_requests.specs.declared.request.Registration.{Registration as Registered}
 use Rattle.register_requests.specs.{declared.command_fields.Fields.Fields, declared.command_fields.Shape.Shape}
-use Rattle.register_requests.specs.{declared.request.Edit.Edit, Within.Fields.AreFieldsInRange}
-use Rattle.register_requests.specs.declared.command_fields.CommandKind.{CommandKind}
-use Rattle.register_requests.specs.declared.command_fields.CommandKind.TheVariants as kinds
+use Rattle.register_requests.specs.{declared.command_fields.CommandKind.CommandKind, declared.request.Edit.Edit}
+use Rattle.register_requests.specs.Within.Fields.{AreFieldsInRange}
 use Rattle.register_requests.specs.declared.command_fields.Shape.TheVariants as shapes
 use Rattle.http_messages.specs.{CommandValue.fields_members, Within.CommandValue.IsShaped}
 use Rattle.http_messages.proofs.CommandValues.{none_then}
@@ -21,25 +20,25 @@ NoneHas of shape ms = (f : Fields) → IsShaped of shape ms f → ⊥
 module _ (of : CommandKind) {shape : Shape} {ms : Members} where
   no_period : shape ≡ shapes.TypeAndPeriod
       → ((t : KeyType) (p : Period) (k : Data) → AreFieldsInRange (TypeAndPeriod t p)
-      → ms ≢ fields_members kinds.SetPeriod k (TypeAndPeriod t p)) → NoneHas of shape ms
+      → ms ≢ fields_members of k (TypeAndPeriod t p)) → NoneHas of shape ms
   no_period is none (TypeAndPeriod t p) has = none t p has.2.0 has.0 has.2.1
   no_period is none f has = absurd (let same = has.1 in cc (is, same))
 
   no_registration : shape ≡ shapes.Registration
       → ((new : Registered) (k : Data) → AreFieldsInRange (Registration new)
-      → ms ≢ fields_members kinds.Register k (Registration new)) → NoneHas of shape ms
+      → ms ≢ fields_members of k (Registration new)) → NoneHas of shape ms
   no_registration is none (Registration new) has = none new has.2.0 has.0 has.2.1
   no_registration is none f has = absurd (let same = has.1 in cc (is, same))
 
   no_edits : shape ≡ shapes.DateEdits
       → ((key : ℕ) (a p d : Edit) (k : Data) → AreFieldsInRange (DateEdits key a p d)
-      → ms ≢ fields_members kinds.SetDates k (DateEdits key a p d)) → NoneHas of shape ms
+      → ms ≢ fields_members of k (DateEdits key a p d)) → NoneHas of shape ms
   no_edits is none (DateEdits key a p d) has = none key a p d has.2.0 has.0 has.2.1
   no_edits is none f has = absurd (let same = has.1 in cc (is, same))
 
   no_revocation : shape ≡ shapes.Revocation
       → ((key : ℕ) (r : Reason) (d : Option ℕ) (k : Data) → AreFieldsInRange (Revocation key r d)
-      → ms ≢ fields_members kinds.Revoke k (Revocation key r d)) → NoneHas of shape ms
+      → ms ≢ fields_members of k (Revocation key r d)) → NoneHas of shape ms
   no_revocation is none (Revocation key r d) has = none key r d has.2.0 has.0 has.2.1
   no_revocation is none f has = absurd (let same = has.1 in cc (is, same))
 
