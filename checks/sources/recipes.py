@@ -71,7 +71,7 @@ KINDS = (
     }),
     Kind("Add a table", r"TableName::Quorum|TheVariants\.\{[^}]*\bQuorum\}|"
                         r"\b(FROM|INTO|TABLE|UPDATE) (\w+\.)?quorum\b|\"quorum\"", {
-        "a key's JSON has the need": "bench/exchanges.py",
+        "a key's JSON has the need": "bench/python_server.py",
         "one name stands for others": "checks/program/words.py",
     }, ("Add a version of the tables",)),
     Kind("Add a column", r"\boccurrence (INTEGER|= \?)|compromised\W+occurrence\b|\bcompromise_occurrence\b", {
