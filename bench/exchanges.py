@@ -4,21 +4,15 @@ journal modes.
 
     bench/exchanges.py [--rounds N] [--seconds N] [--exchanges N] [--keys N] [--connections N] [--directory FOLDER]
 
-Two kinds are asked: GET of a key, keys out of their order, and POST of a registration, each a new one. *python* is the
-standard library's `http.server` over python_register.py, on a copy of the same file. All hold the file's lock as long
-as they run and sync at each commit (synchronous = FULL). *python, delete* has the rollback journal that `sqlite3` has
-where nothing else is said: as the kit, it trusts no checksum to refuse a torn write. *python, wal* keeps a log beside
-the file, as the kit does, but syncs it once, where the kit syncs twice. No start and no opening is in a figure.
+*python* is python_server.py, on a copy of the same file. All hold the file's lock as long as they run and sync at each
+commit (synchronous = FULL): with the rollback journal that `sqlite3` has where nothing else is said, *delete*, or with
+a log, *wal*, which Python syncs once and the kit twice.
 
 First so many exchanges of each kind are asked one after the other, and each reply is compared with the expected one.
 Then `wrk` asks all in rounds that take turns, so many seconds for each kind, one exchange a connection, so many at
 once. Each reply is to have the status 200. After the last round the rows that the compared exchanges left are compared,
-and the number of keys with what `wrk` counted.
-
-The figures are the exchanges a second by the wall, and the processor time of the server and of the clients for each
-exchange. The mark is at least three times the exchanges a second of Python; each ratio is the median of those of the
-rounds. In a FOLDER that is a disk a POST costs its syncs. Build the register's own program first: ./keyreg </dev/null.
-It needs `wrk` (Debian's package of that name), and Linux, for the clock of another process.
+and the number of keys with what `wrk` counted. In a FOLDER that is a disk a POST costs its syncs. It needs `wrk`
+(Debian's package of that name), and Linux, for the clock of another process.
 """
 import argparse
 import contextlib

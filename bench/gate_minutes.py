@@ -41,18 +41,13 @@ def stat_of(pid: int) -> Stat:
     return Stat(int(fields[1]), sum(map(int, fields[11:15])) / TICKS)
 
 
-def edited(crate: pathlib.Path, edit: pathlib.Path) -> dict[str, str]:
-    """The files that a wrong body changes, with their texts then."""
-    texts, path, old = dict[str, str](), "", ""
-    for word, text in re.findall(r"(?m)^(file|old|new): ?(.*)$", edit.read_text(encoding="utf-8")):
-        if word == "file":
-            path = text.strip()
-            texts.setdefault(path, (crate / path).read_text(encoding="utf-8"))
-        elif word == "old":
-            old = text
-        else:
-            texts[path] = texts[path].replace(old, text)
-    return texts
+def is_made(edit: pathlib.Path, room: pathlib.Path) -> bool:
+    """Whether a wrong body stands in a copy of its crate: its file, with each old text replaced by the new one."""
+    path, *texts = re.findall(r"(?m)^(?:file|old|new): ?(.*)$", edit.read_text(encoding="utf-8"))
+    whole = (edit.parents[1] / path).read_text(encoding="utf-8")
+    for old, new in zip(texts[::2], texts[1::2]):
+        whole = whole.replace(old, new)
+    return (room / path).read_text(encoding="utf-8") == whole
 
 
 def label_of(pid: int) -> Optional[Label]:
@@ -63,10 +58,8 @@ def label_of(pid: int) -> Optional[Label]:
     name, room = words[words.index("--crate-name") + 1], pathlib.Path(os.readlink(f"/proc/{pid}/cwd"))
     if not room.name.startswith("rt-edit-"):
         return Label(name, "tests" if any(word.startswith("--test") for word in words) else "proof")
-    crate = TOP / "crates" / name
-    return Label(name, "edits", next(
-        (edit.stem for edit in sorted(crate.glob("must-fail/*.edit"))
-         if all((room / path).read_text(encoding="utf-8") == text for path, text in edited(crate, edit).items())), ""))
+    edits = (TOP / "crates" / name / "must-fail").glob("*.edit")
+    return Label(name, "edits", next((edit.stem for edit in edits if is_made(edit, room)), ""))
 
 
 class Watch:

@@ -4,20 +4,10 @@ to Python's `sqlite3` with the same rules; and what runs cost over no file, besi
 
     bench/requests.py [--over file|memory] [--requests N] [--rounds N] [--instructions] [--keys N,..]
 
-Requests of these kinds are served by three programs over copies of one register of so many keys, half of them
-Pre-Active and half Active, each with the request that made it:
-
-    repeat             a request that was accepted before comes again
-    assign             a key without custodians gets another owner, each request another key
-    assign, one key    the same, of one key in all requests
-    register           a new key, Pre-Active
-    register, Active   a new key, Active at once: its entries are the last of each index
-    advance, none due  the moment alone
-    advance, one due   the same, and one key becomes Active
-
-The moments are *level*, all the latest one, or *rising*, each later than the one before it. Keys are taken out of their
-order, so that each stands on another page of the file. There are N requests that assign or advance with no key due, ten
-times as many repeats, as many registrations but no more than a fourth of the keys, and a fourth as many other advances.
+docs/COSTS.md has the kinds of requests. They are served by three programs over copies of one register of so many keys,
+half of them Pre-Active and half Active, each with the request that made it. Keys are taken out of their order, so that
+each stands on another page of the file. There are N requests that assign or advance with no key due, ten times as many
+repeats, as many registrations but no more than a fourth of the keys, and a fourth as many other advances.
 
 `keyreg` reads lines, decides and writes replies, each before the next line is read, and *python* does the same by
 python_register.py. The *bare* program, bare_requests.rt.txt, gives the statements of an accepted request to the kit's
@@ -29,12 +19,9 @@ One run serves a kind after the other. Its clocks are read where the first reque
 counted ones after them are, so no start and no opening is in a figure; the least of the rounds counts. Each reply is
 compared with the expected one, and after a run the rows that the three programs left.
 
-With --over memory the keys are registrations, whose dates come out of their order, in one run over no file, and in one
-over a new file in /dev/shm. With --instructions valgrind's callgrind (Debian's package valgrind) counts what each
-program executes in place of time, without what the system does for it; a run takes some fifty times as long.
-
-The bare program is proved and built in a folder for temporary files; that takes some minutes. Build the register's own
-program first: ./keyreg </dev/null. It needs Linux, for the clock of another process.
+With --instructions valgrind's callgrind (Debian's package valgrind) counts what each program executes in place of time.
+The bare program is proved and built in a folder for temporary files; that takes some minutes. It needs Linux, for the
+clock of another process.
 """
 import filecmp
 import os

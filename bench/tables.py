@@ -1,33 +1,23 @@
 #!/usr/bin/env python3
 """What an export, a report and an import cost: an export and a report beside the same rows read bare by the kit's
-`sqlite`, and beside Python; an import beside a run of the same registrations.
+`sqlite`, and beside Python; an import beside a run of the same registrations, by CSV and by request lines.
 
     bench/tables.py [--rounds N] [--days N] [--keys N]
 
-*Exports and reports.* A register of so many keys has keys of all types and in all states but Destroyed, most with all
-their dates. About half are Active, and with 30 days about half of these are due, their dates out of the order of
-numbers. *report, periods set* is of the same keys, where the office has set shorter periods of two types, so that the
-report has long keys too, and goes over all Active keys. The same rows are read by
+A register of so many keys has keys of all types and in all states but Destroyed. About half are Active, and with 30
+days about half of these are due, their dates out of the order of numbers. *report, periods set* is of the same keys,
+where the office has set shorter periods of two types. The same rows are read by
 
     keyreg           the command, by its own searches, each line flushed before the next row is read
     bare             bare_tables.rt.txt: one SELECT given to the kit's `sqlite`; it adds its cells up and writes none
     python           the same SELECT by its `sqlite3`, and `csv` for an export: it writes the same, in large pieces
     python, tested   the same, over a register that it opens as opened.py does: all rows are put to the tests first
 
-*Whole* is the run of a program from its start to its end. *After the opening* is the whole without what the same run
-had used when its first byte was in the file, which each writes where the file is open and no row is read. That byte is
-looked for some four times a millisecond; the program is then stopped, its clocks are read, and it goes on. A run in
-which that came more than 1 ms late is repeated.
-
-*Imports.* `import` reads the registrations of these keys from CSV, `run` reads them as request lines, each into a new
-file. They are to write the replies of the rules, and to leave the same rows.
-
-*Memory* is the greatest resident memory, beside that of `run` on no input, which opens the same file and no more. The
-kernel counts for a program also what this script had when it started it, so no figure is below the script's own.
-
-The programs take turns, and each figure is the least of the rounds. The bare program is proved and built in a folder
-for temporary files; that takes some minutes. Build the register's own program first: ./keyreg </dev/null. It needs
-Linux, for the clock of another process.
+*After the opening* is a run without what it had used when its first byte was in the file, which each writes where the
+file is open and no row is read. The program is stopped there, its clocks are read, and it goes on; a run in which that
+came more than 1 ms late is repeated. *Memory* is the greatest resident one; the kernel counts for a program also what
+this script had when it started it. The programs take turns, and each figure is the least of the rounds. The bare
+program is proved and built in a folder for temporary files. It needs Linux, for the clock of another process.
 """
 import csv
 import filecmp

@@ -11,15 +11,13 @@ The parts, all but the last where none is named:
                office/ comes with what that imports from beside it
     calls      each call in the example of a crate's src/lib.rt is that of a function of ours with as many arguments
     commands   the commands of README.md, docs/OPERATING.md and docs/AUDIT.md, one after the other in one folder, print
-               what stands after them (checks/shared/document_commands.py)
+               what stands after them
     stale      no document has another number of tables or commands, another bound on steps, a table, an index, a
                refusal or an end of another name, or another program logic than the kit's
-    pictures   README's picture of the states has the transitions of docs/SPECIFICATION.md, docs/costs.svg the figures
-               of docs/COSTS.md, and the graph of docs/ARCHITECTURE.md the arrows of crates.txt; what its pictures name
-               is a function or a crate
-    theorem    docs/THEOREM.md and docs/DEFINITIONS.md have the theorem and each definition on which it stands, as the
-               sources have them; each document that says how many there are has that figure; and no definition on
-               which a public contract stands is without words of its own (checks/sources/theorem.py)
+    pictures   README's picture of the states has the transitions of SPECIFICATION, docs/costs.svg the figures of COSTS,
+               and the graph of ARCHITECTURE the arrows of crates.txt; what its pictures name is a function or a crate
+    theorem    THEOREM and DEFINITIONS are as the sources have them; each document that says how many definitions there
+               are has that figure; none on which a public contract stands is without words of its own
     reached    a public contract stands on each definition of a crate's specs/, and on none of its folder Within/
     look       README's first look, which `rt try` answers without a proof, in a copy of the sources, in minutes
 
@@ -38,9 +36,9 @@ sys.path.insert(1, str(pathlib.Path(__file__).resolve().parents[1] / "shared"))
 from places import DOCS, TOP, listed, read, use
 import contracts
 import definitions
-import document_commands
 import theorem
 from contracts import Function, functions, stands_on
+from document_commands import first_look, wrong_outputs
 from script import options, verdict
 use("bench")
 import costs_svg
@@ -59,8 +57,8 @@ FOLDER = re.compile(r"(crates|checks|bench|docs|office|samples|\.ci)/")
 MOST_WORDS = 25
 # Names in PROMISES that no line of code has: a word of the field, and parts of paths.
 OTHERS = {"UTF", "src", "main", "laws"}
-# The faults of a part, and what it looked at.
-Faults = tuple[list[str], str]
+# The faults of a part, and what it looked at, or how much.
+Faults = tuple[list[str], object]
 
 
 def documents() -> list[str]:
@@ -149,8 +147,9 @@ def promise_faults() -> Faults:
             lists += cell.count(" clause")
             of_line = [*clause_faults(cell)]
             if document == "docs/PROMISES.md":
-                of_line += [*unknown_names(line), *(f"a cell of {len(text.split())} words" for text in cells(line)
-                                                    if len(text.split()) > MOST_WORDS)]
+                of_line += unknown_names(line)
+                of_line += [f"a cell of more than {MOST_WORDS} words: {text}" for text in cells(line)
+                            if len(text.split()) > MOST_WORDS]
             faults += [f"{document}:{number}: {fault}" for fault in of_line]
     return faults, f"{lists} lists of clauses in README and PROMISES"
 
@@ -317,11 +316,6 @@ def picture_faults() -> Faults:
 # ---- what other modules look at
 
 
-def output_faults() -> Faults:
-    faults, count = document_commands.wrong_outputs(["README.md", "docs/OPERATING.md", "docs/AUDIT.md"])
-    return faults, f"{count} blocks of commands"
-
-
 def reached_faults() -> Faults:
     """Of specs/ what no public contract reaches, and of specs/Within/ what one does."""
     every, reached = definitions.spec_keys(), definitions.reached(definitions.contract_names())
@@ -331,14 +325,10 @@ def reached_faults() -> Faults:
             ], f"{len(every)} definitions, {len(within)} of them within"
 
 
-def look_faults() -> Faults:
-    faults, seconds = document_commands.first_look()
-    return faults, f"answered in {seconds} seconds"
-
-
-PARTS = {"promises": promise_faults, "paths": path_faults, "calls": call_faults, "commands": output_faults,
+PARTS = {"promises": promise_faults, "paths": path_faults, "calls": call_faults,
+         "commands": lambda: wrong_outputs(["README.md", "docs/OPERATING.md", "docs/AUDIT.md"]),
          "stale": stale_faults, "pictures": picture_faults, "theorem": theorem.faults, "reached": reached_faults,
-         "look": look_faults}
+         "look": first_look}
 
 
 def main() -> None:

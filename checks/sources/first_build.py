@@ -24,13 +24,8 @@ from places import TOP
 from contracts import below, reached
 from script import fresh_folder, options, verdict
 
-# Gives back its words and its input, or lives on as `serve` does.
-PROGRAM = """#!/bin/sh
-echo "words: $*"
-[ "$1" = linger ] && exec sleep 60
-exec cat
-"""
-# What a linker leaves that was stopped: it could be run.
+# Gives back its words and its input, or lives on as `serve` does; and what a linker leaves that was stopped.
+PROGRAM = '#!/bin/sh\necho "words: $*"\n[ "$1" = linger ] && exec sleep 60\nexec cat\n'
 HALF = "#!/bin/sh\necho half\n"
 WORDS, GIVEN, WANTED = ("run", "--file", "x"), "a line\n", "words: run --file x\na line\n"
 # A source of the program's.
@@ -61,10 +56,8 @@ def rt() -> None:
     with open(orders / "journal", "a", encoding="utf-8") as journal:
         print("begun", crate, os.getpid(), *sys.argv[1:], file=journal, flush=True)
         for name in sorted(reached([crate])):
-            try:
-                fcntl.flock(os.open(f"../{name}", os.O_RDONLY), fcntl.LOCK_EX | fcntl.LOCK_NB)
-            except BlockingIOError:
-                sys.exit(f"fn {crate}::module::held: another proof has the folder of {name}")
+            # Of a folder that another proof has it is an error.
+            fcntl.flock(os.open(f"../{name}", os.O_RDONLY), fcntl.LOCK_EX | fcntl.LOCK_NB)
         with contextlib.suppress(FileNotFoundError):
             time.sleep(float((orders / f"wait-{crate}").read_text(encoding="utf-8")))
         if (orders / f"fail-{crate}").exists():
@@ -83,7 +76,6 @@ LOGIC = re.search(r"logic ([0-9a-f]{16})", (TOP / "crates/register_words/src/wor
 
 
 class Called(NamedTuple):
-    """The status of a call, what it wrote, and what it said."""
     status: int
     wrote: str
     said: str
@@ -98,8 +90,9 @@ def until(holds: Callable[[], object], seconds: float = 30) -> bool:
 
 
 def lives(process: str) -> bool:
+    """Whether a process goes on: of one that has ended the words are gone before its number is."""
     with contextlib.suppress(OSError):
-        return pathlib.Path(f"/proc/{process}/stat").read_text("utf-8").rsplit(")", 1)[1].split()[0] != "Z"
+        return pathlib.Path(f"/proc/{process}/cmdline").read_bytes() != b""
     return False
 
 
@@ -124,10 +117,12 @@ class Copy:
                                 stdin=subprocess.PIPE, stdout=subprocess.PIPE, stderr=subprocess.PIPE,
                                 start_new_session=True)
 
-    def call(self, *before: str, **environ: str) -> Called:
-        begun = self.start(before=before, **environ)
+    def ended(self, begun: subprocess.Popen) -> Called:
         wrote, said = begun.communicate(GIVEN, timeout=120)
         return Called(begun.returncode, wrote, said)
+
+    def call(self, *before: str, **environ: str) -> Called:
+        return self.ended(self.start(before=before, **environ))
 
     def entries(self) -> list[list[str]]:
         """The journal of the calls of `rt`, in order: of each line the kind, the crate and the rest."""
@@ -157,10 +152,8 @@ class Copy:
 
     def built(self, what: str, called: Called, cores: int = len(os.sched_getaffinity(0))) -> Iterator[str]:
         """Faults of a call that was to build all crates once, on so many cores, and to run the program."""
-        if called[:2] != (0, WANTED) or self.left():
-            yield f"{what}: {called}, and left is {self.left()}"
-        if sorted(self.begun()) != sorted(CRATES):
-            yield f"{what}: begun {self.begun()}"
+        if called[:2] != (0, WANTED) or self.left() or sorted(self.begun()) != sorted(CRATES):
+            yield f"{what}: {called}, begun {self.begun()}, left {self.left()}"
         proved, jobs = set[str](), dict[str, int]()
         for kind, crate, *rest in self.entries():
             if kind == "ended":
@@ -168,12 +161,9 @@ class Copy:
                 jobs.pop(crate, None)
                 continue
             jobs[crate] = int(rest[3])
-            if not below(crate) <= proved:
-                yield f"{what}: {crate} is begun before {below(crate) - proved}"
-            if rest[1:3] != ["run" if crate == "keyreg" else "lib", "--jobs"] or not 1 <= jobs[crate] <= 4:
-                yield f"{what}: {crate}: rt {rest[1:]}"
-            if sum(jobs.values()) > cores:
-                yield f"{what}: {jobs} jobs on {cores} cores"
+            is_rt = rest[1:3] == ["run" if crate == "keyreg" else "lib", "--jobs"] and 1 <= jobs[crate] <= 4
+            if not is_rt or not below(crate) <= proved or sum(jobs.values()) > cores:
+                yield f"{what}: rt {rest[1:]} for {crate}: before it {below(crate) - proved}, {jobs} on {cores} cores"
 
     def built_again(self, what: str) -> Iterator[str]:
         self.order(renewed=None)
@@ -190,10 +180,9 @@ def told(copy: Copy) -> Iterator[str]:
     yield from copy.built("a first build", called)
     ended = ENDED.findall(called.said)
     names = [name for name, _, _ in ended]
-    if [row[1:] for row in ended] != [(str(at + 1), str(len(CRATES))) for at in range(len(CRATES))]:
-        yield f"no line for each crate: {called.said}"
-    if {*names} == CRATES and "moment_core" in names[:names.index("streams")]:
-        yield f"what waits for no other does not end before it: {names}"
+    if (sorted(names) != sorted(CRATES) or names.index("moment_core") < names.index("streams")
+            or [row[1:] for row in ended] != [(str(at), str(len(names))) for at in range(1, len(names) + 1)]):
+        yield f"no line for each crate as it ends: {called.said}"
     copy.order()
     yield from copy.built("on one core", copy.call("taskset", "-c", str(min(os.sched_getaffinity(0)))), 1)
 
@@ -216,14 +205,14 @@ def what_makes_it_build(copy: Copy) -> Iterator[str]:
         copy.order(renewed=path)
         if (called := copy.call()) != (0, WANTED, "") or copy.begun():
             yield f"{path} changed: {called}"
-    for path in ("crates/keyreg/src/main.rt", "crates.txt", *copy.top.glob("crates/register_store/specs/Held.antt")):
+    for path in ("crates/keyreg/src/main.rt", "crates.txt", "crates/register_store/specs/Held.antt"):
         copy.order(renewed=path)
         yield from copy.built(f"{path} changed", copy.call())
     copy.order("wait-keyreg=1")
     begun = copy.start()
     until(lambda: "keyreg" in copy.begun())
     os.utime(copy.top / SOURCE)
-    begun.communicate(GIVEN, timeout=120)
+    copy.ended(begun)
     yield from copy.built_again("a source that changed during a build")
 
 
@@ -233,10 +222,9 @@ def failed(copy: Copy) -> Iterator[str]:
     start, called = time.monotonic(), copy.call()
     is_told = ("keyreg: register_store is not proved\n" in called.said
                and re.findall(r"^fn (\w+)::.*", called.said, re.M) == ["register_store"])
-    if called[:2] != (70, "") or not is_told or "register_desk" in copy.begun() or copy.left():
-        yield f"a failed proof: {called}, begun {copy.begun()}, left {copy.left()}"
-    if time.monotonic() - start > 15 or copy.goes_on():
-        yield f"a failed proof: after it went on {copy.goes_on() or 'a proof beside it'}"
+    is_over = time.monotonic() - start < 15 and not copy.goes_on() and not copy.left()
+    if called[:2] != (70, "") or not is_told or "register_desk" in copy.begun() or not is_over:
+        yield f"a failed proof: {called}, begun {copy.begun()}, left {copy.left()}, going on {copy.goes_on()}"
     yield from copy.built_again("after a failed proof")
 
 
@@ -251,27 +239,27 @@ def stopped(copy: Copy) -> Iterator[str]:
         until(lambda crate=crate: crate in copy.begun())
         start = time.monotonic()
         end(begun.pid, number)
-        wrote, _ = begun.communicate(timeout=60)
-        if begun.returncode != (130 if number != signal.SIGKILL else -number) or wrote:
-            yield f"{what}: status {begun.returncode}, {wrote}"
-        if not until(lambda: not copy.goes_on(), 2) or time.monotonic() - start > 10:
-            yield f"{what}: {copy.goes_on() or 'what was begun'} goes on"
+        called = copy.ended(begun)
+        is_over = until(lambda: not copy.goes_on(), 2) and time.monotonic() - start < 10
         if number == signal.SIGKILL:
             for left in copy.rest.iterdir():
                 shutil.rmtree(left)
-        elif copy.left():
-            yield f"{what}: left is {copy.left()}"
+            is_right = called[:2] == (-number, "")
+        else:
+            is_right = called[:2] == (130, "") and not copy.left()
+        if not is_right or not is_over:
+            yield f"{what}: {called}, left {copy.left()}, going on {copy.goes_on()}"
         yield from copy.built_again(f"after {what}")
 
 
 def together(copy: Copy) -> Iterator[str]:
     """Two calls at once build once; and a program that goes on keeps no build from beginning."""
     copy.order("wait-streams=1")
-    ends = [(begun, *begun.communicate(GIVEN, timeout=120)) for begun in (copy.start(), copy.start())]
-    for begun, wrote, said in ends:
-        yield from copy.built("two calls at once", Called(begun.returncode, wrote, said))
-    if sorted("another call is building" in said for _, _, said in ends) != [False, True]:
-        yield f"two calls at once: not one of them says that it waits: {[said for _, _, said in ends]}"
+    ends = [copy.ended(begun) for begun in (copy.start(), copy.start())]
+    for called in ends:
+        yield from copy.built("two calls at once", called)
+    if sorted("another call is building" in called.said for called in ends) != [False, True]:
+        yield f"two calls at once: not one of them says that it waits: {ends}"
     os.utime(copy.top / SOURCE)
     lasting = copy.start(["linger"])
     lasting.stdout.readline()

@@ -31,24 +31,18 @@ REFUSED = re.compile(r"(?:rt: )?must-fail [\w-]+/[\w.-]+\.edit: refused, as it m
 
 
 def text_faults(crate: str, edit: pathlib.Path) -> Iterator[str]:
-    """Why the edit could not be tried. Each of its changes is a file, an old text and a new one."""
-    name, folder, texts = f"{crate}/{FOLDER}/{edit.name}", TOP / "crates" / crate, dict[pathlib.Path, str]()
+    """Why the edit could not be tried: it is a file, and pairs of an old text and a new one."""
+    name, folder = f"{crate}/{FOLDER}/{edit.name}", TOP / "crates" / crate
     if (folder / "must-fail" / edit.name).exists():
         yield f"{name}: must-fail has one of its name"
-    source, old = folder, ""
-    for word, text in re.findall(r"(?m)^(file|old|new): ?(.*)$", edit.read_text(encoding="utf-8")):
-        if word == "file":
-            source = folder / text.strip()
-            texts.setdefault(source, source.read_text(encoding="utf-8") if source.is_file() else "")
-        elif word == "old":
-            old = text
-        else:
-            count = texts.setdefault(source, "").count(old)
-            if not old or count != 1 or old == text:
-                yield f"{name}: in {source.name} {count} times, to become {text}: {old}"
-            texts[source] = texts[source].replace(old, text)
-    if not texts:
+    path, *texts = re.findall(r"(?m)^(?:file|old|new): ?(.*)$", edit.read_text(encoding="utf-8")) or [""]
+    whole = (folder / path).read_text(encoding="utf-8") if (folder / path).is_file() else ""
+    if not texts or len(texts) % 2:
         yield f"{name}: it has no change"
+    for old, new in zip(texts[::2], texts[1::2]):
+        if not old or whole.count(old) != 1 or old == new:
+            yield f"{name}: in {path} {whole.count(old)} times, to become {new}: {old}"
+        whole = whole.replace(old, new)
 
 
 def refused(crates: list[str]) -> int:
