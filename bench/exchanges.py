@@ -18,7 +18,6 @@ import argparse
 import contextlib
 import json
 import pathlib
-import resource
 import shutil
 import socket
 import subprocess
@@ -43,10 +42,9 @@ LATER = 10_000_000_000
 
 
 class Timed(NamedTuple):
-    """One kind in one round: exchanges a second, and the server's and the clients' processor microseconds of one."""
+    """One kind in one round: exchanges a second, and the server's processor microseconds of one."""
     rate: float
-    server: float
-    client: float
+    micros: float
 
 
 # ---- the compared exchanges
@@ -109,20 +107,15 @@ class Server:
 
     def time(self, kind: str, caller: str, given: argparse.Namespace) -> None:
         """Has `wrk` ask exchanges of this kind."""
-        before = self.clocks()
+        clock = clock_of(self.process.pid)
+        used = time.clock_gettime(clock)
         written = output_of(["wrk", "-t2", f"-c{given.connections}", f"-d{given.seconds}s",
                              "-s", HERE / "exchanges.lua", f"http://127.0.0.1:{self.port}",
                              "--", kind, caller, given.keys, LATER, STEP])
         count, micros, failed = map(int, written.splitlines()[-1].split())
         expect(count > 0 and failed == 0, f"{self.name}, {kind}: {count} exchanges, {failed} failed")
-        used = (1e6 * (now - then) / count for now, then in zip(self.clocks(), before))
-        self.times[kind].append(Timed(1e6 * count / micros, *used))
+        self.times[kind].append(Timed(1e6 * count / micros, 1e6 * (time.clock_gettime(clock) - used) / count))
         self.registered += count * (kind == "post")
-
-    def clocks(self) -> tuple[float, float]:
-        """The processor seconds of the server, and of the clients that have ended."""
-        used = resource.getrusage(resource.RUSAGE_CHILDREN)
-        return time.clock_gettime(clock_of(self.process.pid)), used.ru_utime + used.ru_stime
 
 
 @contextlib.contextmanager
@@ -170,16 +163,12 @@ def serve_all(given: argparse.Namespace, folder: pathlib.Path) -> list[Server]:
 
 
 def rows(servers: Sequence[Server]) -> Iterator[list[str]]:
-    """Of each kind and server: the median and the greatest of the exchanges a second, the median and the least of the
-    server's microseconds, the median of the clients'; and the medians of what `keyreg` has to it in each round."""
+    """Of each kind and server the medians of the rounds, and of what `keyreg` has to it in each."""
     for kind, name in KINDS.items():
         for server in servers:
-            rates, used, clients = zip(*server.times[kind])
-            pairs = list(zip(servers[0].times[kind], server.times[kind]))
-            yield [name, server.name, f"{median(rates):.0f}", f"{max(rates):.0f}", f"{median(used):.1f}",
-                   f"{min(used):.1f}", f"{median(clients):.1f}",
-                   f"{median(ours.rate / its.rate for ours, its in pairs):.2f}",
-                   f"{median(ours.server / its.server for ours, its in pairs):.2f}"]
+            rates, micros = zip(*server.times[kind])
+            ratio = median(ours.rate / its.rate for ours, its in zip(servers[0].times[kind], server.times[kind]))
+            yield [name, server.name, f"{median(rates):.0f}", f"{median(micros):.0f}", f"{ratio:.2f}"]
 
 
 def main() -> None:
@@ -189,8 +178,7 @@ def main() -> None:
           f"keys at first: {given.keys}")
     with tempfile.TemporaryDirectory(dir=given.directory or None) as folder:
         servers = serve_all(given, pathlib.Path(folder))
-    table(["exchange", "server", "a second, median", "best", "processor us, median", "least", "clients' us",
-           "a second, keyreg to it", "processor, keyreg to it"], rows(servers))
+    table(["exchange", "server", "a second", "processor us", "a second, keyreg to it"], rows(servers))
 
 
 main()

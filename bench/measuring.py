@@ -74,11 +74,10 @@ def measured(words: Sequence[Any], given: File = os.devnull, written: File = os.
     return used[0]
 
 
-def measured_behind(words: Sequence[Any], written: File) -> tuple[Used, tuple[float, float]]:
-    """What a program used on no input, and the processor and wall seconds of it after its first byte. It is stopped
-    where that byte is there: its clock is exact only while it does not run."""
+def measured_behind(words: Sequence[Any], written: File) -> tuple[Used, float]:
+    """What a program used on no input, and the processor seconds of it after its first byte. It is stopped where that
+    byte is there: its clock is exact only while it does not run."""
     for _ in range(20):
-        begun = time.monotonic()
         with started(words, os.devnull, written) as (child, used):
             empty = looked = time.monotonic()
             while not os.path.getsize(written) and not os.waitid(
@@ -88,11 +87,10 @@ def measured_behind(words: Sequence[Any], written: File) -> tuple[Used, tuple[fl
                 looked = time.monotonic()
             os.kill(child.pid, signal.SIGSTOP)
             os.waitid(os.P_PID, child.pid, os.WSTOPPED | os.WEXITED | os.WNOWAIT)
-            stopped = time.monotonic()
-            processor, wall = time.clock_gettime(clock_of(child.pid)), stopped - begun
+            late, processor = time.monotonic() - empty, time.clock_gettime(clock_of(child.pid))
             os.kill(child.pid, signal.SIGCONT)
-        if stopped - empty <= TOO_LATE:
-            return used[0], (used[0].processor - processor, used[0].wall - wall)
+        if late <= TOO_LATE:
+            return used[0], used[0].processor - processor
     sys.exit(f"FAILED: {words}: the machine is too busy to see the first byte in time")
 
 

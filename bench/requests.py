@@ -33,7 +33,7 @@ import subprocess
 import sys
 import tempfile
 import time
-from typing import Callable, Iterator, NamedTuple, Sequence
+from typing import Iterator, NamedTuple, Sequence
 
 from measuring import STEP, built, clock_of, least, measured, table
 import python_register
@@ -175,27 +175,27 @@ def bare_program() -> str:
 
 class Run:
     """A run of a program, which is given its input part by part."""
-    UNIT, MEASURES = "Microseconds", ("processor", "wall")
+    UNIT = "Microseconds of processor time"
 
     def __init__(self, words: Sequence[str]) -> None:
         self.written, self.size = tempfile.TemporaryFile(), 0
         self.child = subprocess.Popen(words, stdin=subprocess.PIPE, stdout=self.written)
 
-    def give(self, given: bytes, wanted: bytes) -> tuple[float, ...]:
-        """Gives a part of the input and waits for what is to be written. Gives processor and wall microseconds."""
-        clock = clock_of(self.child.pid)
-        used, begun = time.clock_gettime(clock), time.monotonic()
+    def give(self, given: bytes, wanted: bytes) -> float:
+        """Gives a part of the input and waits for what is to be written. Gives the microseconds of it."""
+        clock, begun = clock_of(self.child.pid), time.monotonic()
+        used = time.clock_gettime(clock)
         self.child.stdin.write(given)
         self.child.stdin.flush()
         while (size := os.fstat(self.written.fileno()).st_size - self.size) < len(wanted):
             expect(self.child.poll() is None, f"{self.child.args[:2]}: status {self.child.returncode}")
             expect(time.monotonic() < begun + PATIENCE, f"{self.child.args[:2]}: {size} bytes, not {len(wanted)}")
             time.sleep(0.0002)
-        wall, used = time.monotonic() - begun, time.clock_gettime(clock) - used
+        used = time.clock_gettime(clock) - used
         written = os.pread(self.written.fileno(), size, self.size)
         expect(written == wanted, f"{self.child.args[:2]}: wrote {written[-80:]}, and not {wanted[-80:]}")
         self.size += size
-        return 1e6 * used, 1e6 * wall
+        return 1e6 * used
 
     def end(self) -> None:
         self.child.stdin.close()
@@ -205,14 +205,14 @@ class Run:
 
 class CountedRun(Run):
     """The same by valgrind, which counts its instructions."""
-    UNIT, MEASURES = "Thousands of instructions", ("instructions",)
+    UNIT = "Thousands of instructions"
 
     def __init__(self, words: Sequence[str]) -> None:
         self.folder = tempfile.TemporaryDirectory()
         super().__init__(["valgrind", "-q", "--tool=callgrind", f"--callgrind-out-file={self.folder.name}/counts",
                           *words])
 
-    def give(self, given: bytes, wanted: bytes) -> tuple[float, ...]:
+    def give(self, given: bytes, wanted: bytes) -> float:
         """Gives the thousands of instructions since the last part, which stand in a file that comes then."""
         super().give(given, wanted)
         before, late = {*os.listdir(self.folder.name)}, time.monotonic() + PATIENCE
@@ -220,7 +220,7 @@ class CountedRun(Run):
         while time.monotonic() < late:
             for name in {*os.listdir(self.folder.name)} - before:
                 if total := re.search(r"(?m)^totals: (\d+)$", pathlib.Path(self.folder.name, name).read_text("utf-8")):
-                    return int(total[1]) / 1000,
+                    return int(total[1]) / 1000
             time.sleep(0.01)
         sys.exit("FAILED: callgrind wrote no count")
 
@@ -229,24 +229,24 @@ class CountedRun(Run):
         self.folder.cleanup()
 
 
-def serve_by(program: str, run: Run, span: Span) -> tuple[float, ...]:
-    """Has the span served by a run of the program. Gives what the run measures."""
+def serve_by(program: str, run: Run, span: Span) -> float:
+    """Has the span served by a run of the program. Gives what the run measures of a request."""
     if program == "bare":
         line = " ".join((span.kind, "rising" if span.is_rising else "level", *map(str, span[2:])))
-        return run.give(f"{line}\n".encode(), b"done\n")
-    asked = list(requests(span))
-    return run.give("".join(kept.line for kept in asked).encode(), "".join(kept.reply for kept in asked).encode())
+        given, wanted = f"{line}\n", "done\n"
+    else:
+        given, wanted = ("".join(texts) for texts in zip(*((kept.line, kept.reply) for kept in requests(span))))
+    return run.give(given.encode(), wanted.encode()) / (span.end - span.first)
 
 
-def measured_spans(runs: Callable[[Sequence[str]], Run], program: str, file: pathlib.Path, keys: int,
-                   count: int) -> list[list[float]]:
+def measured_spans(runs: type[Run], program: str, file: pathlib.Path, keys: int, count: int) -> list[float]:
     """What is measured of a request of each kind."""
     words = {"keyreg": [PROGRAM, "run", "--file", file], "bare": [bare_program(), file],
              "python": [sys.executable, python_register.__file__, file]}[program]
     run, figures = runs(words), []
     for first, counted in spans(keys, count):
         serve_by(program, run, first)
-        figures.append([amount / (counted.end - counted.first) for amount in serve_by(program, run, counted)])
+        figures.append(serve_by(program, run, counted))
     run.end()
     return figures
 
@@ -254,7 +254,7 @@ def measured_spans(runs: Callable[[Sequence[str]], Run], program: str, file: pat
 def file_rows(runs: type[Run], keys: int, count: int, rounds: int) -> Iterator[list[str]]:
     """For each kind of request the figures of the three programs over a file, and the ratios of ours to the others'.
     The three files are to hold the same rows after each round."""
-    figures: dict[str, list[list[list[float]]]] = {program: [] for program in PROGRAMS}
+    figures: dict[str, list[list[float]]] = {program: [] for program in PROGRAMS}
     with fresh_folder() as folder:
         write(folder / "prepared.keyreg", keys)
         for _ in range(rounds):
@@ -265,12 +265,11 @@ def file_rows(runs: type[Run], keys: int, count: int, rounds: int) -> Iterator[l
             expect(all(other == wanted for other in others), "the files hold other rows")
             for file in files.values():
                 copy_files(None, file)
-    for at, (_, span) in enumerate(spans(keys, count)):
+    for (_, span), *of in zip(spans(keys, count), *map(least, figures.values())):
         kind = NAMES.get(span.kind, span.kind)
         kind += "" if span.kind == "repeat" else ", rising" if span.is_rising else ", level"
-        ours, *theirs = (least(of_round[at] for of_round in figures[program]) for program in PROGRAMS)
-        yield [str(keys), kind, str(span.end - span.first), *(f"{x:.1f}" for of in (ours, *theirs) for x in of),
-               *(f"{mine / its:.2f}" for other in theirs for mine, its in zip(ours, other))]
+        yield [str(keys), kind, str(span.end - span.first), *(f"{figure:.1f}" for figure in of),
+               *(f"{of[0] / other:.2f}" for other in of[1:])]
 
 
 def memory_row(count: int, rounds: int) -> list[str]:
@@ -303,8 +302,7 @@ def main() -> None:
         fit = all(keys >= 200 and keys % STEP and (keys - 1) % STEP and (keys - keys // 2) % STEP for keys in files)
         expect(fit and given.requests >= 4, f"sizes {files}, {given.requests} requests")
         print(f"SQLite {sqlite3.sqlite_version} in Python. {runs.UNIT} a request; the least of {given.rounds}.\n")
-        names = [*PROGRAMS, *(f"keyreg / {program}" for program in PROGRAMS[1:])]
-        table(["keys", "request", "counted", *(f"{name}: {measure}" for name in names for measure in runs.MEASURES)],
+        table(["keys", "request", "counted", *PROGRAMS, "keyreg / bare", "keyreg / python"],
               (row for keys in files for row in file_rows(runs, keys, given.requests, given.rounds)))
     if given.over != "file":
         table(("registrations", "no file: processor s", "memory, MB", "a file in /dev/shm: processor s", "memory, MB",

@@ -166,9 +166,9 @@ def cell_sum(file: pathlib.Path, name: str, *last: int) -> int:
 
 def table_lines(title: str, file: pathlib.Path, rounds: int, days: Sequence[int] = (),
                 last: Sequence[int] = ()) -> Iterator[list[str]]:
-    """For each program the least whole processor and wall seconds and those after the opening, the share that `keyreg`
-    has of each, and the most memory. A report is for so many days; the bare program reads its rows up to the last
-    moment. Each output is to be what it has to be."""
+    """For each program the least processor seconds of it whole and after the opening, the share that `keyreg` has of
+    each, and the most memory. A report is for so many days; the bare program reads its rows up to the last moment. Each
+    output is to be what it has to be."""
     name, of_python = title.split(",")[0], [sys.executable, __file__, "--python"]
     words = {"keyreg": [PROGRAM, name, "--file", file, *(word for day in days for word in ("--days", str(day)))],
              "bare": [bare_program(), file, *map(str, last)],
@@ -178,7 +178,7 @@ def table_lines(title: str, file: pathlib.Path, rounds: int, days: Sequence[int]
         for _ in range(rounds):
             for program in PROGRAMS:
                 whole, after = measured_behind(words[program], folder / program)
-                uses[program].append([*whole[:2], *after, whole.memory])
+                uses[program].append([whole.processor, after, whole.memory])
             for program in PROGRAMS[2:]:
                 is_same = filecmp.cmp(folder / "keyreg", folder / program, shallow=False)
                 expect(is_same, f"{title}: {program} writes other bytes")
@@ -188,9 +188,9 @@ def table_lines(title: str, file: pathlib.Path, rounds: int, days: Sequence[int]
             count = sum(1 for _ in lines)
     figures = {program: least(of) for program, of in uses.items()}
     for program, of in figures.items():
-        yield [title, f"{count}", program, *(f"{x:.3f}" for x in of[:4]),
-               *(f"{ours / other:.2f}" for ours, other in zip(figures["keyreg"], of[:4])),
-               f"{max(used[4] for used in uses[program]):.1f}"]
+        yield [title, f"{count}", program, *(f"{x:.3f}" for x in of[:2]),
+               *(f"{ours / other:.2f}" for ours, other in zip(figures["keyreg"], of[:2])),
+               f"{max(memory for *_, memory in uses[program]):.1f}"]
 
 
 # ---- imports
@@ -211,9 +211,9 @@ def write_inputs(folder: pathlib.Path, keys: int) -> None:
 
 
 def import_lines(keys: int, rounds: int) -> Iterator[list[str]]:
-    """What an import and a run used. Both are to reply by the rules, and to leave the same rows."""
+    """The processor seconds of an import and a run. Both are to reply by the rules, and to leave the same rows."""
     options_of = {"import": ["--moment", str(LATEST), "--caller", "ann", "--first", "1"], "run": []}
-    uses: dict[str, list[Sequence[float]]] = {name: [] for name in options_of}
+    uses: dict[str, list[float]] = {name: [] for name in options_of}
     with fresh_folder() as folder:
         write_inputs(folder, keys)
         for number in range(rounds):
@@ -221,13 +221,12 @@ def import_lines(keys: int, rounds: int) -> Iterator[list[str]]:
             for name, file in files.items():
                 new_register(file)
                 uses[name].append(measured([PROGRAM, name, "--file", file, *options_of[name]],
-                                           folder / f"{name}.given", folder / name)[:2])
+                                           folder / f"{name}.given", folder / name).processor)
                 expect(filecmp.cmp(folder / name, folder / "replies", shallow=False), f"{name}: other replies")
             left, wanted = map(table_rows, files.values())
             expect(left == wanted, "import and run leave other rows")
-    ours, other = map(least, uses.values())
-    for name, figures in zip(uses, (ours, other)):
-        yield [name, *(f"{x:.2f}" for x in figures), *(f"{mine / its:.2f}" for mine, its in zip(ours, figures))]
+    for name, seconds in uses.items():
+        yield [name, f"{min(seconds):.2f}", f"{min(uses['import']) / min(seconds):.2f}"]
 
 
 def main() -> None:
@@ -235,15 +234,14 @@ def main() -> None:
         return write_by_python(*sys.argv[2:])
     given = options(__doc__, rounds=3, days=30, keys=100_000)
     expect(given.keys % STEP, f"{given.keys} keys")
-    print(f"SQLite {sqlite3.sqlite_version} in Python. {given.keys} keys, a report for {given.days} days. Seconds; the "
-          f"least of {given.rounds}.\n")
+    print(f"SQLite {sqlite3.sqlite_version} in Python. {given.keys} keys, a report for {given.days} days. Seconds of "
+          f"processor time; the least of {given.rounds}.\n")
     with fresh_folder() as folder:
         office, shorter = folder / "office.keyreg", folder / "shorter.keyreg"
         write(office, given.keys, {})
         write(shorter, given.keys, SHORTER)
         due = min(LATEST + given.days * DAY, LAST)
-        table(("command", "lines", "program", "whole: processor s", "wall", "after the opening: processor s", "wall",
-               "keyreg / it: whole, processor", "wall", "after, processor", "wall", "memory, MB"),
+        table(("command", "lines", "program", "whole", "after opening", "keyreg / it: whole", "after", "memory, MB"),
               (line for lines in (table_lines("export", office, given.rounds),
                                   table_lines("report", office, given.rounds, [given.days], [due]),
                                   table_lines("report, periods set", shorter, given.rounds, [given.days], [LAST]))
@@ -251,7 +249,7 @@ def main() -> None:
         opening = min(measured([PROGRAM, "run", "--file", office]).memory for _ in range(given.rounds))
     own = resource.getrusage(resource.RUSAGE_SELF).ru_maxrss / 1024
     print(f"\nMemory: an opening {opening:.1f} MB, and this script's own {own:.1f} MB.\n")
-    table(("command", "processor s", "wall", "import / it: processor", "wall"), import_lines(given.keys, given.rounds))
+    table(("command", "seconds", "import / it"), import_lines(given.keys, given.rounds))
 
 
 main()

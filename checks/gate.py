@@ -7,11 +7,9 @@
     rt ci | checks/gate.py --behind-proofs
 
 Each part of the table GATE below is run, with --all of the table REST too, or those that are named, as many side by
-side as two cores take. Each has a limit of seconds by the clock, after which it is killed and has failed. KEYREG names
-another program than the one that stands.
-
-A part that passes gets one line, one that fails its output too. The last line counts the passed and the failed, and
-with --all those that were left out for want of a package or of root, each of which has a line that says so.
+side as two cores take. Each has a limit of seconds, after which it is killed and has failed. KEYREG names another
+program than the one that stands. A part that passes gets one line, one that fails its output too. The last line counts
+the passed and the failed, and with --all those that were left out for want of a package or of root.
 
 --all            root installs from Debian's packages what the parts use
 --furnish        looks for each command and module that the gate's parts use, and runs none. Root installs what is
@@ -154,26 +152,11 @@ def furnish(commands: dict[str, str]) -> dict[str, str]:
     return missing(commands)
 
 
-def is_furnished() -> bool:
-    """Whether all that the gate's parts use is there, or could be installed."""
-    lacking = furnish(COMMANDS)
-    for name, package in lacking.items():
-        print(f"gate: {name} is not there: Debian's package {package} has it", flush=True)
-    return not lacking
-
-
-def that_can_run(parts: list[Part]) -> list[Part]:
-    """Those of the parts for which all is there. Of each other one a line says why it is left out."""
-    lacking, can = furnish(COMMANDS | MORE_COMMANDS), []
-    for part in parts:
-        whys = [f"no {name} (Debian's {package})" for name, package in lacking.items()
-                if name in part.commands or name not in MORE_COMMANDS]
-        whys += ["not root"] if part.is_roots and os.geteuid() != 0 else []
-        if whys:
-            print(f"{part.name()}: left out: {', '.join(whys)}", flush=True)
-        else:
-            can.append(part)
-    return can
+def whys(part: Part, lacking: dict[str, str]) -> list[str]:
+    """Why a part cannot run where these commands and modules are not there."""
+    return [f"no {name} (Debian's {package})" for name, package in lacking.items()
+            if name in part.commands or name not in MORE_COMMANDS
+            ] + ["not root"] * (part.is_roots and os.geteuid() != 0)
 
 
 # ---- the proofs and the scripts
@@ -266,20 +249,23 @@ def main() -> None:
     # Whoever ends the gate ends what it began.
     signal.signal(signal.SIGTERM, lambda *_: sys.exit(1))
     passed, failed = pass_on() if asked.behind_proofs else (0, 0)
-    program, can = str(BUILT) if asked.behind_proofs else PROGRAM, list[Part]()
-    if not failed and not asked.all and not is_furnished():
-        failed = 1
-    elif asked.furnish:
-        return
-    elif not failed and not os.access(program, os.X_OK):
-        print(f"gate: no program at {program}", flush=True)
-        failed = 1
-    elif not failed:
-        can = that_can_run(parts) if asked.all else parts
-        failed = run_parts(can, program)
-        passed += len(can) - failed
-    left_out = f", {len(parts) - len(can)} left out" if asked.all else ""
-    print(f"{passed} passed, {failed} failed{left_out}", flush=True)
+    program, left_out = str(BUILT) if asked.behind_proofs else PROGRAM, dict[str, list[str]]()
+    if not failed:
+        lacking = furnish(COMMANDS | MORE_COMMANDS if asked.all else COMMANDS)
+        wants = [f"no program at {program}"] if not asked.furnish and not os.access(program, os.X_OK) else []
+        if asked.all:
+            left_out = {part.words: why for part in parts if (why := whys(part, lacking))}
+        else:
+            wants += [f"no {name}: Debian's package {package} has it" for name, package in lacking.items()]
+        for line in [*wants, *(f"{words}: left out: {', '.join(why)}" for words, why in left_out.items())]:
+            print(f"gate: {line}", flush=True)
+        failed = len(wants)
+        if not asked.furnish and not wants:
+            can = [part for part in parts if part.words not in left_out]
+            failed = run_parts(can, program)
+            passed += len(can) - failed
+    if failed or not asked.furnish:
+        print(f"{passed} passed, {failed} failed" + f", {len(left_out)} left out" * asked.all, flush=True)
     sys.exit(1 if failed else 0)
 
 
