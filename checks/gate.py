@@ -71,7 +71,6 @@ GATE = (
     Part("office/advance_tried.py", 60),
     Part("office/audit_views.py", 60),
     Part("program/every_command.py", 30),
-    Part("sources/given_to_crates.py", 30),
     Part("package/man_page.py", 30),
     Part("sources/unseen_by_contracts.py", 30),
     Part("sources/recipes.py", 30),

@@ -162,7 +162,7 @@ class RustFile:
         text = "\n".join(self.lines[at:])
         return text[:end_of(text, 0)].split("\n")
 
-    def terms(self, begun: int = 0, end: int = -1) -> Iterator[tuple[int, str, str]]:
+    def terms(self, begun: int, end: int) -> Iterator[tuple[int, str, str]]:
         """The terms in these lines: the line of each, what begins it, and what stands in its braces."""
         text = "\n".join(self.lines[begun:end])
         for match in TERM.finditer(text):

@@ -10,7 +10,7 @@ import re
 from typing import Iterable, Iterator, NamedTuple, Optional
 
 from places import listed, read
-from contracts import RustFile, end_of, stands_on
+from contracts import RustFile, stands_on
 
 USE = re.compile(r"\s*(?:ghost )?use Rattle\.(\w+)\.(?:specs|(?=proofs))\.?([\w.-]*?)"
                  r"(?:\.?\{(.*)\}| as ([\w-]+));?\s*$")
@@ -148,9 +148,7 @@ class SpecFile:
         return Definition(own, paragraph(above, "--"), tuple(text), parameters, names)
 
 
-@functools.lru_cache(maxsize=None)
-def spec_file(crate: str, place: str) -> SpecFile:
-    return SpecFile(crate, place)
+spec_file = functools.lru_cache(maxsize=None)(SpecFile)
 
 
 @functools.lru_cache(maxsize=None)
@@ -164,9 +162,7 @@ def spec_keys() -> list[Key]:
 # ---- types, traits and constants of code
 
 
-@functools.lru_cache(maxsize=None)
-def rust_file(crate: str, place: str) -> RustFile:
-    return RustFile(crate, place)
+rust_file = functools.lru_cache(maxsize=None)(RustFile)
 
 
 @functools.lru_cache(maxsize=None)
@@ -189,21 +185,17 @@ def rust_key(file: RustFile, word: str) -> Optional[Key]:
     return rust_key(rust_file(crate, "src/lib.rt"), name)
 
 
-def names_of_term(file: RustFile, at: int, term: str) -> list[Optional[Key]]:
-    imports = Imports(file.uses_at(at))
-    return [imports.key(word) or rust_key(file, word.split(".")[0]) for word in words_in(term)]
-
-
-def names_of_terms(file: RustFile, begun: int, end: int) -> list[Optional[Key]]:
-    """What the terms in these lines of code name."""
-    return [key for at, _, term in file.terms(begun, end) for key in names_of_term(file, at, term)]
+def names_of_terms(file: RustFile, begun: int, end: int, has_private: bool = True) -> list[Optional[Key]]:
+    """What the terms in these lines of code name, or those of public contracts alone."""
+    terms = [(Imports(file.uses_at(at)), term) for at, _, term in file.terms(begun, end)
+             if has_private or file.is_public(at)]
+    return [imports.key(word) or rust_key(file, word.split(".")[0])
+            for imports, term in terms for word in words_in(term)]
 
 
 def type_words(text: str) -> list[str]:
     """The types that a declaration names outside its terms, and behind the names of an enum's variants."""
-    text = re.sub(r"//.*", "", text)
-    while term := re.search(r"(?m)^ *(?:ghost|requires|ensures)\b[^{]*\{", text):
-        text = text[:term.start()] + text[end_of(text, term.end() - 1):]
+    text = re.sub(r"//.*|(?m:^ *(?:ghost|requires|ensures)\b.*)", "", text)
     return re.findall(r"\b[A-Z]\w*", re.sub(r"(?m)^    \w+", "", text) if " enum " in f" {text}" else text)
 
 
@@ -215,6 +207,11 @@ def on_one_line(text: str) -> str:
     return text
 
 
+def of_code(key: Key, words: list[str], text: Iterable[str], named: Iterable[Optional[Key]]) -> Definition:
+    names = tuple(name for name in dict.fromkeys(named) if name and name != key)
+    return Definition(key, paragraph(words, "///"), tuple("\n".join(text).split("\n")), "", names)
+
+
 def rust_definition(key: Key) -> Definition:
     """An item of code; of a type that contracts see as a value, also what that value is, but for the way back from it,
     of which no contract speaks; or what a type has of a trait, which contracts name by both."""
@@ -224,10 +221,8 @@ def rust_definition(key: Key) -> Definition:
         of_type, at = next((name, place) for (name, trait), place in file.impls.items() if name + trait == key.name)
         end = at + len(file.item(at))
         ghosts = [f"{head}{inner}}};" for _, head, inner in file.terms(at, end) if "ghost" in head]
-        text = [file.lines[at], *ghosts, "}"]
         words = file.words_of(at) or file.words_of(file.items.get(of_type, at))
-        return Definition(key, paragraph(words, "///"), tuple("\n".join(text).split("\n")), "",
-                          tuple(dict.fromkeys(filter(None, names_of_terms(file, at, end)))))
+        return of_code(key, words, [file.lines[at], *ghosts, "}"], names_of_terms(file, at, end))
     model = file.impls.get((key.name, "Model"))
     for begun in (at,) if model is None else (at, model):
         item = file.item(begun)
@@ -236,9 +231,7 @@ def rust_definition(key: Key) -> Definition:
                  and not line.startswith("    ghost inverse ")]
     if model is None:
         named += [rust_key(file, word) for word in type_words("\n".join(text))]
-    names = tuple(name for name in dict.fromkeys(named) if name and name != key)
-    return Definition(key, paragraph(file.words_of(at), "///"), tuple(on_one_line("\n".join(text)).split("\n")), "",
-                      names)
+    return of_code(key, file.words_of(at), [on_one_line("\n".join(text))], named)
 
 
 def law(path: str, name: str) -> Definition:
@@ -249,14 +242,13 @@ def law(path: str, name: str) -> Definition:
     end = next(place for place in range(at, len(file.lines)) if file.lines[place].startswith("{"))
     bounds = " ".join(re.findall(r"<.*>", file.lines[at]))
     named = names_of_terms(file, at, end) + [rust_key(file, word) for word in type_words(bounds)]
-    return Definition(Key(crate, place, name), paragraph(file.words_of(at), "///"), tuple(file.lines[at:end]), "",
-                      tuple(dict.fromkeys(filter(None, named))))
+    return of_code(Key(crate, place, name), file.words_of(at), file.lines[at:end], named)
 
 
 @functools.lru_cache(maxsize=None)
 def definition(key: Key) -> Definition:
-    of_code = key.place.startswith("src/")
-    return rust_definition(key) if of_code else spec_file(key.crate, key.place).definition(key.name)
+    is_of_code = key.place.startswith("src/")
+    return rust_definition(key) if is_of_code else spec_file(key.crate, key.place).definition(key.name)
 
 
 # ---- the walk
@@ -284,9 +276,7 @@ def in_order(names: Iterable[Key]) -> tuple[list[Definition], list[Key]]:
 def contract_names() -> Iterator[Key]:
     """What each public contract of all crates names: clauses of public functions and of traits, and ghosts."""
     for file in rust_files():
-        for at, _, term in file.terms():
-            if file.is_public(at):
-                yield from filter(None, names_of_term(file, at, term))
+        yield from filter(None, names_of_terms(file, 0, -1, has_private=False))
 
 
 def reached(names: Iterable[Key]) -> set[Key]:

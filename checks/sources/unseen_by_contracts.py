@@ -15,8 +15,14 @@
   the places of REFUSED, each behind such a call, or behind a row that no register holds. The one
   `sqlite::Error` that is made here is that of rows past 2^64.
 - How often a connection was called: each function of `Counted` makes the calls of CALLS, once.
+- What a crate of the program touches of the machine. A function reaches a file, a connection, a
+  clock or the program's words only through what it is given: the calls of `std` that do take the
+  runtime, or a value under one of its bounds. So where neither a word of GIVEN nor a runtime stands,
+  no function reaches them. The program itself has the runtime and its contracts say little: every
+  word of it stands in program.rt.txt too, without comments and empty lines.
 """
 import collections
+import difflib
 import pathlib
 import re
 import sys
@@ -24,7 +30,7 @@ from typing import Iterator
 
 sys.path.insert(1, str(pathlib.Path(__file__).resolve().parents[1] / "shared"))
 from places import listed, read
-from contracts import bare, functions_of
+from contracts import bare, functions_of, stands_on
 from script import options, verdict
 
 # Of the files of a pattern: the words that mark, and by function the lines of bodies that have one.
@@ -84,6 +90,35 @@ CALLS = {
 CALL = re.compile(r"(?:\.|::|(?<!fn )\b)"
                   r"(execute|query|query_row|query_all|transaction|run|run_in_transaction|commit|rollback)\(")
 
+# The word, as it stands in code, and the crates in which it may.
+GIVEN = {
+    "the runtime": (r"\bHostRuntime\b", {"disk_files", "keyreg"}),
+    "files": (r"\bstd::fs\b", {"disk_files"}),
+    "the network": (r"\bstd::net\b|\bTcp(?:Stream|Listener)\b|\bNet\b", {"disk_files"}),
+    "words and the environment": (r"\bstd::env\b|\benv::", {"keyreg"}),
+    "processes, threads and the system": (r"\bstd::(?:thread|os|sync)\b|\b(?:Processes|Threads|Abort|Wait)\b", set()),
+    "the end of the program": (r"\bstd::process\b", {"keyreg"}),
+    "a clock": (r"\b(?:Clock|Instant|SystemTime)\b", {"register_program", "disk_files"}),
+    "standard streams": (r"\.std(?:in|out|err)\(\)", {"keyreg"}),
+}
+
+
+def lines_of(path: str) -> list[str]:
+    """The lines of a file, without comments."""
+    return [*map(bare, read(path).split("\n"))]
+
+
+def given_faults() -> Iterator[str]:
+    """Where a word of the machine stands in a crate that it is not given, or in none of one that it is."""
+    for what, (word, allowed) in GIVEN.items():
+        having = {crate for crate in stands_on() if not crate.startswith("test_") and any(
+            re.search(word, line) for path in listed(f"crates/{crate}/src/**/*.rt") for line in lines_of(path))}
+        yield from (f"{crate} {'names' if crate in having else 'is given, and does not name,'} {what}"
+                    for crate in sorted(having ^ allowed))
+    wanted, lines = read("checks/sources/program.rt.txt").splitlines(), lines_of("crates/keyreg/src/main.rt")
+    differences = difflib.unified_diff(wanted, [*filter(None, lines)], n=0, lineterm="")
+    yield from (f"the program: {line}" for line in [*differences][2:])
+
 
 def mark_faults() -> Iterator[str]:
     """Where what came of a stream, the network or the clock is marked otherwise."""
@@ -101,7 +136,7 @@ def place_faults() -> Iterator[str]:
     """Where want of memory or a refused call is told in more places than it should be, or in fewer, and where room is
     asked for beforehand: in crates that are no tests, without imports and clauses."""
     lines = [(path, line) for path in listed("crates/*/src/**/*.rt") if not path.startswith("crates/test_")
-             for line in map(bare, read(path).split("\n")) if "use " not in line and "ensures" not in line]
+             for line in lines_of(path) if "use " not in line and "ensures" not in line]
     yield from (f"{path} asks for room: {line.strip()}" for path, line in lines if ROOM.search(line))
     for what, word, wanted in (("want of memory", MEMORY, TOLD), ("a refused call", REFUSAL, REFUSED)):
         told = [(path, line.strip()) for path, line in lines for _ in word.findall(line)]
@@ -123,9 +158,10 @@ def call_faults() -> Iterator[str]:
 
 def main() -> None:
     options(__doc__)
-    faults = [*mark_faults(), *place_faults(), *call_faults()]
+    faults = [*mark_faults(), *place_faults(), *call_faults(), *given_faults()]
     verdict(f"marks of streams, {sum(TOLD.values())} places that make want of memory, {sum(REFUSED.values())} a "
-            f"refused call, {len(CALLS)} functions that call a connection: {len(faults)} faults", faults)
+            f"refused call, {len(CALLS)} functions that call a connection, {len(GIVEN)} words of the machine: "
+            f"{len(faults)} faults", faults)
 
 
 main()
