@@ -8,7 +8,6 @@ each was measured. checks/sources/documents.py tells where the picture is not th
 """
 import itertools
 import pathlib
-from typing import Iterable
 from xml.sax.saxutils import escape
 
 DOCS = pathlib.Path(__file__).resolve().parents[1] / "docs"
@@ -85,17 +84,13 @@ def drawn(panel: Panel, left: int, top: int) -> list[str]:
     return lines
 
 
-def legend(top: int) -> Iterable[str]:
-    x = 20
-    for name, colour in COLOURS.items():
-        yield f'<rect x="{x}" y="{top}" width="{BAR}" height="{BAR}" fill="{colour}"/>'
-        yield text_at(x + BAR + 6, top + BAR - 1, name)
-        x += 60 + 7 * len(name)
-    yield text_at(x - 30, top + BAR - 1, "(tested: it tests each row that it opens)")
-
-
 def picture() -> str:
-    lines, y = [*legend(16)], 44
+    lines, x, y = list[str](), 20, 44
+    for name, colour in COLOURS.items():
+        lines.append(f'<rect x="{x}" y="16" width="{BAR}" height="{BAR}" fill="{colour}"/>')
+        lines.append(text_at(x + BAR + 6, 15 + BAR, name))
+        x += 60 + 7 * len(name)
+    lines.append(text_at(x - 30, 15 + BAR, "(tested: it tests each row that it opens)"))
     for row in ((request_panel(1000), request_panel(100000)), (table_panel(), exchange_panel())):
         for place, panel in enumerate(row):
             lines += drawn(panel, 20 + place * (PANEL + 20), y)

@@ -4,18 +4,17 @@ items and the terms of its contracts.
 A function's head goes from `fn` to the line that opens its body or ends it with a semicolon.
 """
 import functools
-import pathlib
+import os
 import re
 from typing import Iterator, NamedTuple
 
-from places import listed, read
+from places import TOP, listed, read
 
 FUNCTION = re.compile(r"( *)(pub(?:\([\w ]+\))? )?(?:const )?fn (\w+)")
 CLAUSE = re.compile(r"\s*(?:requires|ensures)(?: (\w+))? \{")
 OWNER = re.compile(r"(?:impl|(?:pub(?:\(crate\))? )?trait)\b(?:<[^{]*?>)? (?:.* for )?([\w:]*).*\{")
 ITEM = re.compile(r"(?:pub(?:\([\w ]+\))? )?(?:struct|enum|trait|const|static|type) (\w+)")
 IMPL = re.compile(r"impl\b(?:<.*?>)? (\w+)(?:<.*>)? for (\w+)")
-TRAIT = re.compile(r"(pub )?(?:pub\([\w ]+\) )?trait (\w+)")
 OF_TRAIT = re.compile(r"(?:(?:pub(?:\([\w ]+\))? )?trait|impl\b(?:<.*?>)?(?= \S+ for\b)) (\w+)")
 TERM = re.compile(r"^ *(?:(?:requires|ensures)\*?(?: \w+)?|ghost \w+(?::| =)) \{", re.M)
 RUST_USE = re.compile(r"^ *(?:pub(?:\([\w ]+\))? )?use ((?!Rattle\.)[^;]*);", re.M)
@@ -37,13 +36,19 @@ class Function(NamedTuple):
     body: list[str]
 
 
-def code_of(path: pathlib.Path) -> list[str]:
-    """The lines of a file without their comments."""
-    return [bare(line) for line in path.read_text(encoding="utf-8").split("\n")]
-
-
 def bare(line: str) -> str:
+    """A line of code without its comment."""
     return line.split("//")[0].rstrip()
+
+
+@functools.lru_cache
+def all_files() -> list[str]:
+    """The files of the repository, by their paths from the top, without what a build, a package or Python makes."""
+    paths = list[str]()
+    for folder, inner, files in os.walk(TOP):
+        inner[:] = [name for name in inner if name not in ("out", "packages", "__pycache__") and name[0] != "."]
+        paths += (os.path.relpath(os.path.join(folder, name), TOP) for name in files)
+    return paths
 
 
 @functools.lru_cache
@@ -136,8 +141,8 @@ def leaves(text: str) -> Iterator[tuple[str, str]]:
 @functools.lru_cache
 def traits_within(crate: str) -> set[str]:
     """The traits of a crate that those above it do not see."""
-    matches = (TRAIT.match(line) for path in listed(f"crates/{crate}/src/**/*.rt") for line in read(path).split("\n"))
-    return {match[2] for match in matches if match and not match[1]}
+    return {name for path in listed(f"crates/{crate}/src/**/*.rt")
+            for name in re.findall(r"(?m)^(?:pub\([\w ]+\) )?trait (\w+)", read(path))}
 
 
 class RustFile:

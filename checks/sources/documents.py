@@ -173,15 +173,9 @@ def link_faults(document: str, target: str) -> Iterator[str]:
         yield f"{whole} has no heading {anchor}"
 
 
-@functools.lru_cache
-def all_files() -> list[str]:
-    return [os.path.join(folder, name) for folder, _, files in os.walk(TOP) for name in files
-            if not {".git", "out", "__pycache__"} & {*folder.split("/")}]
-
-
 def is_there(path: str) -> bool:
     """Whether a file ends in these parts of a path, or a folder of the top is named so."""
-    return (TOP / path).exists() or any(file.endswith("/" + path) for file in all_files())
+    return (TOP / path).exists() or any(file.endswith("/" + path) for file in contracts.all_files())
 
 
 def install_faults() -> Iterator[str]:

@@ -126,9 +126,7 @@ class Copy:
 
     def entries(self) -> list[list[str]]:
         """The journal of the calls of `rt`, in order: of each line the kind, the crate and the rest."""
-        with contextlib.suppress(FileNotFoundError):
-            return [*map(str.split, (self.orders / "journal").read_text(encoding="utf-8").splitlines())]
-        return []
+        return [*map(str.split, (self.orders / "journal").read_text(encoding="utf-8").splitlines())]
 
     def begun(self) -> list[str]:
         return [crate for kind, crate, *_ in self.entries() if kind == "begun"]
@@ -145,7 +143,7 @@ class Copy:
         """Has the calls of `rt` do this from here on, with a journal anew, and gives a source the time of now."""
         for old in self.orders.iterdir():
             old.unlink()
-        for name, _, text in (order.partition("=") for order in orders):
+        for name, _, text in (order.partition("=") for order in ("journal", *orders)):
             (self.orders / name).write_text(text, encoding="utf-8")
         if renewed:
             os.utime(self.top / renewed)
@@ -264,24 +262,19 @@ def together(copy: Copy) -> Iterator[str]:
     lasting = copy.start(["linger"])
     lasting.stdout.readline()
     copy.order()
-    with contextlib.suppress(subprocess.TimeoutExpired):
-        yield from copy.built("beside a program", copy.call("timeout", "60"))
+    yield from copy.built("beside a program", copy.call("timeout", "60"))
     lasting.kill()
     lasting.communicate()
 
 
 def main() -> None:
     options(__doc__)
-    # A shell that was begun where an interrupt is ignored, as after nohup and &, cannot heed it.
+    # A shell that was begun where an interrupt is ignored cannot heed it.
     signal.signal(signal.SIGINT, signal.default_int_handler)
-    faults = list[str]()
     with fresh_folder() as folder:
         copy = Copy(folder)
-        for look in (told, without_the_kit, what_makes_it_build, failed, stopped, together):
-            try:
-                faults += look(copy)
-            except subprocess.TimeoutExpired as late:
-                faults.append(f"{look.__name__}: {late}")
+        faults = [fault for look in (told, without_the_kit, what_makes_it_build, failed, stopped, together)
+                  for fault in look(copy)]
     verdict(f"./keyreg: {len(faults)} faults", faults)
 
 

@@ -12,7 +12,6 @@ or by one that it sends on to, or it stands there with the reason why it is left
 there.
 """
 import fnmatch
-import os
 import pathlib
 import re
 import sys
@@ -20,6 +19,7 @@ from typing import Iterator, NamedTuple
 
 sys.path.insert(1, str(pathlib.Path(__file__).resolve().parents[1] / "shared"))
 from places import TOP, read
+from contracts import all_files
 from script import options, verdict
 
 CRATES = {path.name: path for path in (TOP / "crates").iterdir()}
@@ -30,8 +30,6 @@ ITEM = re.compile(r"[A-Za-z_][\w:]*(\(\))?")
 DOCUMENT = re.compile(r"\bdocs/[\w.]*\w|\bREADME\b")
 LINK = re.compile(r"\(#([\w-]+)\)")
 SUFFIXES = (".rt", ".antt", ".edit")
-# The folders that a build, a package and Python make.
-MADE = ("out", "packages", "__pycache__")
 INNER = ("", "src", "src/tests", "proofs", "specs", "must-fail", "more-must-fail")
 
 
@@ -162,14 +160,6 @@ def names(step: Step, path: str) -> bool:
     return any(place in (file, *file.parents) for place in step.paths.values() if place not in CRATES.values())
 
 
-def sources() -> Iterator[str]:
-    """The files of the repository, without pictures and what a build, a package or Python makes."""
-    for folder, inner, files in os.walk(TOP):
-        inner[:] = [name for name in inner if name not in MADE and not name.startswith(".")]
-        yield from (os.path.relpath(os.path.join(folder, name), TOP) for name in files
-                    if ".keyreg" not in name and not name.endswith(".png"))
-
-
 def kind_faults(kind: Kind, recipes: dict[str, Recipe], mention: list[str]) -> Iterator[str]:
     """Which of the files that mention what was added are not named, and which are left and do not mention it."""
     own = recipes.get(kind.recipe, Recipe([], []))
@@ -191,7 +181,7 @@ def main() -> None:
     named = [(title, step) for title, recipe in recipes.items() for step in recipe.steps]
     faults = [f"{title}: no file {path}" for title, step in named for path, place in step.paths.items() if not place]
     faults += [f"{title}: no {word}" for title, step in named for word in step.items if not holds(word, step)]
-    texts, count = {path: (TOP / path).read_text() for path in sources()}, 0
+    texts, count = {path: read(path) for path in all_files() if not re.search(r"\.keyreg|\.png$", path)}, 0
     for kind in KINDS:
         mention = [path for path, text in texts.items() if re.search(kind.words, text)]
         faults += kind_faults(kind, recipes, mention)
