@@ -25,7 +25,7 @@ import sys
 import tempfile
 import time
 from statistics import median
-from typing import Any, Iterator, NamedTuple, Sequence
+from typing import Any, Iterator, Sequence
 
 from measuring import STEP, clock_of, table
 from answers import compact, request_object, shown
@@ -39,12 +39,6 @@ HERE = pathlib.Path(__file__).resolve().parent
 JOURNALS, KINDS, MOMENT = ("delete", "wal"), {"get": "GET of a key", "post": "POST of a registration"}, 1_000_000
 # After the greatest moment of the clock in these runs: the keys stay Pre-Active.
 LATER = 10_000_000_000
-
-
-class Timed(NamedTuple):
-    """One kind in one round: exchanges a second, and the server's processor microseconds of one."""
-    rate: float
-    micros: float
 
 
 # ---- the compared exchanges
@@ -94,7 +88,8 @@ def rows_left(file: pathlib.Path, keys: int) -> tuple[list[Any], int]:
 
 
 class Server:
-    """A server over a file, with the times of its rounds by kind."""
+    """A server over a file, with the times of its rounds by kind: exchanges a second, and its processor microseconds of
+    one."""
 
     def __init__(self, name: str, file: pathlib.Path) -> None:
         self.name, self.file, self.port = name if name == "keyreg" else f"python, {name}", file, free_port()
@@ -102,7 +97,7 @@ class Server:
         if name == "keyreg":
             words = [PROGRAM, "serve", "--file", file, "--port", str(self.port), "--exchanges", "1000000"]
         self.process = subprocess.Popen(words, stdin=subprocess.DEVNULL)
-        self.times: dict[str, list[Timed]] = {kind: [] for kind in KINDS}
+        self.times: dict[str, list[tuple[float, float]]] = {kind: [] for kind in KINDS}
         self.registered = 0
 
     def time(self, kind: str, caller: str, given: argparse.Namespace) -> None:
@@ -114,7 +109,7 @@ class Server:
                              "--", kind, caller, given.keys, LATER, STEP])
         count, micros, failed = map(int, written.splitlines()[-1].split())
         expect(count > 0 and failed == 0, f"{self.name}, {kind}: {count} exchanges, {failed} failed")
-        self.times[kind].append(Timed(1e6 * count / micros, 1e6 * (time.clock_gettime(clock) - used) / count))
+        self.times[kind].append((1e6 * count / micros, 1e6 * (time.clock_gettime(clock) - used) / count))
         self.registered += count * (kind == "post")
 
 
@@ -167,7 +162,7 @@ def rows(servers: Sequence[Server]) -> Iterator[list[str]]:
     for kind, name in KINDS.items():
         for server in servers:
             rates, micros = zip(*server.times[kind])
-            ratio = median(ours.rate / its.rate for ours, its in zip(servers[0].times[kind], server.times[kind]))
+            ratio = median(ours / rate for (ours, _), rate in zip(servers[0].times[kind], rates))
             yield [name, server.name, f"{median(rates):.0f}", f"{median(micros):.0f}", f"{ratio:.2f}"]
 
 

@@ -30,15 +30,13 @@ class Label(NamedTuple):
     edit: str = ""
 
 
-class Stat(NamedTuple):
-    """The parent of a process, and the processor seconds of it and of those that it has waited for."""
-    parent: int
-    seconds: float
+# The parent of a process, and the processor seconds of it and of those that it has waited for.
+Stat = tuple[int, float]
 
 
 def stat_of(pid: int) -> Stat:
     fields = pathlib.Path(f"/proc/{pid}/stat").read_text(encoding="utf-8", errors="replace").rpartition(")")[2].split()
-    return Stat(int(fields[1]), sum(map(int, fields[11:15])) / TICKS)
+    return int(fields[1]), sum(map(int, fields[11:15])) / TICKS
 
 
 def is_made(edit: pathlib.Path, room: pathlib.Path) -> bool:
@@ -76,7 +74,7 @@ class Watch:
             nearest = pid if self.labels.get(pid) else nearest
             if pid == self.pid:
                 return nearest
-            pid = stats[pid].parent
+            pid, _ = stats[pid]
         return None
 
     def look(self) -> None:
@@ -88,11 +86,11 @@ class Watch:
             with contextlib.suppress(OSError):
                 label = label_of(pid)
                 # A young process may become the checker yet.
-                if label or stats[pid].seconds > 1:
+                if label or stats[pid][1] > 1:
                     self.labels[pid] = label
-        for pid, stat in stats.items():
+        for pid, (_, seconds) in stats.items():
             if above := self.checks(pid, stats):
-                now[above] += stat.seconds
+                now[above] += seconds
         for pid, seconds in now.items():
             self.used[pid] = max(self.used[pid], seconds)
 

@@ -27,7 +27,6 @@ import filecmp
 import os
 import pathlib
 import re
-import shutil
 import sqlite3
 import subprocess
 import sys
@@ -53,7 +52,6 @@ FIRST = 50
 # What the kinds are called that have other names in the table.
 NAMES = {"one": "assign, one key", "active": "register, Active", "clock": "advance, none due",
          "advance": "advance, one due"}
-PROGRAMS = ("keyreg", "bare", "python")
 # Seconds after which a program is taken to hang.
 PATIENCE = 600
 
@@ -224,10 +222,6 @@ class CountedRun(Run):
             time.sleep(0.01)
         sys.exit("FAILED: callgrind wrote no count")
 
-    def end(self) -> None:
-        super().end()
-        self.folder.cleanup()
-
 
 def serve_by(program: str, run: Run, span: Span) -> float:
     """Has the span served by a run of the program. Gives what the run measures of a request."""
@@ -239,32 +233,23 @@ def serve_by(program: str, run: Run, span: Span) -> float:
     return run.give(given.encode(), wanted.encode()) / (span.end - span.first)
 
 
-def measured_spans(runs: type[Run], program: str, file: pathlib.Path, keys: int, count: int) -> list[float]:
-    """What is measured of a request of each kind."""
-    words = {"keyreg": [PROGRAM, "run", "--file", file], "bare": [bare_program(), file],
-             "python": [sys.executable, python_register.__file__, file]}[program]
-    run, figures = runs(words), []
-    for first, counted in spans(keys, count):
-        serve_by(program, run, first)
-        figures.append(serve_by(program, run, counted))
-    run.end()
-    return figures
-
-
 def file_rows(runs: type[Run], keys: int, count: int, rounds: int) -> Iterator[list[str]]:
     """For each kind of request the figures of the three programs over a file, and the ratios of ours to the others'.
     The three files are to hold the same rows after each round."""
-    figures: dict[str, list[list[float]]] = {program: [] for program in PROGRAMS}
+    programs = {"keyreg": [PROGRAM, "run", "--file"], "bare": [bare_program()],
+                "python": [sys.executable, python_register.__file__]}
+    figures: dict[str, list[list[float]]] = {program: [] for program in programs}
     with fresh_folder() as folder:
         write(folder / "prepared.keyreg", keys)
         for _ in range(rounds):
-            files = {program: shutil.copy(folder / "prepared.keyreg", folder / program) for program in PROGRAMS}
+            files = {program: copy_files(folder / "prepared.keyreg", folder / program) for program in programs}
             for program, file in files.items():
-                figures[program].append(measured_spans(runs, program, file, keys, count))
+                run = runs([*programs[program], file])
+                pairs = [[serve_by(program, run, span) for span in both] for both in spans(keys, count)]
+                run.end()
+                figures[program].append([counted for _, counted in pairs])
             wanted, *others = map(table_rows, files.values())
             expect(all(other == wanted for other in others), "the files hold other rows")
-            for file in files.values():
-                copy_files(None, file)
     for (_, span), *of in zip(spans(keys, count), *map(least, figures.values())):
         kind = NAMES.get(span.kind, span.kind)
         kind += "" if span.kind == "repeat" else ", rising" if span.is_rising else ", level"
@@ -297,12 +282,11 @@ def main() -> None:
     given = options(__doc__, over="", requests=1000, rounds=3, instructions=False, keys="")
     sizes = [int(size) for size in given.keys.split(",") if size]
     if given.over != "memory":
-        bare_program()
         runs, files = CountedRun if given.instructions else Run, sizes or [1_000, 10_000, 100_000]
         fit = all(keys >= 200 and keys % STEP and (keys - 1) % STEP and (keys - keys // 2) % STEP for keys in files)
         expect(fit and given.requests >= 4, f"sizes {files}, {given.requests} requests")
         print(f"SQLite {sqlite3.sqlite_version} in Python. {runs.UNIT} a request; the least of {given.rounds}.\n")
-        table(["keys", "request", "counted", *PROGRAMS, "keyreg / bare", "keyreg / python"],
+        table(["keys", "request", "counted", "keyreg", "bare", "python", "keyreg / bare", "keyreg / python"],
               (row for keys in files for row in file_rows(runs, keys, given.requests, given.rounds)))
     if given.over != "file":
         table(("registrations", "no file: processor s", "memory, MB", "a file in /dev/shm: processor s", "memory, MB",

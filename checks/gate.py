@@ -184,12 +184,13 @@ class Running:
             [python, str(TOP / "checks" / script), *words], cwd=TOP, env=environment, stdin=subprocess.DEVNULL,
             stdout=self.output, stderr=subprocess.STDOUT, start_new_session=True)
 
-    def is_late(self) -> bool:
-        return time.monotonic() - self.begun > self.part.seconds
+    def seconds(self) -> float:
+        return time.monotonic() - self.begun
 
     def is_over(self) -> bool:
         """Whether it has ended or is at its limit. It is not waited for yet: its number is kept."""
-        return self.is_late() or os.waitid(os.P_PID, self.process.pid, os.WEXITED | os.WNOHANG | os.WNOWAIT) is not None
+        return (self.seconds() > self.part.seconds
+                or os.waitid(os.P_PID, self.process.pid, os.WEXITED | os.WNOHANG | os.WNOWAIT) is not None)
 
     def end(self) -> int:
         """Ends whatever is left of it, and gives its status."""
@@ -199,12 +200,11 @@ class Running:
 
     def has_passed(self) -> bool:
         """Ends it, says how it ended, and gives whether it passed."""
-        seconds, why = time.monotonic() - self.begun, f"no end in {self.part.seconds} s" if self.is_late() else ""
-        if status := self.end():
-            why = why or f"status {status}"
-        with self.output:
-            self.output.seek(0)
-            sys.stdout.buffer.write(self.output.read() if why else b"")
+        seconds, status, why = self.seconds(), self.end(), ""
+        if status or seconds > self.part.seconds:
+            why = f"status {status}" if seconds <= self.part.seconds else f"no end in {self.part.seconds} s"
+        self.output.seek(0)
+        sys.stdout.buffer.write(self.output.read() if why else b"")
         print(f"{self.part.name()}: {f'FAILED, {why}' if why else f'passed in {seconds:.0f} s'}", flush=True)
         return not why
 

@@ -45,11 +45,6 @@ def paragraph(lines: Iterable[str], mark: str) -> str:
     return re.sub(r"\[(`[^`]*`)\](?:\([^)]*\))?", r"\1", text)
 
 
-def code_lines(definition: Definition) -> int:
-    """How many lines of its text are no comment."""
-    return sum(not line.strip().startswith(("--", "//")) for line in definition.text)
-
-
 def words_in(text: str) -> list[str]:
     return [re.sub(r"\s", "", word) for word in WORD.findall(text) if word]
 

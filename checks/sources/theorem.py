@@ -12,12 +12,12 @@ import pathlib
 import re
 import sys
 import textwrap
-from typing import Iterable, Iterator, NamedTuple
+from typing import Iterable, Iterator
 
 sys.path.insert(1, str(pathlib.Path(__file__).resolve().parents[1] / "shared"))
 from places import TOP, listed, read
 import definitions
-from definitions import Definition, Key, code_lines
+from definitions import Definition, Key
 from script import options, verdict
 
 # The law whose contract is the theorem: its file, and its name.
@@ -41,13 +41,6 @@ FIGURE = re.compile(r"\b(\d[\d,]*)\s+(lines|definitions)\b")
 NEAR = 300
 
 
-class Count(NamedTuple):
-    """Definitions, their lines without comments, and how many of these are of types and traits of the code."""
-    number: int
-    lines: int
-    of_code: int
-
-
 def words_of(page: str) -> str:
     """A page's own words."""
     return read(f"checks/sources/{page}_head.md")
@@ -68,9 +61,11 @@ def wordless() -> list[Key]:
                   if not words or GOES_ON.match(words) and not key.place.startswith("src/"))
 
 
-def count(of: Iterable[Definition]) -> Count:
-    lines = [(code_lines(definition), definition.key.place.startswith("src/")) for definition in of]
-    return Count(len(lines), sum(number for number, _ in lines), sum(number for number, of_code in lines if of_code))
+def count(of: Iterable[Definition]) -> tuple[int, int, int]:
+    """Definitions, their lines without comments, and how many of these are of types and traits of the code."""
+    lines = [(sum(not line.strip().startswith(("--", "//")) for line in definition.text),
+              definition.key.place.startswith("src/")) for definition in of]
+    return len(lines), sum(number for number, _ in lines), sum(number for number, of_code in lines if of_code)
 
 
 # ---- the pages
@@ -91,10 +86,10 @@ def by_crate() -> dict[str, list[Definition]]:
 
 def count_table() -> str:
     """The crates with what the page has of each."""
-    rows = [(f"[{crate}](#{crate})", count(of)) for crate, of in by_crate().items()]
+    rows = [*((f"[{crate}](#{crate})", count(of)) for crate, of in by_crate().items()), ("all", count(theorem()[1]))]
     heads = "| Crate | Definitions | Their lines, without comments | Of these of types and traits of the code |"
-    return "\n".join([heads, "|---|---|---|---|", *(f"| {name} | {of.number:,} | {of.lines:,} | {of.of_code:,} |"
-                                                    for name, of in [*rows, ("all", count(theorem()[1]))])])
+    return "\n".join([heads, "|---|---|---|---|", *(
+        f"| {name} | {number:,} | {lines:,} | {of_code:,} |" for name, (number, lines, of_code) in rows)])
 
 
 def entry(definition: Definition, shared: dict[tuple, str]) -> str:

@@ -6,11 +6,8 @@
 
 Puts the edits of crates/*/more-must-fail, or of the crates that are named, into a copy of the repository, in the place
 of those that the gate tries, and lets `rt must-fail` try them there: a check of each crate, and some 10 to 60 seconds
-for each edit, but for what this machine has tried before. Whoever changes a contract tries those of its crate. What
-`rt` prints is passed on, but that an edit is refused.
-
---texts  tries none: it names the edits whose old text is gone or stands twice, as `rt fmt` does of those in must-fail,
-         and those of a name that stands there too
+for each edit. What `rt` prints is passed on, but that an edit is refused. With --texts it tries none: it names those
+whose old text is gone or stands twice, as `rt fmt` does of those in must-fail, and those of a name that stands there.
 """
 import collections
 import pathlib
