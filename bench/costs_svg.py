@@ -32,15 +32,11 @@ def table_with(name: str) -> list[Row]:
     raise ValueError(f"no table of docs/COSTS.md has a column {name}")
 
 
-def bars_of(row: Row, *columns: str) -> dict[str, str]:
-    """The bars of a row: its figures of the three programs, as far as columns are given."""
-    return dict(zip(COLOURS, (row[column] for column in columns)))
-
-
 def request_panel(keys: int) -> Panel:
     """What some requests cost over a file of so many keys."""
     rows = {row["Request"]: row for row in table_with("Request") if row["Keys"] == str(keys)}
-    groups = [(kind, bars_of(rows[kind], "keyreg", "Bare", "Python")) for kind in REQUESTS]
+    groups = [(kind, dict(zip(COLOURS, (rows[kind][column] for column in ("keyreg", "Bare", "Python")))))
+              for kind in REQUESTS]
     return f"A request over a file of {keys:,} keys: processor time, µs", groups
 
 
@@ -50,7 +46,7 @@ def table_panel() -> Panel:
                          for row in table_with("Program") if row["Command"] == command})
               for command in ("export", "report")]
     row = next(row for row in table_with("File, MB") if row["Keys"] == "100000")
-    opening = ("opening", bars_of(row, "Processor s", "Bare: processor s"))
+    opening = ("opening", {"keyreg": row["Processor s"], "bare engine": row["Bare: processor s"]})
     return "A command over 100,000 keys: processor time, s", [*groups, opening]
 
 

@@ -11,8 +11,8 @@ a log, *wal*, which Python syncs once and the kit twice.
 First so many exchanges of each kind are asked one after the other, and each reply is compared with the expected one.
 Then `wrk` asks all in rounds that take turns, so many seconds for each kind, one exchange a connection, so many at
 once. Each reply is to have the status 200. After the last round the rows that the compared exchanges left are compared,
-and the number of keys with what `wrk` counted. In a FOLDER that is a disk a POST costs its syncs. It needs `wrk`
-(Debian's package of that name), and Linux, for the clock of another process.
+and the number of keys with what `wrk` counted (Debian's package wrk). In a FOLDER that is a disk a POST costs its
+syncs.
 """
 import argparse
 import contextlib
@@ -31,7 +31,7 @@ from measuring import STEP, clock_of, table
 from answers import compact, request_object, shown
 from places import PROGRAM
 from register_rules import Register, Request, line
-from registers import database, new_register
+from registers import new_register, table_rows
 from script import expect, options, output_of
 from serving import begins_to_listen, free_port, get, post, received
 
@@ -76,12 +76,10 @@ def compare(port: int, register: Register, count: int) -> None:
 def rows_left(file: pathlib.Path, keys: int) -> tuple[list[Any], int]:
     """The rows of the keys up to that number, and those of bob's requests, without when a request came; and how many
     keys there are."""
-    columns = "number, kind, owner, purpose, state, activation, protect_stop, deactivation"
-    with database(file) as connection:
-        rows = connection.execute(f"SELECT {columns} FROM keys WHERE number <= ? ORDER BY number", (keys,)).fetchall()
-        rows += connection.execute(
-            "SELECT number, command, key_no, state FROM request WHERE caller = 'bob' ORDER BY number").fetchall()
-        return rows, connection.execute("SELECT key_count FROM meta").fetchone()[0]
+    tables = table_rows(file)
+    rows = [row[:5] + row[6:9] for row in tables["keys"] if row[0] <= keys]
+    rows += [row[:5] for row in tables["request"] if row[0] == "bob"]
+    return rows, tables["meta"][0][-1]
 
 
 # ---- the timed exchanges

@@ -1,5 +1,6 @@
 """What the benchmarks share: bare programs over the kit's `sqlite`, what a run of a program uses, and tables. Importing
-this puts the folder that the checks share on the path of modules."""
+this puts the folder that the checks share on the path of modules. It needs Linux, for the clock of another process, and
+the register's own program: ./keyreg </dev/null builds it."""
 import contextlib
 import os
 import pathlib
@@ -32,7 +33,7 @@ class Used(NamedTuple):
 
 def built(name: str, constants: str = "") -> str:
     """The bare program of the source beside this file, with these constants. It is proved and built in a folder for
-    temporary files, where it is not there so."""
+    temporary files, in some minutes, where it is not there so."""
     source = pathlib.Path(__file__).with_name(f"{name}.rt.txt").read_text(encoding="utf-8")
     source = source.replace(CONSTANTS, constants)
     top = pathlib.Path(tempfile.gettempdir(), f"keyreg_bench_{name}")

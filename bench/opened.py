@@ -66,8 +66,7 @@ def opened(file: str) -> sqlite3.Connection:
     for key, name in connection.execute("SELECT * FROM custodian"):
         expect(0 < key <= keys and NAME.fullmatch(name) and name != owners[key - 1], f"custodian of {key}")
         custodians[key].append(name)
-    for key, names in custodians.items():
-        expect(len(names) <= MOST_CUSTODIANS[VERSION], f"custodians of {key}")
+        expect(len(custodians[key]) <= MOST_CUSTODIANS[VERSION], f"custodians of {key}")
     for key, name in connection.execute("SELECT * FROM approval"):
         expect(name in custodians[key], f"approval of {key}")
     for row in connection.execute("SELECT * FROM request"):

@@ -4,9 +4,8 @@ beside the opening of the same register in a file of version 1, which is taken t
 
     bench/opening.py [--keys N,..]
 
-Each register has so many keys, each with the request that made it. The bare opening is bare_open.rt.txt, which is built
-in a folder for temporary files where it is not there as it stands. Each number is the least of three rounds. Build the
-register's own program first: ./keyreg </dev/null
+Each register has so many keys, each with the request that made it. The bare opening is bare_open.rt.txt. Each number is
+the least of three rounds.
 """
 from measuring import built, least, measured, table
 from places import PROGRAM

@@ -20,8 +20,6 @@ counted ones after them are, so no start and no opening is in a figure; the leas
 compared with the expected one, and after a run the rows that the three programs left.
 
 With --instructions valgrind's callgrind (Debian's package valgrind) counts what each program executes in place of time.
-The bare program is proved and built in a folder for temporary files; that takes some minutes. It needs Linux, for the
-clock of another process.
 """
 import filecmp
 import os

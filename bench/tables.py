@@ -16,11 +16,11 @@ where the office has set shorter periods of two types. The same rows are read by
 *After the opening* is a run without what it had used when its first byte was in the file, which each writes where the
 file is open and no row is read. The program is stopped there, its clocks are read, and it goes on; a run in which that
 came more than 1 ms late is repeated. *Memory* is the greatest resident one; the kernel counts for a program also what
-this script had when it started it. The programs take turns, and each figure is the least of the rounds. The bare
-program is proved and built in a folder for temporary files. It needs Linux, for the clock of another process.
+this script had when it started it. The programs take turns, and each figure is the least of the rounds.
 """
 import csv
 import filecmp
+import itertools
 import pathlib
 import resource
 import sqlite3
@@ -242,10 +242,9 @@ def main() -> None:
         write(shorter, given.keys, SHORTER)
         due = min(LATEST + given.days * DAY, LAST)
         table(("command", "lines", "program", "whole", "after opening", "keyreg / it: whole", "after", "memory, MB"),
-              (line for lines in (table_lines("export", office, given.rounds),
-                                  table_lines("report", office, given.rounds, [given.days], [due]),
-                                  table_lines("report, periods set", shorter, given.rounds, [given.days], [LAST]))
-               for line in lines))
+              itertools.chain(table_lines("export", office, given.rounds),
+                              table_lines("report", office, given.rounds, [given.days], [due]),
+                              table_lines("report, periods set", shorter, given.rounds, [given.days], [LAST])))
         opening = min(measured([PROGRAM, "run", "--file", office]).memory for _ in range(given.rounds))
     own = resource.getrusage(resource.RUSAGE_SELF).ru_maxrss / 1024
     print(f"\nMemory: an opening {opening:.1f} MB, and this script's own {own:.1f} MB.\n")

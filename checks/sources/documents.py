@@ -55,8 +55,6 @@ FILE = re.compile(r"[\w.<>/-]*\w\.(?:rt|antt|py|md|sql|sh|csv|txt|yaml|edit|svg|
 FOLDER = re.compile(r"(crates|checks|bench|docs|office|samples|\.ci)/")
 # The most words in a cell of PROMISES.
 MOST_WORDS = 25
-# Names in PROMISES that no line of code has: a word of the field, and parts of paths.
-OTHERS = {"UTF", "src", "main", "laws"}
 # The faults of a part, and what it looked at, or how much.
 Faults = tuple[list[str], object]
 
@@ -95,9 +93,9 @@ def functions_named(text: str, owner: str = "") -> list[Function]:
 @functools.lru_cache
 def words_of_code() -> set[str]:
     """Each word that the crates have outside comments, and the names of crates."""
-    texts = [re.sub(r"(?://|--).*", "", read(path))
-             for form in ("src/**/*.rt", "specs/**/*.antt") for path in listed(f"crates/*/{form}")]
-    return OTHERS.union(re.findall(r"\w+", read("crates.txt")), *(re.findall(r"\w+", text) for text in texts))
+    paths = [path for form in ("src/**/*.rt", "specs/**/*.antt") for path in listed(f"crates/*/{form}")]
+    texts = [read("crates.txt"), *(re.sub(r"(?://|--).*", "", read(path)) for path in paths)]
+    return set().union(*(re.findall(r"\w+", text) for text in texts))
 
 
 def clause_faults(cell: str) -> Iterator[str]:

@@ -3,23 +3,22 @@
 
     checks/sources/unseen_by_contracts.py
 
-- What a read, a write or a flush answered: the marks that a stream failed or has something
-  unflushed are named in the lines of MARKED alone, in a pattern or as a field, and so are the calls
-  that set one. These are the turns of crates/streams, each a function of a few lines. So it is with
-  what came of listening, accepting and asking for the moment.
-- Whether memory gave out: the end 30, and the error that becomes it, is told in the places of TOLD,
-  behind a call that asks for memory, or where a count of bytes would pass 2^64. None asks for room
-  beforehand, so that no more is asked for than a value needs.
-- Whether a call of the database was refused, which no contract of `sqlite`'s ties to what it left:
-  the end 31, the refusal and the errors that become it, and the mark of a broken desk, are made in
-  the places of REFUSED, each behind such a call, or behind a row that no register holds. The one
-  `sqlite::Error` that is made here is that of rows past 2^64.
+- What a read, a write or a flush answered: the marks that a stream failed or has something unflushed are named in the
+  lines of MARKED alone, in a pattern or as a field, and so are the calls that set one. These are the turns of
+  crates/streams, each a function of a few lines. So it is with what came of listening, accepting and asking for the
+  moment.
+- Whether memory gave out: the end 30, and the error that becomes it, is told in the places of TOLD, behind a call that
+  asks for memory, or where a count of bytes would pass 2^64. None asks for room beforehand, so that no more is asked
+  for than a value needs.
+- Whether a call of the database was refused, which no contract of `sqlite`'s ties to what it left: the end 31, the
+  refusal and the errors that become it, and the mark of a broken desk, are made in the places of REFUSED, each behind
+  such a call, or behind a row that no register holds. The one `sqlite::Error` that is made here is that of rows past
+  2^64.
 - How often a connection was called: each function of `Counted` makes the calls of CALLS, once.
-- What a crate of the program touches of the machine. A function reaches a file, a connection, a
-  clock or the program's words only through what it is given: the calls of `std` that do take the
-  runtime, or a value under one of its bounds. So where neither a word of GIVEN nor a runtime stands,
-  no function reaches them. The program itself has the runtime and its contracts say little: every
-  word of it stands in program.rt.txt too, without comments and empty lines.
+- What a crate of the program touches of the machine. A function reaches a file, a connection, a clock or the program's
+  words only through what it is given: the calls of `std` that do take the runtime, or a value under one of its bounds.
+  So where neither a word of GIVEN nor a runtime stands, no function reaches them. The program itself has the runtime
+  and its contracts say little: every word of it stands in program.rt.txt too, without comments and empty lines.
 """
 import collections
 import difflib
