@@ -1,8 +1,5 @@
 """What the checks of sources read of the code: crates, functions with their clauses and bodies, and of each file the
-items and the terms of its contracts.
-
-A function's head goes from `fn` to the line that opens its body or ends it with a semicolon.
-"""
+items and the terms of its contracts."""
 import functools
 import os
 import re
@@ -23,16 +20,15 @@ MARK = re.compile(r"\"(?:[^\"\\]|\\.)*\"|//[^\n]*|'.'|[()\[\]{};]")
 
 
 class Function(NamedTuple):
+    """A function; `self` is none of its parameters, and its body is the lines between its braces, without comments."""
     crate: str
     path: str
     owner: str
     name: str
     is_public: bool
     takes_self: bool
-    # How many besides `self`.
     parameters: int
     clauses: set[str]
-    # The lines between its braces, without comments.
     body: list[str]
 
 
@@ -85,7 +81,7 @@ def arguments(text: str) -> list[str]:
 
 
 def function_at(path: str, lines: list[str], at: int, owner: str) -> Function:
-    """The function whose head begins at this line."""
+    """The function whose head begins at this line, and goes to the one that opens its body or ends by a semicolon."""
     indent, public, name = FUNCTION.match(lines[at]).groups()
     end = next(place for place in range(at, len(lines)) if lines[place].rstrip().endswith((";", "{ }", "{}"))
                or lines[place].rstrip().endswith("{") and not CLAUSE.match(lines[place]))

@@ -63,6 +63,8 @@ def rt() -> None:
         if (orders / f"fail-{crate}").exists():
             sys.exit(f"fn {crate}::module::planted: no proof")
         print(f"fn {crate}::module::function: proved")
+        # What a proof leaves: it needs its folder still.
+        pathlib.Path("out", "proof").mkdir(parents=True, exist_ok=True)
         if crate == "keyreg":
             write_program(PROGRAM)
             subprocess.run(["out/keyreg"], check=True)
@@ -251,9 +253,15 @@ def stopped(copy: Copy) -> Iterator[str]:
 
 
 def together(copy: Copy) -> Iterator[str]:
-    """Two calls at once build once; and a program that goes on keeps no build from beginning."""
-    copy.order("wait-streams=1")
-    ends = [copy.ended(begun) for begun in (copy.start(), copy.start())]
+    """Two calls at once build once, also where a third that waits is ended; and a program that goes on keeps no build
+    from beginning."""
+    copy.order("wait-streams=2")
+    calls = copy.start(), copy.start()
+    until(lambda: "streams" in copy.begun())
+    waits = copy.start()
+    waits.stderr.readline()
+    waits.terminate()
+    ends = [copy.ended(begun) for begun in calls]
     for called in ends:
         yield from copy.built("two calls at once", called)
     if sorted("another call is building" in called.said for called in ends) != [False, True]:

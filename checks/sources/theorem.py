@@ -104,12 +104,6 @@ def entry(definition: Definition, shared: dict[tuple, str]) -> str:
     return "\n".join([filled(f"**`{title}`** ({key.place}): {words}"), "", "```", *definition.text, "```", ""])
 
 
-def does(crate: str) -> str:
-    """What ARCHITECTURE says that a crate does."""
-    row = re.search(rf"^\| `{crate}` \| ([^|]*) \|", read("docs/ARCHITECTURE.md"), re.M)
-    return sentence(row[1]) if row else ""
-
-
 def kit_place(path: str) -> str:
     """The file of the kit's specs/ in which a word stands, or the module of a type of its code."""
     parts = path.removeprefix("declared.").split(".")
@@ -149,11 +143,13 @@ def theorem_page() -> str:
 
 
 def definitions_page() -> str:
-    """The theorem, each definition on which it stands, and the kit's words."""
+    """The theorem, each definition on which it stands, crate by crate with what ARCHITECTURE says that it does, and the
+    kit's words."""
+    does = dict(re.findall(r"(?m)^\| `(\w+)` \| ([^|]*) \|[^|]*\|$", read("docs/ARCHITECTURE.md")))
     shared: dict[tuple, str] = {}
     parts = [words_of("definitions").format(counts=count_table()), "## The theorem\n", entry(theorem()[0], shared)]
     for crate, of in by_crate().items():
-        parts += [f"## {crate}\n", filled(does(crate)) + "\n", *(entry(definition, shared) for definition in of)]
+        parts += [f"## {crate}\n", filled(sentence(does[crate])) + "\n", *(entry(definition, shared) for definition in of)]
     return "\n".join(parts + [kit_table()])
 
 

@@ -22,8 +22,6 @@ from places import TOP
 from script import fresh_folder, options, verdict
 
 FOLDER = "more-must-fail"
-# What a build, a package and Python make, and what git keeps.
-LEFT_OUT = ("out", "packages", "__pycache__", ".git")
 REFUSED = re.compile(r"(?:rt: )?must-fail [\w-]+/[\w.-]+\.edit: refused, as it must be\b")
 
 
@@ -47,7 +45,8 @@ def refused(crates: list[str]) -> int:
     for them; all other lines are passed on."""
     count = 0
     with fresh_folder() as copy:
-        shutil.copytree(TOP, copy, ignore=shutil.ignore_patterns(*LEFT_OUT), dirs_exist_ok=True)
+        leaving = shutil.ignore_patterns("out", "packages", "__pycache__", ".git")
+        shutil.copytree(TOP, copy, ignore=leaving, dirs_exist_ok=True)
         for crate in crates:
             shutil.rmtree(copy / "crates" / crate / "must-fail", ignore_errors=True)
             (copy / "crates" / crate / FOLDER).rename(copy / "crates" / crate / "must-fail")
