@@ -149,7 +149,7 @@ def definitions_page() -> str:
     shared: dict[tuple, str] = {}
     parts = [words_of("definitions").format(counts=count_table()), "## The theorem\n", entry(theorem()[0], shared)]
     for crate, of in by_crate().items():
-        parts += [f"## {crate}\n", filled(sentence(does[crate])) + "\n", *(entry(definition, shared) for definition in of)]
+        parts += [f"## {crate}\n", filled(sentence(does[crate])) + "\n", *(entry(one, shared) for one in of)]
     return "\n".join(parts + [kit_table()])
 
 
