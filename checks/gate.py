@@ -256,7 +256,7 @@ def main() -> None:
             left_out = {part.words: why for part in parts if (why := whys(part, lacking))}
         else:
             wants += [f"no {name}: Debian's package {package} has it" for name, package in lacking.items()]
-        for line in [*wants, *(f"{words}: left out: {', '.join(why)}" for words, why in left_out.items())]:
+        for line in [*wants, *(f"{part}: left out: {', '.join(why)}" for part, why in left_out.items())]:
             print(f"gate: {line}", flush=True)
         failed = len(wants)
         if not asked.furnish and not wants:
