@@ -1,11 +1,13 @@
 """A register in Python, over `sqlite3`, as far as the requests of the benchmarks go: it judges a request by
-office/register_rules.py, runs the statements of an accepted one, and gives its reply."""
+office/register_rules.py, runs the statements of an accepted one, and gives its reply. As a program it answers the lines
+that it reads, each before the next, over the file that is its word."""
 import sqlite3
+import sys
 from typing import Any, Sequence
 
 import measuring  # noqa: F401 - it has the path of modules
-from register_rules import MOST_KEYS, PERIODS, fitted, refuse, state_at
-from registers import TYPES, UNSET, columns_of
+from register_rules import MOST_KEYS, PERIODS, Refused, date_of, fitted, refuse, state_at
+from registers import STATES, TYPES, UNSET, columns_of
 
 # The columns of keys past its number, and those that an accepted request may change, with their parameters.
 CELLS = columns_of("keys")[1:]
@@ -81,11 +83,29 @@ class PythonRegister:
     def assignment(self, moment: int, caller: str, key: str, owner: str) -> Judged:
         number = int(key)
         row = self.run(STATEMENTS["FIND_KEY"], (number,)).fetchone()
-        custodians, _ = (sorted(name for name, in self.run(STATEMENTS[names], (number,)))
+        custodians, _ = ([name for name, in self.run(STATEMENTS[names], (number,))]
                          for names in ("FIND_CUSTODIANS", "FIND_APPROVALS"))
         refuse(row is None, "UnknownKey")
         refuse(row[1] != caller, "NotOwner")
         refuse(owner in custodians, "OwnerCustodian")
-        activation, _, end, destroyed, compromised, _ = (None if date == UNSET else date for date in row[5:])
+        activation, _, end, destroyed, compromised, _ = map(date_of, row[5:])
         state = state_at(moment, activation, end, destroyed, compromised)
         return number, state, "UPDATE_KEY", (number, owner, state, *row[5:])
+
+
+def main() -> None:
+    register = PythonRegister(sys.argv[1])
+    for line in sys.stdin.buffer:
+        moment, caller, number, command = line.decode().rstrip("\n").split(" ", 3)
+        try:
+            key, state, moment = register.answer(int(moment), caller, int(number), command)
+            reply = f"ok {key} {STATES[state]} {moment}"
+        except Refused as refused:
+            reply = refused.line
+        sys.stdout.buffer.write(f"{reply}\n".encode())
+        sys.stdout.buffer.flush()
+    register.connection.close()
+
+
+if __name__ == "__main__":
+    main()

@@ -7,11 +7,9 @@
     rt ci | checks/gate.py --behind-proofs
 
 Each part of the table GATE below is run, with --all of the table REST too, or those that are named, as many side by
-side as two cores take. Each has a limit of seconds by the clock, after which it is killed and has failed. KEYREG names
-another program than the one that stands.
-
-A part that passes gets one line, one that fails its output too. The last line counts the passed and the failed, and
-with --all those that were left out for want of a package or of root, each of which has a line that says so.
+side as two cores take. Each has a limit of seconds, after which it is killed and has failed. KEYREG names another
+program than the one that stands. A part that passes gets one line, one that fails its output too. The last line counts
+the passed and the failed, and with --all those that were left out for want of a package or of root.
 
 --all            root installs from Debian's packages what the parts use
 --furnish        looks for each command and module that the gate's parts use, and runs none. Root installs what is
@@ -20,6 +18,7 @@ with --all those that were left out for want of a package or of root, each of wh
                  repository. The last line counts those of `rt ci` too
 """
 import argparse
+import contextlib
 import os
 import pathlib
 import re
@@ -32,7 +31,7 @@ import time
 from typing import NamedTuple
 
 sys.path.insert(1, str(pathlib.Path(__file__).resolve().parent / "shared"))
-from places import BUILT, TOP
+from places import BUILT, PROGRAM, TOP
 from script import in_memory
 
 CORES = 2
@@ -72,7 +71,6 @@ GATE = (
     Part("office/advance_tried.py", 60),
     Part("office/audit_views.py", 60),
     Part("program/every_command.py", 30),
-    Part("sources/given_to_crates.py", 30),
     Part("package/man_page.py", 30),
     Part("sources/unseen_by_contracts.py", 30),
     Part("sources/recipes.py", 30),
@@ -125,70 +123,42 @@ INTERPRETERS = (sys.executable, "/usr/bin/python3")
 
 def missing_modules(python: str) -> list[str]:
     """The modules that an interpreter has not; all, where there is no such interpreter."""
-    def has(module: str) -> bool:
-        words = [python, "-c", f"import {module}"]
-        return subprocess.run(words, capture_output=True, check=False).returncode == 0
-
-    return [module for module in MODULES if not shutil.which(python) or not has(module)]
-
-
-def has_command(name: str) -> bool:
-    """Whether a command is there. Those of services stand where not everybody's PATH leads."""
-    return bool(shutil.which(name) or shutil.which(name, path="/usr/sbin"))
+    return [module for module in MODULES if not shutil.which(python)
+            or subprocess.run([python, "-c", f"import {module}"], capture_output=True, check=False).returncode]
 
 
 def missing(commands: dict[str, str]) -> dict[str, str]:
-    """Which of these commands, and which modules, are not there, each with its package."""
-    lacking = {name: package for name, package in commands.items() if not has_command(name)}
-    if all(missing_modules(python) for python in INTERPRETERS):
-        lacking |= {name: MODULES[name] for name in missing_modules(INTERPRETERS[-1])}
-    return lacking
+    """Which of these commands, and which modules, are not there, each with its package. The commands of services stand
+    where not everybody's PATH leads."""
+    modules = missing_modules(INTERPRETERS[-1]) if all(map(missing_modules, INTERPRETERS)) else []
+    return {name: package for name, package in commands.items()
+            if not shutil.which(name) and not shutil.which(name, path="/usr/sbin")
+            } | {name: MODULES[name] for name in modules}
 
 
-def install(packages: list[str]) -> None:
-    """Installs the packages where that can be done; what came of it is looked at afterwards."""
-    if os.geteuid() != 0 or not shutil.which("apt-get"):
-        return
+def furnish(commands: dict[str, str]) -> dict[str, str]:
+    """What is not there of what the scripts use, each with its package, after root has installed what it can."""
+    lacking = missing(commands)
+    if not lacking or os.geteuid() != 0 or not shutil.which("apt-get"):
+        return lacking
+    packages = sorted({name for wanted in lacking.values() for name in wanted.split()})
     print("gate: installs", *packages, flush=True)
     # Without a service that starts, as nginx would on the port of others.
     environment = {**os.environ, "DEBIAN_FRONTEND": "noninteractive", "RUNLEVEL": "1"}
     for words in (["update"], ["install", "--yes", "--no-install-recommends", *packages]):
         subprocess.run(["apt-get", "--quiet", "--quiet", *words], env=environment, check=False,
                        stdin=subprocess.DEVNULL, stdout=sys.stderr)
-
-
-def furnish(commands: dict[str, str]) -> dict[str, str]:
-    """What is not there of what the scripts use, and could not be installed, each with its package."""
-    if wanted := missing(commands):
-        install(sorted({name for packages in wanted.values() for name in packages.split()}))
     return missing(commands)
 
 
-def is_furnished() -> bool:
-    """Whether all that the gate's parts use is there, or could be installed."""
-    lacking = furnish(COMMANDS)
-    for name, package in lacking.items():
-        print(f"gate: {name} is not there: Debian's package {package} has it", flush=True)
-    return not lacking
+def whys(part: Part, lacking: dict[str, str]) -> list[str]:
+    """Why a part cannot run where these commands and modules are not there."""
+    return [f"no {name} (Debian's {package})" for name, package in lacking.items()
+            if name in part.commands or name not in MORE_COMMANDS
+            ] + ["not root"] * (part.is_roots and os.geteuid() != 0)
 
 
-def that_can_run(parts: list[Part]) -> list[Part]:
-    """Those of the parts for which all is there. Of each other one a line says why it is left out."""
-    lacking, can = furnish(COMMANDS | MORE_COMMANDS), []
-    for part in parts:
-        wanted = {name: package for name, package in lacking.items()
-                  if name in part.commands or name not in MORE_COMMANDS}
-        whys = [f"no {name} (Debian's {package})" for name, package in wanted.items()]
-        if part.is_roots and os.geteuid() != 0:
-            whys.append("not root")
-        if whys:
-            print(f"{part.name()}: left out: {', '.join(whys)}", flush=True)
-        else:
-            can.append(part)
-    return can
-
-
-# ---- the proofs
+# ---- the proofs and the scripts
 
 
 def pass_on() -> tuple[int, int]:
@@ -204,15 +174,11 @@ def pass_on() -> tuple[int, int]:
     return passed, failed if passed > 0 and failed == 0 else max(failed, 1)
 
 
-# ---- the scripts
-
-
 class Running:
     """A part that was begun: in a session of its own, so that it can be ended with all it began."""
 
-    def __init__(self, part: Part, python: str, folder: str, environment: dict[str, str]) -> None:
-        self.part, self.begun = part, time.monotonic()
-        self.output = tempfile.TemporaryFile(dir=folder)
+    def __init__(self, part: Part, python: str, environment: dict[str, str]) -> None:
+        self.part, self.begun, self.output = part, time.monotonic(), tempfile.TemporaryFile()
         script, *words = part.words.split()
         self.process = subprocess.Popen(
             [python, str(TOP / "checks" / script), *words], cwd=TOP, env=environment, stdin=subprocess.DEVNULL,
@@ -223,31 +189,24 @@ class Running:
 
     def is_over(self) -> bool:
         """Whether it has ended or is at its limit. It is not waited for yet: its number is kept."""
-        look = os.WEXITED | os.WNOHANG | os.WNOWAIT
-        return (os.waitid(os.P_PID, self.process.pid, look) is not None
-                or self.seconds() > self.part.seconds)
+        return (self.seconds() > self.part.seconds
+                or os.waitid(os.P_PID, self.process.pid, os.WEXITED | os.WNOHANG | os.WNOWAIT) is not None)
 
     def end(self) -> int:
         """Ends whatever is left of it, and gives its status."""
-        try:
+        with contextlib.suppress(ProcessLookupError):
             os.killpg(self.process.pid, signal.SIGKILL)
-        except ProcessLookupError:
-            pass
         return self.process.wait()
 
     def has_passed(self) -> bool:
         """Ends it, says how it ended, and gives whether it passed."""
-        name, seconds, late = self.part.name(), self.seconds(), self.seconds() > self.part.seconds
-        passed = self.end() == 0 and not late
-        if passed:
-            print(f"{name}: passed in {seconds:.0f} s", flush=True)
-        else:
-            self.output.seek(0)
-            sys.stdout.buffer.write(self.output.read())
-            why = f"no end in {self.part.seconds} s" if late else f"status {self.process.returncode}"
-            print(f"{name}: FAILED, {why}", flush=True)
-        self.output.close()
-        return passed
+        seconds, status, why = self.seconds(), self.end(), ""
+        if status or seconds > self.part.seconds:
+            why = f"status {status}" if seconds <= self.part.seconds else f"no end in {self.part.seconds} s"
+        self.output.seek(0)
+        sys.stdout.buffer.write(self.output.read() if why else b"")
+        print(f"{self.part.name()}: {f'FAILED, {why}' if why else f'passed in {seconds:.0f} s'}", flush=True)
+        return not why
 
 
 def run_parts(parts: list[Part], program: str) -> int:
@@ -262,7 +221,7 @@ def run_parts(parts: list[Part], program: str) -> int:
                 free = CORES - sum(other.part.cores for other in running)
                 if fitting := next((part for part in waiting if part.cores <= free), None):
                     waiting.remove(fitting)
-                    running.append(Running(fitting, python, folder, environment))
+                    running.append(Running(fitting, python, environment))
                     continue
                 time.sleep(0.05)
                 for over in [other for other in running if other.is_over()]:
@@ -274,39 +233,38 @@ def run_parts(parts: list[Part], program: str) -> int:
     return failed
 
 
-def chosen(names: list[str], table: tuple[Part, ...]) -> list[Part]:
-    known = [part.name() for part in table]
-    if wrong := [name for name in names if name not in known]:
-        sys.exit(f"gate: no part {', '.join(wrong)}; there are {', '.join(known)}")
-    return [part for part in table if not names or part.name() in names]
-
-
 def main() -> None:
     words = argparse.ArgumentParser(description=__doc__, formatter_class=argparse.RawDescriptionHelpFormatter)
+    modes = words.add_mutually_exclusive_group()
     for name in ("--all", "--furnish", "--behind-proofs"):
-        words.add_argument(name, action="store_true")
+        modes.add_argument(name, action="store_true")
     words.add_argument("parts", nargs="*", metavar="PART")
     asked = words.parse_args()
-    if asked.furnish + asked.behind_proofs + bool(asked.all or asked.parts) > 1:
-        words.error("--furnish and --behind-proofs stand alone")
-    parts = chosen(asked.parts, GATE + REST if asked.all else GATE)
+    table = GATE + REST if asked.all else GATE
+    known = [part.name() for part in table]
+    if wrong := [name for name in asked.parts if name not in known]:
+        words.error(f"no part {', '.join(wrong)}; there are {', '.join(known)}")
+    parts = [part for part in table if not asked.parts or part.name() in asked.parts]
     # Whoever ends the gate ends what it began.
     signal.signal(signal.SIGTERM, lambda *_: sys.exit(1))
     passed, failed = pass_on() if asked.behind_proofs else (0, 0)
-    program, left_out = "" if asked.behind_proofs else os.environ.get("KEYREG", ""), 0
-    program = program or str(BUILT)
-    if failed == 0 and not (asked.all or is_furnished()):
-        failed = 1
-    elif asked.furnish:
-        return
-    elif failed == 0 and not os.access(program, os.X_OK):
-        print(f"gate: no program at {program}", flush=True)
-        failed = 1
-    elif failed == 0:
-        can = that_can_run(parts) if asked.all else parts
-        failed, left_out = run_parts(can, program), len(parts) - len(can)
-        passed += len(can) - failed
-    print(f"{passed} passed, {failed} failed" + f", {left_out} left out" * asked.all, flush=True)
+    program, left_out = str(BUILT) if asked.behind_proofs else PROGRAM, dict[str, list[str]]()
+    if not failed:
+        lacking = furnish(COMMANDS | MORE_COMMANDS if asked.all else COMMANDS)
+        wants = [f"no program at {program}"] if not asked.furnish and not os.access(program, os.X_OK) else []
+        if asked.all:
+            left_out = {part.words: why for part in parts if (why := whys(part, lacking))}
+        else:
+            wants += [f"no {name}: Debian's package {package} has it" for name, package in lacking.items()]
+        for line in [*wants, *(f"{part}: left out: {', '.join(why)}" for part, why in left_out.items())]:
+            print(f"gate: {line}", flush=True)
+        failed = len(wants)
+        if not asked.furnish and not wants:
+            can = [part for part in parts if part.words not in left_out]
+            failed = run_parts(can, program)
+            passed += len(can) - failed
+    if failed or not asked.furnish:
+        print(f"{passed} passed, {failed} failed" + f", {len(left_out)} left out" * asked.all, flush=True)
     sys.exit(1 if failed else 0)
 
 

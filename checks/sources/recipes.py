@@ -12,7 +12,6 @@ or by one that it sends on to, or it stands there with the reason why it is left
 there.
 """
 import fnmatch
-import os
 import pathlib
 import re
 import sys
@@ -20,6 +19,7 @@ from typing import Iterator, NamedTuple
 
 sys.path.insert(1, str(pathlib.Path(__file__).resolve().parents[1] / "shared"))
 from places import TOP, read
+from contracts import all_files
 from script import options, verdict
 
 CRATES = {path.name: path for path in (TOP / "crates").iterdir()}
@@ -30,8 +30,6 @@ ITEM = re.compile(r"[A-Za-z_][\w:]*(\(\))?")
 DOCUMENT = re.compile(r"\bdocs/[\w.]*\w|\bREADME\b")
 LINK = re.compile(r"\(#([\w-]+)\)")
 SUFFIXES = (".rt", ".antt", ".edit")
-# The folders that a build, a package and Python make.
-MADE = ("out", "packages", "__pycache__")
 INNER = ("", "src", "src/tests", "proofs", "specs", "must-fail", "more-must-fail")
 
 
@@ -71,7 +69,7 @@ KINDS = (
     }),
     Kind("Add a table", r"TableName::Quorum|TheVariants\.\{[^}]*\bQuorum\}|"
                         r"\b(FROM|INTO|TABLE|UPDATE) (\w+\.)?quorum\b|\"quorum\"", {
-        "a key's JSON has the need": "bench/exchanges.py",
+        "a key's JSON has the need": "bench/python_server.py",
         "one name stands for others": "checks/program/words.py",
     }, ("Add a version of the tables",)),
     Kind("Add a column", r"\boccurrence (INTEGER|= \?)|compromised\W+occurrence\b|\bcompromise_occurrence\b", {
@@ -120,7 +118,10 @@ class Step(NamedTuple):
     items: list[str]
 
 
-Recipes = dict[str, tuple[list[Step], list[str]]]
+class Recipe(NamedTuple):
+    """Its steps, and the anchors that it links to."""
+    steps: list[Step]
+    links: list[str]
 
 
 def place_of(path: str, crates: list[pathlib.Path]) -> pathlib.Path | None:
@@ -129,27 +130,14 @@ def place_of(path: str, crates: list[pathlib.Path]) -> pathlib.Path | None:
     return next((place / path for place in under if (place / path).exists()), None)
 
 
-def recipes(text: str) -> Iterator[tuple[str, tuple[list[Step], list[str]]]]:
-    """The title of each recipe, with its steps and the anchors that it links to."""
-    for section in re.split(r"^## ", text, flags=re.M)[1:]:
-        title, body = section.split("\n", 1)
-        if title.startswith("Add "):
-            body = re.sub(r"```.*?```", "", body, flags=re.S)
-            yield title, (list(steps(re.split(r"\n(?=\d+\. |\n)", body))), LINK.findall(body))
-
-
-def crate_of(quoted: str) -> pathlib.Path | None:
-    """The crate that a name or a path from the top names."""
-    name = re.sub(r"^crates/", "", quoted).split("/")[0]
-    return CRATES.get(name) if quoted in CRATES or quoted.startswith("crates/") else None
-
-
-def steps(texts: list[str]) -> Iterator[Step]:
+def steps(body: str) -> Iterator[Step]:
     crates: list[pathlib.Path] = []
-    for text in texts:
+    for text in re.split(r"\n(?=\d+\. |\n)", re.sub(r"```.*?```", "", body, flags=re.S)):
         quoted = QUOTED.findall(text)
-        for crate in filter(None, map(crate_of, quoted)):
-            crates = [crate] + [other for other in crates if other != crate]
+        for name in quoted:
+            crate = CRATES.get(name.removeprefix("crates/").split("/")[0])
+            if crate and (name in CRATES or name.startswith("crates/")):
+                crates = [crate] + [other for other in crates if other != crate]
         documents = [name.replace("README", "README.md") for name in DOCUMENT.findall(text)]
         paths = [name for name in quoted if PATH.fullmatch(name) or FOLDER.fullmatch(name)] + documents
         items = [name for name in quoted if ITEM.fullmatch(name) and name not in CRATES]
@@ -158,64 +146,49 @@ def steps(texts: list[str]) -> Iterator[Step]:
 
 def holds(word: str, step: Step) -> bool:
     """Whether the item stands in a file of the step, or in one of its crates, also as the name of a file of theirs."""
-    last = re.compile(rf"\b{re.sub(r'[()]', '', word).split('::')[-1]}\b")
-    named = [place for path, place in step.paths.items() if place and not DOCUMENT.match(path)]
-    if any(last.search(place.read_text()) for place in named if place.is_file()):
-        return True
+    last = re.compile(rf"\b{word.removesuffix('()').split('::')[-1]}\b")
+    named = [place for path, place in step.paths.items() if place and place.is_file() and not DOCUMENT.match(path)]
     inner = (path for crate in step.crates or CRATES.values() for path in crate.rglob("*")
              if path.suffix in SUFFIXES and "out" not in path.parts)
-    return any(last.search(path.name) or last.search(path.read_text()) for path in inner)
+    return (any(last.search(place.read_text()) for place in named)
+            or any(last.search(path.name) or last.search(path.read_text()) for path in inner))
 
 
 def names(step: Step, path: str) -> bool:
     """Whether the step names this file of the repository, or a folder that it lies in."""
     file = TOP / path
-    named = [place for place in step.paths.values() if place not in CRATES.values()]
-    return any(place in (file, *file.parents) for place in named)
+    return any(place in (file, *file.parents) for place in step.paths.values() if place not in CRATES.values())
 
 
-def one_way(all_recipes: Recipes) -> tuple[list[str], int, int]:
-    """What recipes name that is gone, with how many files and items they name."""
-    named = [(title, step) for title, (own, _) in all_recipes.items() for step in own]
-    gone = [f"{title}: no file {path}" for title, step in named for path, place in step.paths.items() if not place]
-    gone += [f"{title}: no {word}" for title, step in named for word in step.items if not holds(word, step)]
-    return gone, sum(len(step.paths) for _, step in named), sum(len(step.items) for _, step in named)
-
-
-def sources() -> Iterator[str]:
-    """The files of the repository, without pictures and what a build, a package or Python makes."""
-    for folder, inner, files in os.walk(TOP):
-        inner[:] = [name for name in inner if name not in MADE and not name.startswith(".")]
-        yield from (str(pathlib.Path(folder, name).relative_to(TOP)) for name in files
-                    if ".keyreg" not in name and not name.endswith(".png"))
-
-
-def other_way(all_recipes: Recipes) -> tuple[list[str], int]:
-    """Which files mention what was added and are not named, or are left and do not mention it; how many mention it."""
-    texts = {path: (TOP / path).read_text() for path in sources()}
-    faults, count = list[str](), 0
-    for kind in KINDS:
-        own, links = all_recipes.get(kind.recipe, ([], []))
-        sent = [title for title in kind.others if title.lower().replace(" ", "-") in links]
-        all_steps = own + [step for title in sent for step in all_recipes[title][0]]
-        mention = [path for path, text in texts.items() if re.search(kind.words, text)]
-        left = " ".join(kind.left.values()).split()
-        reasons = left + " ".join(ALWAYS.values()).split()
-        unsaid = [path for path in mention if not any(fnmatch.fnmatch(path, glob) for glob in reasons)]
-        faults += [f"{kind.recipe}: {path} is not named" for path in unsaid
-                   if not any(names(step, path) for step in all_steps)]
-        faults += [f"{kind.recipe}: {glob} does not mention it" for glob in left if not fnmatch.filter(mention, glob)]
-        count += len(mention)
-    return faults, count
+def kind_faults(kind: Kind, recipes: dict[str, Recipe], mention: list[str]) -> Iterator[str]:
+    """Which of the files that mention what was added are not named, and which are left and do not mention it."""
+    own = recipes.get(kind.recipe, Recipe([], []))
+    sent = [recipes[title] for title in kind.others if title.lower().replace(" ", "-") in own.links]
+    all_steps = [step for recipe in (own, *sent) for step in recipe.steps]
+    left = " ".join(kind.left.values()).split()
+    reasons = left + " ".join(ALWAYS.values()).split()
+    yield from (f"{kind.recipe}: {path} is not named" for path in mention
+                if not any(fnmatch.fnmatch(path, glob) for glob in reasons)
+                and not any(names(step, path) for step in all_steps))
+    yield from (f"{kind.recipe}: {glob} does not mention it" for glob in left if not fnmatch.filter(mention, glob))
 
 
 def main() -> None:
     options(__doc__)
-    all_recipes = dict(recipes(read("docs/RECIPES.md")))
-    gone, paths, items = one_way(all_recipes)
-    faults, count = other_way(all_recipes)
-    verdict(f"{paths} files and {items} items named, {len(gone)} gone; {count} mentions of {len(KINDS)} things, "
-            f"{len(faults)} faults", gone + faults)
+    sections = (section.split("\n", 1) for section in re.split(r"(?m)^## ", read("docs/RECIPES.md"))[1:])
+    recipes = {title: Recipe([*steps(body)], LINK.findall(body)) for title, body in sections
+               if title.startswith("Add ")}
+    named = [(title, step) for title, recipe in recipes.items() for step in recipe.steps]
+    faults = [f"{title}: no file {path}" for title, step in named for path, place in step.paths.items() if not place]
+    faults += [f"{title}: no {word}" for title, step in named for word in step.items if not holds(word, step)]
+    texts, count = {path: read(path) for path in all_files() if not re.search(r"\.keyreg|\.png$", path)}, 0
+    for kind in KINDS:
+        mention = [path for path, text in texts.items() if re.search(kind.words, text)]
+        faults += kind_faults(kind, recipes, mention)
+        count += len(mention)
+    paths, items = (sum(len(step[at]) for _, step in named) for at in (1, 2))
+    verdict(f"{paths} files and {items} items named; {count} mentions of {len(KINDS)} things, {len(faults)} faults",
+            faults)
 
 
 main()

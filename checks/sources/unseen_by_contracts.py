@@ -3,108 +3,82 @@
 
     checks/sources/unseen_by_contracts.py
 
-- What a read, a write or a flush answered: the marks that a stream failed or has something
-  unflushed are named in the lines of MARKED alone, in a pattern or as a field, and so are the calls
-  that set one. These are the turns of crates/streams, each a function of a few lines. What came of
-  listening, accepting and asking for the moment is marked in the lines of ATTENDED.
-- Whether memory gave out: the end 30, and the error that becomes it, is told in the places of TOLD,
-  behind a call that asks for memory, or where a count of bytes would pass 2^64. None asks for room
-  beforehand, so that no more is asked for than a value needs.
-- Whether a call of the database was refused, which no contract of `sqlite`'s ties to what it left:
-  the end 31, the refusal and the errors that become it, and the mark of a broken desk, are made in
-  the places of REFUSED, each behind such a call, or behind a row that no register holds. The one
-  `sqlite::Error` that is made here is that of rows past 2^64.
+- What a read, a write or a flush answered: the marks that a stream failed or has something unflushed are named in the
+  lines of MARKED alone, in a pattern or as a field, and so are the calls that set one. These are the turns of
+  crates/streams, each a function of a few lines. So it is with what came of listening, accepting and asking for the
+  moment.
+- Whether memory gave out: the end 30, and the error that becomes it, is told in the places of TOLD, behind a call that
+  asks for memory, or where a count of bytes would pass 2^64. None asks for room beforehand, so that no more is asked
+  for than a value needs.
+- Whether a call of the database was refused, which no contract of `sqlite`'s ties to what it left: the end 31, the
+  refusal and the errors that become it, and the mark of a broken desk, are made in the places of REFUSED, each behind
+  such a call, or behind a row that no register holds. The one `sqlite::Error` that is made here is that of rows past
+  2^64.
 - How often a connection was called: each function of `Counted` makes the calls of CALLS, once.
+- What a crate of the program touches of the machine. A function reaches a file, a connection, a clock or the program's
+  words only through what it is given: the calls of `std` that do take the runtime, or a value under one of its bounds.
+  So where neither a word of GIVEN nor a runtime stands, no function reaches them. The program itself has the runtime
+  and its contracts say little: every word of it stands in program.rt.txt too, without comments and empty lines.
 """
 import collections
+import difflib
 import pathlib
 import re
 import sys
 from typing import Iterator
 
 sys.path.insert(1, str(pathlib.Path(__file__).resolve().parents[1] / "shared"))
-from places import TOP
-from contracts import code_of, functions_of
+from places import listed, read
+from contracts import bare, functions_of, stands_on
 from script import options, verdict
 
-CRATES = TOP / "crates"
-STREAMS = CRATES / "streams" / "src"
-TURNS, WATCHED = STREAMS / "watched" / "turns.rt", STREAMS / "watched.rt"
-COUNTED = CRATES / "register_store" / "src" / "counted.rt"
-MARKS = re.compile(r"\b(?:failed|unflushed|count_failed|count_error)\b")
-# The lines of bodies that name a mark or a call that sets one, by function.
+# Of the files of a pattern: the words that mark, and by function the lines of bodies that have one.
 MARKED = {
-    "count_error": ["self.count_failed();"],
-    "count_failed": ["self.failed = true;"],
-    "flush_turn": ["self.unflushed = false;", "Err(error) => self.count_error(&error),"],
-    "has_failed": ["self.failed"],
-    "into_inner": ["failed: _,", "unflushed: _,"],
-    "new": ["failed: false,", "unflushed: false,"],
-    "read_turn": ["Err(error) => self.count_error(&error),"],
-    "write_turn": ["self.count_failed();", "self.unflushed = true;", "Err(error) => self.count_error(&error),"],
-}
-ATTENDANCE = CRATES / "register_program" / "src" / "attendance.rt"
-ATTENDED = {
-    "accept": ["self.accepted += 1;", "self.failed = true;"],
-    "accepted": ["self.accepted"],
-    "has_failed": ["self.failed"],
-    "listen": ["self.failed = true;"],
-    "new": ["accepted: 0,", "failed: false,"],
-    "tell_moment": ["self.failed = self.failed || moment.is_none();"],
+    "crates/streams/src/**/*.rt": (re.compile(r"\b(?:failed|unflushed|count_failed|count_error)\b"), {
+        "count_error": ["self.count_failed();"],
+        "count_failed": ["self.failed = true;"],
+        "flush_turn": ["self.unflushed = false;", "Err(error) => self.count_error(&error),"],
+        "has_failed": ["self.failed"],
+        "into_inner": ["failed: _,", "unflushed: _,"],
+        "new": ["failed: false,", "unflushed: false,"],
+        "read_turn": ["Err(error) => self.count_error(&error),"],
+        "write_turn": ["self.count_failed();", "self.unflushed = true;", "Err(error) => self.count_error(&error),"],
+    }),
+    "crates/register_program/src/attendance.rt": (re.compile(r"\b(?:failed|accepted)\b"), {
+        "accept": ["self.accepted += 1;", "self.failed = true;"],
+        "accepted": ["self.accepted"],
+        "has_failed": ["self.failed"],
+        "listen": ["self.failed = true;"],
+        "new": ["accepted: 0,", "failed: false,"],
+        "tell_moment": ["self.failed = self.failed || moment.is_none();"],
+    }),
 }
 # The most lines of the body of a turn, and of what it calls.
-MOST_LINES = 14
+TURNS, MOST_LINES = "crates/streams/src/watched/turns.rt", 14
 
-# In how many places a file makes an end, an error or a refusal that says that memory gave out. One
-# that is handed on under another name counts, one that is looked at does not.
+# In how many places a crate makes an end, an error or a refusal that says that memory gave out. One that is handed on
+# under another name counts, one that is looked at does not: a value counts, and no pattern of a match, nor of an
+# `if let`, nor a type.
 TOLD = {
-    "disk_files/src/disk_files.rt": 1,
-    "http_messages/src/asking.rt": 3,
-    "http_messages/src/route.rt": 2,
-    "key_rows/src/export.rt": 3,
-    "keyreg/src/main.rt": 1,
-    "memory_disk/src/lib.rt": 1,
-    "register_desk/src/end.rt": 2,
-    "register_desk/src/memory.rt": 1,
-    "register_desk/src/opening.rt": 1,
-    "register_http/src/exchanging.rt": 1,
-    "register_program/src/faults.rt": 3,
-    "register_report/src/importing.rt": 2,
-    "register_report/src/table_writing.rt": 1,
-    "register_store/src/error.rt": 3,
-    "row_checks/src/reading.rt": 1,
+    "disk_files": 1, "http_messages": 5, "key_rows": 3, "keyreg": 1, "memory_disk": 1, "register_desk": 4,
+    "register_http": 1, "register_program": 3, "register_report": 3, "register_store": 3, "row_checks": 1,
 }
-# A value, and no pattern of a match, nor of an `if let`, nor a type.
 MEMORY = re.compile(r"\b(?:End|OpenRefusal|AskFault|StoreError|CheckError|RowsError)::Memory\b"
                     r"(?!\)*\s*(?:=>|=[^=]|\|)|\.fmt)|(?<![<,:] )(?<!<)\bAllocError\b(?!>)")
-
-# In how many places a file tells so that a call of the database was refused.
+# In how many places it tells so that a call of the database was refused.
 REFUSED = {
-    "disk_files/src/disk_files.rt": 2,
-    "register_desk/src/desk.rt": 1,
-    "register_desk/src/desk/applying.rt": 3,
-    "register_desk/src/desk/listing.rt": 2,
-    "register_desk/src/desk/look_ups.rt": 5,
-    "register_desk/src/end.rt": 1,
-    "register_desk/src/memory.rt": 1,
-    "register_desk/src/opening.rt": 1,
-    "register_desk/src/rows.rt": 1,
-    "register_program/src/faults.rt": 1,
-    "register_report/src/table_writing.rt": 1,
-    "register_store/src/counted.rt": 3,
-    "register_store/src/error.rt": 4,
-    "register_store/src/stored_key.rt": 1,
-    "row_checks/src/reading.rt": 4,
+    "disk_files": 2, "register_desk": 15, "register_program": 1, "register_report": 1, "register_store": 8,
+    "row_checks": 4,
 }
 REFUSAL = re.compile(r"\b(?:(?:End|OpenRefusal)::Store|StoreError::NoRegister"
                      r"|(?:StoreError|CheckError|CreateError|RowsError)::Database|(?<!\w)Error::SqliteFailure)\b"
                      r"(?!(?:\([^()]*\))?\)*\s*(?:=>|=[^=]|\|)|\.fmt)"
                      r"|\bis_broken = |\bis_broken: true")
-
 # What asks for room beforehand, whose refusal is want of memory.
 ROOM = re.compile(r"\b(?:with_capacity|(?:try_)?reserve(?:_exact)?|from_elem)\b|\bvec!\[[^\]]*;")
 
 # What each function of counted.rt that calls a connection, or one of these, calls.
+COUNTED = "crates/register_store/src/counted.rt"
 CALLS = {
     "execute": {"execute": 1},
     "find_one_row": {"query_row": 1},
@@ -115,72 +89,78 @@ CALLS = {
 CALL = re.compile(r"(?:\.|::|(?<!fn )\b)"
                   r"(execute|query|query_row|query_all|transaction|run|run_in_transaction|commit|rollback)\(")
 
+# The word, as it stands in code, and the crates in which it may.
+GIVEN = {
+    "the runtime": (r"\bHostRuntime\b", {"disk_files", "keyreg"}),
+    "files": (r"\bstd::fs\b", {"disk_files"}),
+    "the network": (r"\bstd::net\b|\bTcp(?:Stream|Listener)\b|\bNet\b", {"disk_files"}),
+    "words and the environment": (r"\bstd::env\b|\benv::", {"keyreg"}),
+    "processes, threads and the system": (r"\bstd::(?:thread|os|sync)\b|\b(?:Processes|Threads|Abort|Wait)\b", set()),
+    "the end of the program": (r"\bstd::process\b", {"keyreg"}),
+    "a clock": (r"\b(?:Clock|Instant|SystemTime)\b", {"register_program", "disk_files"}),
+    "standard streams": (r"\.std(?:in|out|err)\(\)", {"keyreg"}),
+}
 
-def bodies(path: pathlib.Path) -> dict[str, list[str]]:
-    """The lines of the body of each function of a file."""
-    return {function.name: function.body for function in functions_of(str(path.relative_to(TOP)))}
+
+def lines_of(path: str) -> list[str]:
+    """The lines of a file, without comments."""
+    return [*map(bare, read(path).split("\n"))]
+
+
+def given_faults() -> Iterator[str]:
+    """Where a word of the machine stands in a crate that it is not given, or in none of one that it is."""
+    for what, (word, allowed) in GIVEN.items():
+        having = {crate for crate in stands_on() if not crate.startswith("test_") and any(
+            re.search(word, line) for path in listed(f"crates/{crate}/src/**/*.rt") for line in lines_of(path))}
+        yield from (f"{crate} {'names' if crate in having else 'is given, and does not name,'} {what}"
+                    for crate in sorted(having ^ allowed))
+    wanted, lines = read("checks/sources/program.rt.txt").splitlines(), lines_of("crates/keyreg/src/main.rt")
+    differences = difflib.unified_diff(wanted, [*filter(None, lines)], n=0, lineterm="")
+    yield from (f"the program: {line}" for line in [*differences][2:])
 
 
 def mark_faults() -> Iterator[str]:
-    """Where a mark of a stream is named that should not be."""
-    names = set()
-    for path in sorted(STREAMS.rglob("*.rt")):
-        for name, body in bodies(path).items():
-            marked = [line.strip() for line in body if MARKS.search(line)]
-            names |= {name} if path in (TURNS, WATCHED) else set()
-            if marked != (MARKED.get(name, []) if path in (TURNS, WATCHED) else []):
-                yield f"{path.name}: {name} names marks in {marked}"
-            if path == TURNS and len(body) > MOST_LINES:
-                yield f"turns.rt: {name} has {len(body)} lines"
-    yield from (f"no function {name} of a stream" for name in MARKED if name not in names)
+    """Where what came of a stream, the network or the clock is marked otherwise."""
+    for files, (mark, wanted) in MARKED.items():
+        marked = collections.defaultdict(list)
+        for function in (function for path in listed(files) for function in functions_of(path)):
+            marked[function.name] += [line.strip() for line in function.body if mark.search(line)]
+        yield from (f"{files}: {name} names marks in {marked.get(name)}" for name in sorted({*marked, *wanted})
+                    if marked.get(name) != wanted.get(name, []))
+    yield from (f"{TURNS}: {function.name} has {len(function.body)} lines"
+                for function in functions_of(TURNS) if len(function.body) > MOST_LINES)
 
 
-def attended_faults() -> Iterator[str]:
-    """Where what came of the network or the clock is marked otherwise."""
-    marked = {name: [line.strip() for line in body if re.search(r"\b(?:failed|accepted)\b", line)]
-              for name, body in bodies(ATTENDANCE).items()}
-    yield from (f"attendance.rt: {name} names marks in {marked.get(name)}"
-                for name in sorted(marked.keys() | ATTENDED.keys()) if marked.get(name) != ATTENDED.get(name))
-
-
-def lines_of_crates() -> dict[str, list[str]]:
-    """The files of crates that are no tests, with their lines but for imports and clauses."""
-    files = {str(path.relative_to(CRATES)): path for path in sorted(CRATES.glob("*/src/**/*.rt"))}
-    return {name: [line for line in code_of(path) if "use " not in line and "ensures" not in line]
-            for name, path in files.items() if not name.startswith("test_")}
-
-
-def count_faults(what: str, word: re.Pattern, table: dict[str, int]) -> Iterator[str]:
-    """Where this is made in more places than it should be, or in fewer."""
-    counts = {name: sum(len(word.findall(line)) for line in lines) for name, lines in lines_of_crates().items()}
-    yield from (f"{name} makes {what} in {counts.get(name, 0)} places, and not in {table.get(name, 0)}"
-                for name in sorted(counts.keys() | table.keys()) if counts.get(name, 0) != table.get(name, 0))
-
-
-def room_faults() -> Iterator[str]:
-    """Where room is asked for beforehand."""
-    yield from (f"{name} asks for room: {line.strip()}"
-                for name, lines in lines_of_crates().items() for line in lines if ROOM.search(line))
+def place_faults() -> Iterator[str]:
+    """Where want of memory or a refused call is told in more places than it should be, or in fewer, and where room is
+    asked for beforehand: in crates that are no tests, without imports and clauses."""
+    lines = [(path, line) for path in listed("crates/*/src/**/*.rt") if not path.startswith("crates/test_")
+             for line in lines_of(path) if "use " not in line and "ensures" not in line]
+    yield from (f"{path} asks for room: {line.strip()}" for path, line in lines if ROOM.search(line))
+    for what, word, wanted in (("want of memory", MEMORY, TOLD), ("a refused call", REFUSAL, REFUSED)):
+        told = [(path, line.strip()) for path, line in lines for _ in word.findall(line)]
+        counts = collections.Counter(path.split("/")[1] for path, _ in told)
+        for crate in sorted({*counts, *wanted}):
+            if counts[crate] != wanted.get(crate, 0):
+                yield f"{crate} tells {what} in {counts[crate]} places, and not in {wanted.get(crate, 0)}:"
+                yield from (f"    {path}: {line}" for path, line in told if path.split("/")[1] == crate)
 
 
 def call_faults() -> Iterator[str]:
     """Which functions of a counted connection call it otherwise, or in a loop."""
-    counted = bodies(COUNTED)
-    yield from (f"counted.rt: no {name}" for name in CALLS if name not in counted)
-    for name, body in counted.items():
-        calls = dict(collections.Counter(CALL.findall("\n".join(body))))
-        if calls != CALLS.get(name, {}):
-            yield f"counted.rt: {name} calls {calls}, and not {CALLS.get(name, {})}"
-        if re.search(r"\b(for|while|loop)\b", "\n".join(body)):
-            yield f"counted.rt: {name} has a loop"
+    bodies = {function.name: "\n".join(function.body) for function in functions_of(COUNTED)}
+    for name in sorted({*bodies, *CALLS}):
+        calls = dict(collections.Counter(CALL.findall(bodies.get(name, ""))))
+        if calls != CALLS.get(name, {}) or re.search(r"\b(for|while|loop)\b", bodies.get(name, "")):
+            yield f"{COUNTED}: {name} calls {calls}, and not {CALLS.get(name, {})}, once"
 
 
 def main() -> None:
     options(__doc__)
-    faults = [*mark_faults(), *attended_faults(), *room_faults(), *call_faults(),
-              *count_faults("want of memory", MEMORY, TOLD), *count_faults("a refused call", REFUSAL, REFUSED)]
+    faults = [*mark_faults(), *place_faults(), *call_faults(), *given_faults()]
     verdict(f"marks of streams, {sum(TOLD.values())} places that make want of memory, {sum(REFUSED.values())} a "
-            f"refused call, {len(CALLS)} functions that call a connection: {len(faults)} faults", faults)
+            f"refused call, {len(CALLS)} functions that call a connection, {len(GIVEN)} words of the machine: "
+            f"{len(faults)} faults", faults)
 
 
 main()
