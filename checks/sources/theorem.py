@@ -1,9 +1,9 @@
 #!/usr/bin/env python3
 """One theorem, and every definition that it stands on, as two pages: docs/THEOREM.md and docs/DEFINITIONS.md.
 
-    checks/sources/theorem.py
+    checks/sources/theorem.py [--count]
 
-Writes the pages. The theorem is the contract of ROOT. What a definition says in plain words is the comment above it in
+Writes the pages, or with --count only counts what they have. The theorem is the contract of ROOT. What a definition says in plain words is the comment above it in
 the source; the pages' own words are in *_head.md beside this file. documents.py holds the pages to the sources.
 """
 import difflib
@@ -180,11 +180,12 @@ def faults() -> tuple[list[str], str]:
 
 
 def main() -> None:
-    options(__doc__)
-    for page, make in PAGES.items():
-        (TOP / page).write_text(make(), encoding="utf-8")
+    if not options(__doc__, count=False).count:
+        for page, make in PAGES.items():
+            (TOP / page).write_text(make(), encoding="utf-8")
     number, lines, of_code = count(theorem()[1])
-    verdict(f"theorem: {ROOT[1]} stands on {number:,} definitions of {lines:,} lines, {of_code:,} of them of code")
+    verdict(f"theorem: {ROOT[1]} stands on {number:,} definitions of {lines:,} lines, {of_code:,} of them of code;"
+            f" {len(wordless())} on which a public contract stands have no words of their own")
 
 
 if __name__ == "__main__":
