@@ -72,9 +72,10 @@ class Refusing:
         with contextlib.ExitStack() as stack:
             source, output, error = (stack.enter_context(open(path, mode))
                                      for path, mode in zip(self.streams, ("rb", "w+b", "w+b")))
-            ends, go_on = (stack.enter_context(open(end, mode, 0)) for end, mode in ((ended, "rb"), (going_on, "wb")))
             process = stack.enter_context(subprocess.Popen(
                 words, stdin=source, stdout=output, stderr=error, env=environment, pass_fds=(ending, waiting)))
+            # A run that waits ends where these are closed, which they are first where a fault is found.
+            ends, go_on = (stack.enter_context(open(end, mode, 0)) for end, mode in ((ended, "rb"), (going_on, "wb")))
             os.close(ending)
             os.close(waiting)
             while message := ends.read(8):

@@ -110,10 +110,10 @@ def look_at_migration(file: pathlib.Path, goes_on: list[tuple[str, str]]) -> Non
         requests = connection.execute("SELECT * FROM request").fetchall()
     keyreg(["run", "--file", file])
     after = dump(file)
-    [meta], [*added] = before - after, sorted(after - before)
+    gone, added = before - after, sorted(after - before)
     begins = [statement.split("(")[0].strip() for statement in added]
-    expect(begins == ["CREATE TABLE period", "CREATE TABLE quorum", 'INSERT INTO "meta" VALUES'], f"{file}: {added}")
-    expect(added[-1] == meta.replace("VALUES(1,1,", f"VALUES(1,{VERSION},"), f"{file}: {meta} became {added[-1]}")
+    expect(begins == ["CREATE TABLE period", "CREATE TABLE quorum", 'INSERT INTO "meta" VALUES']
+           and gone == {added[-1].replace(f"VALUES(1,{VERSION},", "VALUES(1,1,")}, f"{file}: {gone} became {added}")
     expect_replies(file, [(f"{moment} {caller} {number} {command}", f"ok {key} {STATES[state]} {moment}")
                           for caller, number, command, key, state, moment in requests])
     expect(dump(file) == after, f"{file}: the rows after the repeats")
