@@ -19,8 +19,7 @@ PATIENCE = 60
 def built(source: str, folder: str) -> str:
     """The library that is made of a C file beside this one, in the folder."""
     library = os.path.join(folder, f"{source}.so")
-    path = pathlib.Path(__file__).with_name(source)
-    subprocess.run(["gcc", "-O1", "-shared", "-fPIC", "-o", library, path], check=True)
+    subprocess.run(["gcc", "-shared", "-fPIC", "-o", library, pathlib.Path(__file__).with_name(source)], check=True)
     return library
 
 
