@@ -17,85 +17,58 @@ import os
 import pathlib
 import re
 import sys
-from difflib import SequenceMatcher
-from typing import Iterator
+from difflib import unified_diff
+from typing import Iterator, Optional
 
 sys.path.insert(1, str(pathlib.Path(__file__).resolve().parents[1] / "shared"))
 from places import PROGRAM, read
 from answers import reply_line
 from command_day import DAY, SHORT, Asked, alone
 from registers import keyreg
-from register_rules import COMPROMISES, FORMS, Key, Refused, Register
+from register_rules import COMPROMISES, FORMS, Key, Register
 from script import options, verdict
 
 HAS_PROGRAM = os.access(PROGRAM, os.X_OK)
 STEPS, TRIALS = (f"crates/test_{name}.rt" for name in ("desk_trials/src/steps", "fault_trials/src/requests"))
-# The commands whose refusals look at a key's custodians and approvals.
+# The commands of the document's table of texts, and a revocation for compromise, which is a kind by itself.
+TEXTS = read("docs/SPECIFICATION.md").split("| Command's text |\n|---|\n")[1].split("\n\n")[0]
+FOR_COMPROMISE = "revoke for compromise"
+KINDS = {*re.findall(r"^\| `([a-z-]+)", TEXTS, re.M), FOR_COMPROMISE}
+# The commands whose refusals look at a key's custodians and approvals; those that look at the need of approvals too;
+# and those that change one of these lists.
 LOOKS = {"assign", "add-custodian", "remove-custodian", "approve", "withdraw", "destroy"}
-# Of the former those that look at how many approvals are needed too.
 NEEDS = {"destroy"}
-# Those that change one of these lists.
 CHANGES = {"add-custodian", "remove-custodian", "approve", "withdraw"}
+# What else is looked up in the tables of needs and periods, or written there.
+MORE_STEPS = {"set-quorum": 2, "set-period": 2, "register": 2, "activate": 1, "set": 1}
 
 
-def kind_of(asked: Asked) -> str:
-    """The command's word; of a revocation also whether it is for compromise."""
-    word, values = asked.request.word, asked.request.values
-    return f"{word} for compromise" if word == "revoke" and values[0] in COMPROMISES else word
-
-
-def document_kinds() -> set[str]:
-    """The commands of the document's table of texts, and a revocation for compromise."""
-    rows = read("docs/SPECIFICATION.md").split("| Command's text |\n|---|\n")[1].split("\n\n")[0]
-    return set(re.findall(r"^\| `([a-z-]+)", rows, re.M)) | {"revoke for compromise"}
-
-
-# ---- the day itself
-
-def reply_faults(name: str, day: list[Asked]) -> Iterator[str]:
-    """Where the rules or the program answer otherwise than stands there, or otherwise when the day is sent again."""
-    day = day * 2
-    register = Register()
-    by_rules = [reply_line(register, *asked.request[:4]) for asked in day]
-    by_program = keyreg([], [asked.text for asked in day]) if HAS_PROGRAM else by_rules
-    for asked, *replies in zip(day, by_rules, by_program, strict=True):
-        for who, reply in zip(("the rules", "the program"), replies):
-            if reply != asked.reply:
-                yield f"{name}: {asked.text}: {asked.reply!r} stands beside it, and {who} say {reply!r}"
-
-
-def kind_faults(name: str, day: list[Asked]) -> Iterator[str]:
-    """Which commands the day has not, and what is refused in it."""
-    wanted, accepted = document_kinds(), {kind_of(asked) for asked in day if asked.reply.startswith("ok ")}
-    yield from (f"{name}: no {kind} is accepted" for kind in sorted(wanted - accepted))
+def day_faults(name: str, day: list[Asked]) -> Iterator[str]:
+    """Where the rules or the program answer otherwise than stands there, or otherwise when the day is sent again, and
+    which commands the day has not."""
+    register, twice = Register(), day * 2
+    answers = {"the rules": [reply_line(register, *asked.request[:4]) for asked in twice]}
+    if HAS_PROGRAM:
+        answers["the program"] = keyreg([], [asked.text for asked in twice])
+    for who, replies in answers.items():
+        yield from (f"{name}: {asked.text}: {asked.reply!r} stands beside it, and {who} say {reply!r}"
+                    for asked, reply in zip(twice, replies, strict=True) if reply != asked.reply)
+    requests = [asked.request for asked in day]
+    accepted = {FOR_COMPROMISE if request.word == "revoke" and request.values[0] in COMPROMISES else request.word
+                for request in requests}
+    yield from (f"{name}: no {kind} is accepted" for kind in sorted(KINDS - accepted))
     yield from (f"{name}: {asked.text}: it is refused" for asked in day if not asked.reply.startswith("ok "))
-    if name == "the day":
-        yield from (f"office/register_rules.py: {word} is a command there or in the document alone"
-                    for word in sorted(set(FORMS) ^ (wanted - {"revoke for compromise"})))
 
 
-# ---- the tables of crates
-
-def rows_in(path: str, name: str) -> list[tuple[str, ...]]:
-    """The rows of texts of a table in a crate's source."""
-    table = re.search(rf"\b{name}: [^\n]*\[\n(.*?)\n\];", read(path), re.S)
-    return [tuple(re.findall(r'"((?:[^"\\]|\\.)*)"', row)) for row in table[1].split("\n")] if table else []
-
-
-def table_faults(path: str, rows: list[tuple[str, ...]], wanted: list[tuple[str, ...]]) -> Iterator[str]:
-    """Where the rows of a table differ from those that are wanted."""
-    if not rows:
-        yield f"{path}: no table DAY"
-    for _, first, last, other_first, other_last in SequenceMatcher(None, rows, wanted, False).get_opcodes():
-        if rows[first:last] != wanted[other_first:other_last]:
-            yield from (f"{path}: row {place + 1} is {row}" for place, row in enumerate(rows[first:last], first))
-            yield from (f"{path}: row {place + 1} should be {row}"
-                        for place, row in enumerate(wanted[other_first:other_last], other_first))
+def table_faults(path: str, day: list[Asked]) -> Iterator[str]:
+    """Where the table of texts DAY in a crate's source differs from the lines and their replies."""
+    table = re.search(r"\bDAY: [^\n]*\[\n(.*?)\n\];", read(path), re.S)
+    rows = [re.findall(r'"((?:[^"\\]|\\.)*)"', row) for row in table[1].split("\n")] if table else []
+    wanted = [[asked.text, asked.reply] for asked in day]
+    yield from unified_diff([*map(str, rows)], [*map(str, wanted)], path, "the day", lineterm="", n=0)
 
 
-# ---- the steps of each line
-
-def steps_of(asked: Asked, key: Key | None, latest: int) -> int:
+def steps_of(asked: Asked, key: Optional[Key], latest: int) -> int:
     """How many steps of the database an accepted line takes, by the key and the latest moment before it. No period of a
     type is set."""
     word = asked.request.word
@@ -108,9 +81,7 @@ def steps_of(asked: Asked, key: Key | None, latest: int) -> int:
         steps += 1 + len(key.custodians) + 1 + len(key.approvals)
     if key and word in NEEDS:
         steps += 1 + key.has_set_need
-    steps += (word in CHANGES) + (word == "register")
-    # What is looked up in the tables of needs and periods, or written there.
-    return steps + {"set-quorum": 2, "set-period": 2, "register": 1, "activate": 1, "set": 1}.get(word, 0)
+    return steps + (word in CHANGES) + MORE_STEPS.get(word, 0)
 
 
 def step_faults(day: list[Asked]) -> Iterator[str]:
@@ -118,10 +89,7 @@ def step_faults(day: list[Asked]) -> Iterator[str]:
     register = Register()
     for asked in day:
         wanted = steps_of(asked, register.keys.get(asked.request.named), register.latest)
-        try:
-            register.answer(asked.request)
-        except Refused:
-            return
+        reply_line(register, *asked.request[:4])
         if counts.get(asked.text) != str(wanted):
             yield f"{STEPS}: {asked.text}: {counts.get(asked.text)} stands there, and by the rule it takes {wanted}"
 
@@ -130,13 +98,13 @@ def main() -> None:
     options(__doc__)
     steps, trials = alone("steps"), alone("requests")
     days = {"the day": DAY, "the short day": SHORT, "steps": steps, "requests": trials}
-    faults = [fault for name, day in days.items() for kind in (kind_faults, reply_faults) for fault in kind(name, day)]
-    for path, day in ((STEPS, steps), (TRIALS, trials)):
-        faults += table_faults(path, rows_in(path, "DAY"), [(asked.text, asked.reply) for asked in day])
-    faults += step_faults(steps)
+    faults = [fault for name, day in days.items() for fault in day_faults(name, day)]
+    faults += [f"office/register_rules.py: {word} is a command there or in the document alone"
+               for word in sorted(set(FORMS) ^ (KINDS - {FOR_COMPROMISE}))]
+    faults += [*table_faults(STEPS, steps), *table_faults(TRIALS, trials), *step_faults(steps)]
     faults += [] if HAS_PROGRAM else [f"no program at {PROGRAM}, so it was not asked: ./keyreg </dev/null builds it"]
-    verdict(f"{len(DAY)} lines with {len(document_kinds())} kinds of request, of which tables of crates have "
-            f"{len(steps)} and {len(trials)}: {len(faults)} faults", faults)
+    verdict(f"{len(DAY)} lines with {len(KINDS)} kinds of request, of which tables of crates have {len(steps)} and "
+            f"{len(trials)}: {len(faults)} faults", faults)
 
 
 main()

@@ -15,7 +15,7 @@ import sys
 sys.path.insert(1, str(pathlib.Path(__file__).resolve().parents[1] / "shared"))
 from registers import EXPORT_COLUMNS, UNSET, expect_replies, export_row, keyreg, write_register
 from register_rules import MOST_KEYS
-from script import expect, fresh_folder, options, show, verdict
+from script import fresh_folder, in_order, options, verdict
 
 # Advances after the registrations, of another caller.
 MORE = 100
@@ -25,48 +25,31 @@ STOPS = "1970-01-01T01:23:20Z"
 COMMAND = f"register data-encryption bob {ACTIVATION} {PROTECT_STOP} {DEACTIVATION} disks"
 
 
-def write(file, keys):
-    numbers, dates = range(1, keys + 1), (REGISTERED, ACTIVATION, PROTECT_STOP, DEACTIVATION, UNSET, UNSET, UNSET)
-    write_register(file, REGISTERED, keys, keys=((number, 1, "bob", "disks", 2, *dates) for number in numbers),
-                   request=itertools.chain(
-                       (("ann", number, COMMAND, number, 2, REGISTERED) for number in numbers),
-                       (("zed", number, "advance", 0, 0, REGISTERED) for number in range(1, MORE + 1))))
+def exported(number: int) -> str:
+    return ",".join(export_row(number=number, type="data-encryption", activation="1970-01-01T00:00:00Z",
+                               protect_stop=STOPS, deactivation="1970-01-01T01:40:00Z", purpose="disks"))
 
 
-def look_at_export(file, keys):
-    lines = keyreg(["export", "--file", file])
-    expect(lines[0] == ",".join(EXPORT_COLUMNS), f"header {lines[0]}")
-    expect(len(lines) == keys + 1, f"{len(lines)} lines of an export")
-    row = ",".join(export_row(number="{}", type="data-encryption", activation="1970-01-01T00:00:00Z",
-                              protect_stop=STOPS, deactivation="1970-01-01T01:40:00Z", purpose="disks"))
-    for number, line in enumerate(lines[1:], 1):
-        expect(line == row.format(number), f"row {line}")
-
-
-def look_at_report(file, keys):
-    lines = keyreg(["report", "--file", file, "--days", "1"])
-    is_whole = len(lines) == keys + 2 and lines[-1] == f"total {keys}"
-    expect(is_whole, f"{len(lines)} lines of a report, the last {lines[-1]}")
-    for number, line in enumerate(lines[1:-1], 1):
-        expect(line.split() == [str(number), STOPS, "due", "data-encryption", "bob", "disks"], f"row {line}")
-
-
-def look_at_run(file, keys):
-    expect_replies(file, [
-        (f"100 ann 1 {COMMAND}", "ok 1 Active 100"),
-        (f"100 ann {keys} {COMMAND}", f"ok {keys} Active 100"),
-        (f"100 zed {MORE} advance", "ok 0 - 100"),
-        (f"100 eve 1 {COMMAND}", "refused 20 Full" if keys == MOST_KEYS else f"ok {keys + 1} Active 100"),
-        (f"200 bob 1 assign {keys} fay", f"ok {keys} Active 200"),
-    ])
-
-
-def main():
+def main() -> None:
     keys = options(__doc__, keys=MOST_KEYS).keys
+    numbers, dates = range(1, keys + 1), (REGISTERED, ACTIVATION, PROTECT_STOP, DEACTIVATION, UNSET, UNSET, UNSET)
     with fresh_folder(memory=2**31) as folder:
-        for number, step in enumerate((write, look_at_export, look_at_report, look_at_run)):
-            show(f"step {number + 1} of 4")
-            step(folder / "office.keyreg", keys)
+        file = folder / "office.keyreg"
+        write_register(file, REGISTERED, keys, keys=((number, 1, "bob", "disks", 2, *dates) for number in numbers),
+                       request=itertools.chain(
+                           (("ann", number, COMMAND, number, 2, REGISTERED) for number in numbers),
+                           (("zed", number, "advance", 0, 0, REGISTERED) for number in range(1, MORE + 1))))
+        in_order(keyreg(["export", "--file", file]), [",".join(EXPORT_COLUMNS), *map(exported, numbers)], "the export")
+        due = (f"{number:7}  {STOPS}  due      {'data-encryption':22}  bob  disks" for number in numbers)
+        in_order(keyreg(["report", "--file", file, "--days", "1"]),
+                 ["Keys due for rotation by 1970-01-02T00:01:40Z", *due, f"total {keys}"], "the report")
+        expect_replies(file, [
+            (f"100 ann 1 {COMMAND}", "ok 1 Active 100"),
+            (f"100 ann {keys} {COMMAND}", f"ok {keys} Active 100"),
+            (f"100 zed {MORE} advance", "ok 0 - 100"),
+            (f"100 eve 1 {COMMAND}", "refused 20 Full" if keys == MOST_KEYS else f"ok {keys + 1} Active 100"),
+            (f"200 bob 1 assign {keys} fay", f"ok {keys} Active 200"),
+        ])
     verdict(f"a register of {keys} keys opens, is exported and reported whole, and answers")
 
 

@@ -19,7 +19,7 @@ sys.path.insert(1, str(pathlib.Path(__file__).resolve().parents[1] / "shared"))
 from places import PROGRAM
 from registers import STATES, UNSET, VERSION
 from registers import are_sound, copy_files, database, expect_replies, keyreg, new_register, write_register
-from script import expect, fresh_folder, options, show, verdict
+from script import expect, fresh_folder, in_order, options, verdict
 
 # So many requests are given to a life, more than it serves before it is killed.
 AHEAD = 3000
@@ -29,25 +29,34 @@ BEFORE = 20_000
 CODES = {text: code for code, text in STATES.items()}
 
 
-def request(place):
-    """The request at this place, from 1, its text, and its reply: every tenth registers a key, each after it
-    gives a key to itself, and every seventh of those only moves the time on."""
+def request(place: int) -> tuple[str, str, str]:
+    """The line of the request at this place, from 1, its command's text, and its reply: every tenth registers a key,
+    each after it gives a key to itself, and every seventh of those only moves the time on."""
     moment, keys = 100 + place, (place + 9) // 10
+    key = keys if place % 10 == 1 else 1 + place % keys
+    command, reply = f"assign {key} bob", f"ok {key} Pre-Active {moment}"
     if place % 10 == 1:
-        command, reply = f"register master bob - - - key {keys}", f"ok {keys} Pre-Active {moment}"
+        command = f"register master bob - - - key {key}"
     elif place % 7 == 0:
         command, reply = "advance", f"ok 0 - {moment}"
-    else:
-        key = 1 + place % keys
-        command, reply = f"assign {key} bob", f"ok {key} Pre-Active {moment}"
     return f"{moment} bob {place} {command}", command, reply
 
 
-def killed_life(file, before, seconds):
-    """Runs over the requests after so many, up to the kill. Gives how many are answered, those before with them."""
-    lines = "".join(request(before + place)[0] + "\n" for place in range(1, AHEAD + 1))
+def write_older_file(file: pathlib.Path) -> None:
+    rows = []
+    for place in range(1, BEFORE + 1):
+        _, command, reply = request(place)
+        _, key, state, moment = reply.split()
+        rows.append(("bob", place, command, int(key), CODES[state], int(moment)))
+    keys = [(row[3], 7, "bob", f"key {row[3]}", 1, row[5], *[UNSET] * 6) for row in rows if row[1] % 10 == 1]
+    write_register(file, 100 + BEFORE, len(keys), 1, request=rows, keys=keys)
+
+
+def killed_life(file: pathlib.Path, before: int, seconds: float) -> tuple[int, int]:
+    """A run over the requests after so many, which is killed, and what it leaves: the version of the file and how many
+    requests it kept that were not answered."""
     with tempfile.TemporaryFile() as source:
-        source.write(lines.encode())
+        source.write("".join(request(before + place)[0] + "\n" for place in range(1, AHEAD + 1)).encode())
         source.seek(0)
         process = subprocess.Popen([PROGRAM, "run", "--file", file], stdin=source, stdout=subprocess.PIPE)
         try:
@@ -56,12 +65,17 @@ def killed_life(file, before, seconds):
             process.kill()
             output, _ = process.communicate()
     replies = output.decode().split("\n")[:-1]
-    for place, reply in enumerate(replies, before + 1):
-        expect(reply == request(place)[2], f"reply {place}: {reply}")
-    return before + len(replies)
+    in_order(replies, [request(before + place)[2] for place in range(1, len(replies) + 1)], f"replies behind {before}")
+    version, count = kept(file)
+    most = before if version == 1 else before + len(replies) + 1
+    expect(before + len(replies) <= count <= most, f"version {version}, {count} kept of {before} and {len(replies)}")
+    # The program's own opening finds it a register, and repeats the first reply and the last.
+    for line, _, reply in map(request, {min(count, 1), count} - {0}):
+        expect_replies(file, [(line, reply)])
+    return version, count - before - len(replies)
 
 
-def kept(file):
+def kept(file: pathlib.Path) -> tuple[int, int]:
     """The version and the number of requests in a copy of the file and its log, which are the first ones."""
     copy = copy_files(file, file.with_name("copy.keyreg"))
     with database(copy) as connection:
@@ -76,83 +90,38 @@ def kept(file):
     return version, count
 
 
-# ---- runs over one file
-
-
-def kill_runs(runs, chance, folder):
-    file, stood, ahead = folder / "office.keyreg", 0, 0
+def kill_runs(lives: int, chance: random.Random, folder: pathlib.Path) -> str:
+    file, ahead = folder / "office.keyreg", 0
     new_register(file)
-    for number in range(runs):
-        show(f"{number} of {runs} runs killed")
-        answered = killed_life(file, stood, chance.uniform(0.0, LONGEST_SECONDS))
-        version, stood = kept(file)
-        expect(version == VERSION and answered <= stood <= answered + 1, f"{stood} kept of {answered} answered")
-        # The program's own opening finds it a register.
-        keyreg(["run", "--file", file])
-        ahead += stood - answered
-    return f"{runs} runs killed, {stood} requests accepted, {ahead} of them not answered"
+    for _ in range(lives):
+        version, more = killed_life(file, kept(file)[1], chance.uniform(0.0, LONGEST_SECONDS))
+        expect(version == VERSION, f"version {version}")
+        ahead += more
+    return f"{lives} runs killed, {kept(file)[1]} requests accepted, {ahead} of them not answered"
 
 
-# ---- openings of files of version 1
-
-
-def row_of(place):
-    """What is kept of the request at this place."""
-    _, command, reply = request(place)
-    _, key, state, moment = reply.split()
-    return "bob", place, command, 0 if state == "-" else int(key), CODES[state], int(moment)
-
-
-def write_older_file(file):
-    for left in file.parent.glob("*"):
-        left.unlink()
-    places = range(1, BEFORE + 1)
-    registrations = [place for place in places if place % 10 == 1]
-    write_register(file, 100 + BEFORE, len(registrations), 1, request=map(row_of, places), keys=(
-        (number, 7, "bob", f"key {number}", 1, 100 + place, *[UNSET] * 6)
-        for number, place in enumerate(registrations, 1)))
-
-
-def killed_migration(file, seconds):
-    """The version that a life left that was killed after so many seconds, and how many requests it kept unanswered."""
-    write_older_file(file)
-    answered = killed_life(file, BEFORE, seconds)
-    version, count = kept(file)
-    most = {1: BEFORE, VERSION: answered + 1}[version]
-    expect(answered <= count <= most, f"version {version}: {count} kept of {answered}")
-    # The program's own opening finds it a register, and repeats the first reply and the last.
-    for line, _, reply in map(request, (1, count)):
-        expect_replies(file, [(line, reply)])
-    return version, count - answered
-
-
-def seconds_of_opening(file):
-    write_older_file(file)
+def kill_migrations(lives: int, chance: random.Random, folder: pathlib.Path) -> str:
+    older, file = folder / "older.keyreg", folder / "office.keyreg"
+    write_older_file(older)
+    copy_files(older, file)
     begun = time.monotonic()
     keyreg(["run", "--file", file])
-    return time.monotonic() - begun
-
-
-def kill_migrations(lives, chance, folder):
-    file = folder / "office.keyreg"
-    longest = 4.0 * seconds_of_opening(file)
-    left = []
+    longest, left = 4.0 * (time.monotonic() - begun), []
     # One in each part of that time, so that some come before the file is of version 2 and some after.
     for part in range(lives):
-        show(f"{part} of {lives} migrations killed")
-        left.append(killed_migration(file, chance.uniform(part, part + 1) * longest / lives))
+        copy_files(older, file)
+        left.append(killed_life(file, BEFORE, chance.uniform(part, part + 1) * longest / lives))
     first, ahead = sum(version == 1 for version, _ in left), sum(more for _, more in left)
     expect(0 < first < lives, f"{first} lives were killed before their files were of version 2")
     return f"{lives} migrations killed, {first} of their files left of version 1, {ahead} requests not answered"
 
 
-def main():
+def main() -> None:
     asked = options(__doc__, runs=100, migrations=100, seed=random.randrange(10**6))
     lines = [f"seed {asked.seed}"]
     for kill, count in ((kill_runs, asked.runs), (kill_migrations, asked.migrations)):
-        if count:
-            with fresh_folder() as folder:
-                lines.append(kill(count, random.Random(asked.seed), folder))
+        with fresh_folder() as folder:
+            lines.append(kill(count, random.Random(asked.seed), folder))
     verdict(f"{'; '.join(lines)}; each file held")
 
 

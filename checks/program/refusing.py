@@ -1,32 +1,25 @@
-"""What refuses an allocation of the program, for checks/program/want_of_memory.py, and the processes that try.
+"""Refuses an allocation of the program, by refusing.c before the C library.
 
 A run is forked at each allocation that is to be refused: the child is refused it and goes on to its end, while the run
 waits. What the child left is looked at, then the files are put back, and the run goes on as if nothing had been. So
 each refused allocation has a process of its own, and what comes before it is done once."""
-import collections
 import contextlib
 import hashlib
 import mmap
-import multiprocessing
 import os
 import pathlib
 import struct
 import subprocess
-import tempfile
-from typing import Any, Iterable, Iterator, NamedTuple, Optional
+from typing import Any, Iterator, NamedTuple
 
-PROCESSES = 2
-# So many allocations are given to a process at once.
-SHARE = 250
-# So long a child may take, and a run that has no more children, in seconds.
+# So long, in seconds, a run may take that has no more children.
 PATIENCE = 60
 
 
 def built(source: str, folder: str) -> str:
     """The library that is made of a C file beside this one, in the folder."""
     library = os.path.join(folder, f"{source}.so")
-    path = pathlib.Path(__file__).with_name(source)
-    subprocess.run(["gcc", "-O1", "-shared", "-fPIC", "-o", library, path], check=True)
+    subprocess.run(["gcc", "-shared", "-fPIC", "-o", library, pathlib.Path(__file__).with_name(source)], check=True)
     return library
 
 
@@ -38,12 +31,26 @@ class End(NamedTuple):
 
 
 class Refusing:
-    """The library, with the file that has the count of a run, and those that a run reads and writes."""
+    """The library with a folder of its own: the file that has the count of a run, and those that a run reads and
+    writes. What was left byte for byte as at an earlier end of the same kind is not looked at again: it would be found
+    as it was."""
 
     def __init__(self, library: str, folder: str) -> None:
+        self.folder, self.seen = folder, set[Any]()
         self.counted, *self.streams = (pathlib.Path(folder, name) for name in ("counted", "input", "output", "error"))
         self.counted.write_bytes(bytes(mmap.PAGESIZE))
         self.variables = {**os.environ, "LD_PRELOAD": library, "COUNTED": str(self.counted)}
+
+    def path(self, name: str) -> str:
+        return os.path.join(self.folder, name)
+
+    def is_new(self, file: str, *kind: Any) -> bool:
+        """Whether no end of this kind has left these bytes in the file and its log."""
+        paths = (pathlib.Path(file + end) for end in ("", "-wal"))
+        mark = (*kind, *(path.exists() and hashlib.sha1(path.read_bytes()).digest() for path in paths))
+        is_new = mark not in self.seen
+        self.seen.add(mark)
+        return is_new
 
     def environment(self, refused: int, on_signal: bool = False) -> dict[str, str]:
         """The program's environment, where the allocation of this number is to be refused; none is where it is 0."""
@@ -59,79 +66,22 @@ class Refusing:
         ended where none was refused. What was left of the file and its log stands until the next is asked for."""
         self.streams[0].write_bytes(given)
         (ended, ending), (waiting, going_on) = os.pipe(), os.pipe()
-        forked: tuple = (0,) * 7
-        if numbers:
-            forked = (numbers.start, numbers[-1], numbers.step, ending, waiting, file, f"{file}-wal")
+        forked = (numbers.start, numbers[-1], numbers.step, ending, waiting, file, f"{file}-wal")
         environment = {**self.environment(0), "FORKED": " ".join(map(str, forked))}
         with contextlib.ExitStack() as stack:
             source, output, error = (stack.enter_context(open(path, mode))
                                      for path, mode in zip(self.streams, ("rb", "w+b", "w+b")))
-            ends, go_on = (stack.enter_context(open(end, mode, 0)) for end, mode in ((ended, "rb"), (going_on, "wb")))
             process = stack.enter_context(subprocess.Popen(
                 words, stdin=source, stdout=output, stderr=error, env=environment, pass_fds=(ending, waiting)))
+            # A run that waits ends where these are closed, which they are first where a fault is found.
+            ends, go_on = (stack.enter_context(open(end, mode, 0)) for end, mode in ((ended, "rb"), (going_on, "wb")))
             os.close(ending)
             os.close(waiting)
-
-            def end(status: int) -> End:
-                return End(status, *(path.read_bytes() for path in self.streams[1:]))
-
             while message := ends.read(8):
                 number, status = struct.unpack("ii", message)
-                yield number, end(os.waitstatus_to_exitcode(status))
+                yield number, self.end(os.waitstatus_to_exitcode(status))
                 go_on.write(b"+")
-            yield 0, end(process.wait(PATIENCE))
+            yield 0, self.end(process.wait(PATIENCE))
 
-
-class Place:
-    """Where a process tries: a folder of its own, with what it has looked at. What was left byte for byte as at an
-    earlier end of the same kind is not looked at again: it would be found as it was."""
-
-    def __init__(self, library: str, folder: str) -> None:
-        self.folder, self.refusing = folder, Refusing(library, folder)
-        self.seen: set[Any] = set()
-
-    def path(self, name: str) -> str:
-        return os.path.join(self.folder, name)
-
-    def is_new(self, file: str, *kind: Any) -> bool:
-        """Whether no end of this kind has left these bytes in the file and its log."""
-        mark = (*kind, *(self.digest(file + end) for end in ("", "-wal")))
-        is_new = mark not in self.seen
-        self.seen.add(mark)
-        return is_new
-
-    @staticmethod
-    def digest(path: str) -> Optional[bytes]:
-        with contextlib.suppress(FileNotFoundError):
-            return hashlib.sha1(pathlib.Path(path).read_bytes()).digest()
-        return None
-
-
-# The parts by their names, and the library, which the processes find as they were when they were made; and the place
-# of each.
-PARTS: dict[str, Any] = {}
-LIBRARY: list[str] = []
-HERE: list[Place] = []
-
-
-def refuse_share(share: tuple[str, range]) -> tuple[str, collections.Counter, str]:
-    """Refuses each of these allocations of a part: how often the program ended how, and a fault, or none."""
-    name, numbers = share
-    if not HERE:
-        HERE.append(Place(LIBRARY[0], tempfile.mkdtemp(dir=os.path.dirname(LIBRARY[0]))))
-    ends: collections.Counter = collections.Counter()
-    try:
-        for how in PARTS[name].tried(numbers, HERE[0]):
-            ends[how] += 1
-    except (SystemExit, subprocess.TimeoutExpired) as fault:
-        return name, ends, f"{name}, allocation {numbers[ends.total()] if ends.total() < len(numbers) else 0}: {fault}"
-    return name, ends, "" if ends.total() == len(numbers) else f"{name}: {ends.total()} refused of {numbers}"
-
-
-def refuse_all(numbers: dict[str, range]) -> Iterable[tuple[str, collections.Counter, str]]:
-    """Refuses these allocations of each part, the longest part first, in several processes."""
-    names = sorted(numbers, key=lambda name: len(numbers[name]), reverse=True)
-    shares = [(name, numbers[name][first:first + SHARE])
-              for name in names for first in range(0, len(numbers[name]), SHARE)]
-    with multiprocessing.get_context("fork").Pool(PROCESSES) as pool:
-        yield from pool.imap_unordered(refuse_share, shares)
+    def end(self, status: int) -> End:
+        return End(status, *(path.read_bytes() for path in self.streams[1:]))

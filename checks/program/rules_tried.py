@@ -1,9 +1,9 @@
 """The rules of office/register_rules.py, put to the worked rows of docs/WORKED.md before anything is held to them."""
 import re
 
-from answers import compact, post_reply, reply_line, shown, usage
+from answers import compact, post_reply, register_of, reply_line, shown, usage
 from places import read
-from register_rules import LAST, Register, Request, request_of
+from register_rules import LAST, Register, request_of
 from script import expect
 from worked_rows import worked_rows
 
@@ -17,16 +17,13 @@ NO_REQUESTS = [
     "100 ann 1 register Master bob - - - x", f"100 ann 1 register master {'b' * 65} - - - x",
     f"100 ann 1 register master bob - - - {'ü' * 100}x",
 ]
-# The fewest rows of the document that are lines with a reply each.
-FEWEST = 30
 
 
 def reply_to(register: Register, text: str) -> str:
     try:
-        request = request_of(text)
+        return reply_line(register, *request_of(text)[:4])
     except ValueError:
         return "refused 1 BadLine"
-    return reply_line(register, *request[:4])
 
 
 def look_at_rules() -> None:
@@ -34,17 +31,16 @@ def look_at_rules() -> None:
         expect(reply_to(Register(), text) == "refused 1 BadLine", f"the rules take {text!r}")
     request_of(f"{LAST} {'a' * 64} 9007199254740991 register master bob - - - {'ü' * 100}")
     rows = worked_rows()
-    expect(len(rows) >= FEWEST, f"{len(rows)} worked rows are lines with their replies")
+    expect(len(rows) >= 30, f"no more than {len(rows)} worked rows are lines with a reply each")
     for name, (before, lines, wanted) in rows.items():
         register = Register()
         while before:
             lines, wanted, before = rows[before].lines + lines, rows[before].replies + wanted, rows[before].before
         replies = [reply_to(register, text) for text in lines]
         expect(replies == wanted, f"the rules give {replies} for *{name}*")
-    advanced = re.search(r"(?s)```\n(HTTP/1.1 200 OK\n.*?)\n```", read("docs/WORKED.md"))[1]
-    reply = post_reply(Register(), 100, "ann", 1, ("advance",))
-    expect(reply == advanced.replace("\n", "\r\n").encode(), "the rules' reply to *advanced*")
-    register = Register()
-    register.answer(Request(100, "ann", 1, ("register", "data-encryption", "bob", 0, None, None, "payroll disks")))
+    worked = read("docs/WORKED.md")
+    advanced = re.search(r"(?s)```\n(HTTP/1.1 200 OK\n.*?)\n```", worked)[1].replace("\n", "\r\n").encode()
+    expect(post_reply(Register(), 100, "ann", 1, ("advance",)) == advanced, "the rules' reply to *advanced*")
+    register, _ = register_of((100, "ann", 1, ("register", "data-encryption", "bob", 0, None, None, "payroll disks")))
     for body in (shown(register, 1), usage(register, 1)):
-        expect(f"| `{compact(body).decode()}` |" in read("docs/WORKED.md"), f"the rules show {body}")
+        expect(f"| `{compact(body).decode()}` |" in worked, f"the rules show {body}")

@@ -1,10 +1,11 @@
 """What the register of office/register_rules.py answers, by docs/SPECIFICATION.md: reply lines, the JSON of commands
 and keys, and the bytes of replies over HTTP. It shares nothing with the program."""
 import json
+import time
 from typing import Any, Optional
 
 from registers import STATES
-from register_rules import REFUSALS, Refused, Register, Request
+from register_rules import REFUSALS, Refused, Register, Request, line
 
 
 def reply_line(register: Register, *request: Any) -> str:
@@ -14,6 +15,14 @@ def reply_line(register: Register, *request: Any) -> str:
         return f"ok {accepted.key_no} {STATES[accepted.state]} {accepted.moment}"
     except Refused as refused:
         return refused.line
+
+
+def register_of(*requests: tuple) -> tuple[Register, list[str]]:
+    """The register that these requests make, each of which is accepted, and their lines."""
+    register = Register()
+    for request in requests:
+        register.answer(Request(*request))
+    return register, [line(*request) for request in requests]
 
 
 # ---- JSON
@@ -97,6 +106,12 @@ def post_reply(register: Register, *request: Any) -> bytes:
         return refusal_reply(refused.number, **refused.details)
     state = STATES[accepted.state] if accepted.key_no else None
     return reply(200, {"key": accepted.key_no, "moment": accepted.moment, "state": state})
+
+
+def served_since(begun: int, register: Register, *request: Any) -> dict[bytes, Register]:
+    """The replies that a request may have that was served at any second since that one, and the register after each."""
+    after = [(moment, register.copy()) for moment in range(begun, int(time.time()) + 1)]
+    return {post_reply(copy, moment, *request): copy for moment, copy in after}
 
 
 def get_reply(register: Register, number: int, of_usage: bool) -> bytes:

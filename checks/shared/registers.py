@@ -95,7 +95,8 @@ def export_row(**cells: Any) -> list[str]:
 def run_program(words: Sequence[Any], given: Any = b"", **how: Any) -> subprocess.CompletedProcess:
     """Runs the program to its end; given are bytes, or an open file."""
     source = {"input": given} if isinstance(given, bytes) else {"stdin": given}
-    return subprocess.run([PROGRAM, *words], **{**source, "capture_output": True, "check": False, **how})
+    streams = {"stdout": subprocess.PIPE, "stderr": subprocess.PIPE}
+    return subprocess.run([PROGRAM, *words], **{**source, **streams, "check": False, **how})
 
 
 def keyreg(words: Sequence[Any], lines: Iterable[str] = ()) -> list[str]:
@@ -161,12 +162,6 @@ def are_sound(connection: sqlite3.Connection) -> bool:
     """Whether SQLite's own library finds nothing wrong in the file."""
     return (connection.execute("PRAGMA integrity_check").fetchall() == [("ok",)]
             and not connection.execute("PRAGMA foreign_key_check").fetchall())
-
-
-def put_rows(connection: sqlite3.Connection, name: str, rows: Iterable[tuple]) -> None:
-    """Puts the rows into the table, which may be none."""
-    for row in rows:
-        connection.execute(f"INSERT INTO {name} VALUES ({', '.join('?' * len(row))})", row)
 
 
 def table_rows(file: File) -> dict[str, list[tuple]]:

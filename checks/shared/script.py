@@ -1,6 +1,7 @@
 """What each script is made of: its options, a folder of its own, how far it is, and its line of verdict."""
 import argparse
 import contextlib
+import itertools
 import os
 import pathlib
 import shutil
@@ -52,6 +53,13 @@ def expect(holds: object, fault: str) -> None:
     """Ends the script by a fault, where something does not hold."""
     if not holds:
         sys.exit(f"FAILED: {fault}")
+
+
+def in_order(rows: Iterable[Any], wanted: Iterable[Any], name: str) -> None:
+    """Ends the script by a fault where these rows, or lines, differ from those that are wanted: by the first."""
+    for place, (row, other) in enumerate(itertools.zip_longest(rows, wanted), 1):
+        if row != other:
+            sys.exit(f"FAILED: {name}, row {place} is {row!r}, and should be {other!r}")
 
 
 def output_of(words: Sequence[Any], **how: Any) -> str:

@@ -74,14 +74,15 @@ class Served:
 
     def __init__(self, exchanges: int = 1_000_000, lines: Iterable[str] = (), file: Optional[str] = None,
                  file_limit: Optional[int] = None, environment: Optional[dict[str, str]] = None,
-                 port: Optional[int] = None) -> None:
+                 port: Optional[int] = None, before: Iterable[str] = ()) -> None:
         self.folder = None if file else tempfile.TemporaryDirectory(dir=in_memory(2**24))
         self.file = file or os.path.join(self.folder.name, "office.keyreg")
         self.replies = keyreg(["run", "--file", file], lines) if file and lines else []
         if not file:
             self.replies = new_register(self.file, lines)
         self.port = port or free_port()
-        words = [PROGRAM, "serve", "--file", self.file, "--port", str(self.port), "--exchanges", str(exchanges)]
+        words = [*before, PROGRAM, "serve", "--file", self.file, "--port", str(self.port),
+                 "--exchanges", str(exchanges)]
 
         def limited() -> None:
             if file_limit:
@@ -144,6 +145,10 @@ class Served:
 
 
 # ---- bytes of requests
+
+ADVANCE = b'{"kind":"advance"}'
+# The most bytes of a head and of a body.
+MOST_HEAD, MOST_BODY = 8192, 65536
 
 
 def head(first: str, *fields: str) -> bytes:

@@ -52,8 +52,8 @@ KINDS = (
     Kind("Add a command", r"\b[Ww]ithdraw\b", {
         "its refusal NoApproval": "*/CustodyRefusal.antt crates/register_core/src/decision.rt",
         "a day or a year of an office": "docs/AUDIT.md samples/year.txt checks/sqlite/version_1.sql",
-        "what they look at beside the day": "checks/program/power_cuts.py checks/program/want_of_memory.py "
-                                            "checks/program/large_office.py checks/program/exchanges_by_curl.py",
+        "what they look at beside the day": "checks/program/power_cuts.py checks/program/large_office.py "
+                                            "checks/program/exchanges_by_curl.py",
     }),
     Kind("Add a command", r"\b(Activate|Assign|AddCustodian|Approve)\b", {
         "they stand for their shapes": "*/Within/Fields.antt",
@@ -83,8 +83,7 @@ KINDS = (
         "what a period means for keys": "*/register_core/src/laws.rt */exports.rt */test_desk_trials/src/desks.rt "
                                         "bench/tables.py checks/program/rules_tried.py",
         "who the office is": "checks/office/behind_nginx.py checks/office/client_tried.py",
-        "what they look at beside the day": "checks/program/want_of_memory.py checks/program/large_office.py "
-                                            "checks/program/mutated.py checks/program/exchanges_by_curl.py",
+        "what they look at beside the day": "checks/program/large_office.py checks/program/exchanges_by_curl.py",
         "it stands for its shape": "*/Within/Fields.antt",
         "what comes of one that is left out": "docs/OPERATING.md",
         "what version 1 has not": "checks/office/rebuild_tried.py",

@@ -19,7 +19,7 @@ import time
 
 sys.path.insert(1, str(pathlib.Path(__file__).resolve().parents[1] / "shared"))
 from registers import keyreg
-from script import expect, options, show, verdict
+from script import expect, options, output_of, verdict
 from serving import Served, post_command
 
 # A key that is Active, and is so to the end of the check: a report of this many days lists it.
@@ -34,11 +34,11 @@ SELECT count(*), max(number) FROM keys; SELECT key_count FROM meta"""
 class Load(threading.Thread):
     """A caller that sends one registration after the other."""
 
-    def __init__(self, served):
+    def __init__(self, served: Served) -> None:
         super().__init__(daemon=True)
         self.served, self.answered, self.ends = served, 0, False
 
-    def run(self):
+    def run(self) -> None:
         for number in itertools.count(1):
             reply = self.served.raw(post_command("ann", number, COMMAND))
             if self.ends or not reply.startswith(b"HTTP/1.1 200 "):
@@ -46,10 +46,9 @@ class Load(threading.Thread):
             self.answered = number
 
 
-def copy(file, other, waits):
+def copy(file: str, other: str, waits: bool) -> bool:
     """Copies the two files, and gives whether the database is still what was copied."""
-    changed = os.stat(file).st_mtime_ns
-    late = time.monotonic() + PATIENCE * waits
+    changed, late = os.stat(file).st_mtime_ns, time.monotonic() + PATIENCE * waits
     for end in ("", "-wal", "-shm"):
         pathlib.Path(other + end).unlink(missing_ok=True)
     subprocess.run(["cp", file, other], check=True)
@@ -61,28 +60,20 @@ def copy(file, other, waits):
     return subprocess.run(["cmp", "-s", file, other], check=False).returncode == 0
 
 
-def requests_of(other):
-    """How many requests a copy has, where it is sound and they are the first ones; else None."""
-    words = ["sqlite3", "-readonly", other, QUESTION]
-    rows = subprocess.run(words, capture_output=True, text=True, check=False).stdout.split()
-    numbers = {number for row in rows[1:] for number in row.split("|")}
-    is_sound = rows[:1] == ["ok"] and len(rows) == 4 and len(numbers) == 1
-    return int(numbers.pop()) if is_sound else None
-
-
-def look_at_copy(other, before, after):
+def look_at_copy(other: str, before: int, after: int) -> None:
     """Holds a copy to the requests that were answered before it was begun, and after it."""
-    count = requests_of(other)
-    expect(count is not None and before <= count <= after + 1,
-           f"a copy of {count} requests, {before} answered before it, {after} after it")
-    rows = keyreg(["export", "--file", other])
-    expect(len(rows) == count + 1, f"an export of {len(rows)} rows of {count} requests")
-    rows = keyreg(["report", "--file", other, "--days", str(DAYS)])
-    is_whole = len(rows) == count + 2 and rows[-1] == f"total {count}"
-    expect(is_whole, f"a report of {len(rows)} lines, of {count} requests: {rows[-1]}")
+    found, *rows = output_of(["sqlite3", "-readonly", other, QUESTION]).split()
+    [count, *others] = {int(number) for row in rows for number in row.split("|")}
+    expect(found == "ok" and not others and before <= count <= after + 1,
+           f"a copy: {found}, {rows}; {before} requests were answered before it, {after} after it")
+    exported = keyreg(["export", "--file", other])
+    expect(len(exported) == count + 1, f"an export of {len(exported)} rows of {count} requests")
+    reported = keyreg(["report", "--file", other, "--days", str(DAYS)])
+    expect(len(reported) == count + 2 and reported[-1] == f"total {count}",
+           f"a report of {len(reported)} lines, of {count} requests: {reported[-1]}")
 
 
-def main():
+def main() -> None:
     late = time.monotonic() + options(__doc__, seconds=60.0).seconds
     whole = changed = 0
     with Served() as served:
@@ -91,7 +82,6 @@ def main():
         while load.answered == 0:
             time.sleep(0.01)
         while time.monotonic() < late:
-            show(f"{load.answered} requests, {whole + changed} copies, {late - time.monotonic():.0f} s left")
             before, waits = load.answered, whole > changed
             is_same = copy(served.file, other, waits)
             expect(not (waits and is_same), "cmp finds no difference after the log was copied")

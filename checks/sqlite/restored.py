@@ -15,6 +15,7 @@ these bytes. Then
 import collections
 import contextlib
 import filecmp
+import os
 import pathlib
 import shutil
 import sqlite3
@@ -23,16 +24,15 @@ import sys
 
 sys.path.insert(1, str(pathlib.Path(__file__).resolve().parents[1] / "shared"))
 from places import OFFICE, PROGRAM
-from drawn_registers import rows_of
-from registers import copy_files, database, keyreg, new_register, run_program
+from registers import copy_files, database, keyreg, new_register, run_program, table_rows
 from register_rules import Register, request_of
-from rules_shown import tables
-from script import expect, fresh_folder, options, show, verdict
+from rules_shown import Rows, tables
+from script import expect, fresh_folder, options, verdict
 
 BEFORE = 40
 
 
-def line_at(place):
+def line_at(place: int) -> str:
     """The request at a place, from 1; each is accepted."""
     moment, key = 1_700_000_000 + 60 * place, (place + 3) // 4
     return (f"{moment} bob {place} " + {
@@ -40,7 +40,7 @@ def line_at(place):
         3: f"set {key} = {moment + 86400 * 300} -", 0: "advance"}[place % 4])
 
 
-def rows_after(count):
+def rows_after(count: int) -> Rows:
     """The rows of each table after so many requests, by the rules."""
     register = Register()
     for place in range(1, count + 1):
@@ -48,40 +48,32 @@ def rows_after(count):
     return tables(register)
 
 
-class Killed:
-    """A life of a register whose files are taken at some lengths, as a kill then would leave them."""
-
-    def __init__(self, file, folder):
-        self.file, self.folder, self.place = file, folder, BEFORE
-        self.program = subprocess.Popen([PROGRAM, "run", "--file", file], stdin=subprocess.PIPE, stdout=subprocess.PIPE)
-
-    def goes_on(self, length):
-        """Takes the files when the life had so many requests; the path of the copy."""
-        while self.place < BEFORE + length:
-            self.place += 1
-            self.program.stdin.write(f"{line_at(self.place)}\n".encode())
-            self.program.stdin.flush()
-            reply = self.program.stdout.readline()
-            expect(reply.startswith(b"ok "), f"request {self.place}: {reply}")
-        return copy_files(self.file, f"{self.folder}/killed_{length}.keyreg")
-
-    def kill(self, other):
-        """Ends the life. What it leaves is what was taken last."""
-        self.program.kill()
-        self.program.wait()
-        for end in ("", "-wal"):
-            is_same = filecmp.cmp(self.file + end, other + end, shallow=False)
-            expect(is_same, "a kill leaves other files than were taken")
-
-
-def as_taken(file):
+def as_taken(file: str) -> Rows:
     """The rows of a file and its log, as SQLite reads copies of them; none where it cannot."""
     with fresh_folder() as folder, contextlib.suppress(sqlite3.Error):
-        return {name: sorted(rows) for name, rows in rows_of(copy_files(file, folder / "copy")).items()}
+        return table_rows(copy_files(file, folder / "copy"))
     return {}
 
 
-def trapped(backup, killed, length):
+def killed_at(file: str, lengths: list[int]) -> dict[int, str]:
+    """A life that goes on to these lengths, and copies of its files at each. The kill leaves what was taken last."""
+    copies, place = {}, BEFORE
+    with subprocess.Popen([PROGRAM, "run", "--file", file], stdin=subprocess.PIPE, stdout=subprocess.PIPE) as life:
+        for length in lengths:
+            for place in range(place + 1, BEFORE + length + 1):
+                life.stdin.write(f"{line_at(place)}\n".encode())
+                life.stdin.flush()
+                reply = life.stdout.readline()
+                expect(reply.startswith(b"ok "), f"request {place}: {reply}")
+            copies[length] = str(copy_files(file, f"{file}.{length}"))
+        life.kill()
+    for end in ("", "-wal"):
+        is_same = filecmp.cmp(file + end, copies[length] + end, shallow=False)
+        expect(is_same, "a kill leaves other files than were taken")
+    return copies
+
+
+def trapped(backup: str, killed: str, length: int) -> str:
     """What becomes of a backup that is copied beside a log."""
     file = f"{killed}.trap"
     shutil.copy(killed + "-wal", file + "-wal")
@@ -100,36 +92,24 @@ def trapped(backup, killed, length):
     return "without a word, a mixture, which replay.py finds"
 
 
-def restored(backup, killed, wanted):
-    """The right way, from the same files."""
-    aside = pathlib.Path(f"{killed}.aside")
-    aside.mkdir()
-    for end in ("", "-wal"):
-        shutil.move(killed + end, aside)
-    shutil.copy(backup, killed)
-    keyreg(["run", "--file", killed])
-    expect(as_taken(killed) == wanted, f"{killed}: by the right way the backup does not come back")
-    shutil.rmtree(aside)
-
-
-def main():
+def main() -> None:
     step = options(__doc__, step=20).step
     lengths = [*range(1, 11), *range(10 + step, 11 + 30 * step, step)]
     ends = collections.defaultdict(list)
     with fresh_folder() as folder:
-        file, backup = str(folder / "office.keyreg"), folder / "backup.keyreg"
-        new_register(file, [line_at(place) for place in range(1, BEFORE + 1)])
+        file, backup, wanted = str(folder / "office.keyreg"), str(folder / "backup.keyreg"), rows_after(BEFORE)
+        new_register(file, map(line_at, range(1, BEFORE + 1)))
         with database(file) as source, database(backup) as target:
             source.backup(target)
-        wanted, life = rows_after(BEFORE), Killed(file, folder)
         expect(as_taken(backup) == wanted, "the backup is another register")
-        for length in lengths:
-            show(f"length {length} of {lengths[-1]}")
-            killed = life.goes_on(length)
-            if length == lengths[-1]:
-                life.kill(killed)
+        for length, killed in killed_at(file, lengths).items():
             ends[trapped(backup, killed, length)].append(length)
-            restored(backup, killed, wanted)
+            # The right way, from the same files.
+            for end in ("", "-wal"):
+                os.rename(killed + end, f"{killed}.aside{end}")
+            shutil.copy(backup, killed)
+            keyreg(["run", "--file", killed])
+            expect(as_taken(killed) == wanted, f"{killed}: by the right way the backup does not come back")
     for end, of_end in sorted(ends.items()):
         print(f"{len(of_end)} of {len(lengths)} lengths: {end}: after {', '.join(map(str, of_end))} requests")
     silent, refused = (sum(len(of_end) for end, of_end in ends.items() if end.startswith(begin))
