@@ -84,7 +84,7 @@ KINDS = (
                                         "bench/tables.py checks/program/rules_tried.py",
         "who the office is": "checks/office/behind_nginx.py checks/office/client_tried.py",
         "what they look at beside the day": "checks/program/large_office.py checks/program/exchanges_by_curl.py",
-        "it stands for its shape": "*/Within/Fields.antt",
+        "it stands for its shape": "*/Within/Fields.antt crates/http_messages/src/command_value.rt",
         "what comes of one that is left out": "docs/OPERATING.md",
         "what version 1 has not": "checks/office/rebuild_tried.py",
         "it came with version 2": "*/migrations.rt checks/sqlite/by_sqlite3.py",

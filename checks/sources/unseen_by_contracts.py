@@ -67,7 +67,7 @@ MEMORY = re.compile(r"\b(?:End|OpenRefusal|AskFault|StoreError|CheckError|RowsEr
                     r"(?!\)*\s*(?:=>|=[^=]|\|)|\.fmt)|(?<![<,:] )(?<!<)\bAllocError\b(?!>)")
 # In how many places it tells so that a call of the database was refused.
 REFUSED = {
-    "disk_files": 2, "register_desk": 15, "register_program": 1, "register_report": 1, "register_store": 8,
+    "disk_files": 2, "register_desk": 11, "register_program": 1, "register_report": 1, "register_store": 8,
     "row_checks": 4,
 }
 REFUSAL = re.compile(r"\b(?:(?:End|OpenRefusal)::Store|StoreError::NoRegister"
