@@ -166,17 +166,15 @@ fn perform<F: Files + Drop, N: Network + Clock + Drop, R: Read, W: Write>(
         network,
     } = machine;
     let Inputs { reader, attendance } = inputs;
-    let register = RegisterFile { path: file, files };
+    let file = RegisterFile { path: file, files };
     match *job {
-        Job::Init => Done::Made(init_file(alloc, register)),
-        Job::Run => Done::Lived(run_file(alloc, register, reader, writer)),
-        Job::Import { terms } => {
-            Done::Lived(import_file(alloc, register, &terms, reader, writer))
-        }
-        Job::Export => Done::Lived(export_file(alloc, register, writer)),
-        Job::Report { days } => Done::Lived(report_file(alloc, register, days, writer)),
+        Job::Init => Done::Made(init_file(alloc, file)),
+        Job::Run => Done::Lived(run_file(alloc, file, reader, writer)),
+        Job::Import { terms } => { Done::Lived(import_file(alloc, file, &terms, reader, writer)) }
+        Job::Export => Done::Lived(export_file(alloc, file, writer)),
+        Job::Report { days } => Done::Lived(report_file(alloc, file, days, writer)),
         Job::Serve { bounds } => {
-            Done::Lived(serve_file(alloc, register, &network, &bounds, attendance))
+            Done::Lived(serve_file(alloc, file, &network, &bounds, attendance))
         }
     }
 }

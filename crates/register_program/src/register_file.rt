@@ -66,12 +66,12 @@ fn close_desk<F: Files>(desk: Desk<F::Opened>) -> (Closed<F::Opened>, DeskMark)
 /// gave out.
 pub fn init_file<F: Files>(
     alloc: Global,
-    register: RegisterFile<'_, F>,
+    file: RegisterFile<'_, F>,
 ) -> Result<Closed<F::Opened>, Refused<F::Opened, F::Failed>>
     ensures { MakesFile F.Opened.Store F.may_leave F.may_leave_failed
-        (F.start register.path.now) result }
+        (F.start file.entry.path.now) result }
 {
-    let connection = register.files.connect(register.path, Absent::Made)?;
+    let connection = file.files.connect(file.path, Absent::Made)?;
     let desk = Desk::create(alloc, connection)?;
     let (closed, _) = close_desk::<F>(desk);
     Ok(closed)
@@ -84,11 +84,12 @@ pub fn init_file<F: Files>(
 /// or is no database.
 pub fn open_file<F: Files + Drop>(
     alloc: Global,
-    register: RegisterFile<'_, F>,
+    file: RegisterFile<'_, F>,
 ) -> Result<Desk<F::Opened>, Refused<F::Opened, F::Failed>>
-    ensures { OpensFile F.Opened.Store F.may_leave F.may_leave_failed (F.start register.path.now) result }
+    ensures { OpensFile F.Opened.Store F.may_leave F.may_leave_failed
+        (F.start file.entry.path.now) result }
 {
-    let connection = register.files.connect(register.path, Absent::Refused)?;
+    let connection = file.files.connect(file.path, Absent::Refused)?;
     let desk = Desk::open(alloc, connection)?;
     Ok(desk)
 }
@@ -99,21 +100,21 @@ pub fn open_file<F: Files + Drop>(
 /// As [`open_file`]; nothing was read or written then.
 pub fn run_file<F: Files + Drop, R: Read, W: Write>(
     alloc: Global,
-    register: RegisterFile<'_, F>,
+    file: RegisterFile<'_, F>,
     reader: &mut Watched<R>,
     writer: &mut Watched<W>,
 ) -> Result<FileLife<F::Opened>, Refused<F::Opened, F::Failed>>
     requires reader { reader.old.failed ≡ false }
     requires writer { writer.old.failed ≡ false }
-    ensures runs { RunsLines F.Opened.Store F.may_leave F.may_leave_failed (F.start register.path.now)
-        (R.remaining reader.old.inner) (W.contents writer.old.inner) (W.contents writer.new.inner)
-        result }
+    ensures runs { RunsLines F.Opened.Store F.may_leave F.may_leave_failed
+        (F.start file.entry.path.now) (R.remaining reader.old.inner) (W.contents writer.old.inner)
+        (W.contents writer.new.inner) result }
     ensures ends { IfOk result (λ life. EndsRun R.remaining W.contents reader.old reader.new
         writer.old writer.new life.outcome) }
     ensures desk { IfOk result (λ life. BreaksAs life.outcome.end life.mark) }
     ensures untouched { IfErr result (λ _. writer.new ≡ writer.old) }
 {
-    let mut desk = open_file(alloc, register)?;
+    let mut desk = open_file(alloc, file)?;
     let outcome = run(reader, writer, &mut desk);
     let (files, mark) = close_desk::<F>(desk);
     Ok(FileLife {
@@ -130,7 +131,7 @@ pub fn run_file<F: Files + Drop, R: Read, W: Write>(
 /// As [`open_file`]; nothing was read or written then.
 pub fn import_file<F: Files + Drop, R: Read, W: Write>(
     alloc: Global,
-    register: RegisterFile<'_, F>,
+    file: RegisterFile<'_, F>,
     terms: &Terms,
     reader: &mut Watched<R>,
     writer: &mut Watched<W>,
@@ -138,14 +139,14 @@ pub fn import_file<F: Files + Drop, R: Read, W: Write>(
     requires reader { reader.old.failed ≡ false }
     requires writer { writer.old.failed ≡ false }
     ensures imports { ImportsRows F.Opened.Store F.may_leave F.may_leave_failed
-        (F.start register.path.now) terms.now (R.remaining reader.old.inner) (W.contents writer.old.inner)
-        (W.contents writer.new.inner) result }
+        (F.start file.entry.path.now) terms.now (R.remaining reader.old.inner)
+        (W.contents writer.old.inner) (W.contents writer.new.inner) result }
     ensures ends { IfOk result (λ life. EndsImport R.remaining W.contents reader.old reader.new
         writer.old writer.new life.outcome) }
     ensures desk { IfOk result (λ life. BreaksAs life.outcome.end life.mark) }
     ensures untouched { IfErr result (λ _. writer.new ≡ writer.old) }
 {
-    let mut desk = open_file(alloc, register)?;
+    let mut desk = open_file(alloc, file)?;
     let outcome = import(
         alloc,
         &mut desk,
@@ -169,17 +170,17 @@ pub fn import_file<F: Files + Drop, R: Read, W: Write>(
 /// As [`open_file`]; nothing was written then.
 pub fn export_file<F: Files + Drop, W: Write>(
     alloc: Global,
-    register: RegisterFile<'_, F>,
+    file: RegisterFile<'_, F>,
     writer: &mut Watched<W>,
 ) -> Result<FileLife<F::Opened>, Refused<F::Opened, F::Failed>>
     requires { writer.old.failed ≡ false }
-    ensures exports { Exports F.Opened.Store F.may_leave F.may_leave_failed (F.start register.path.now)
-        (W.contents writer.old.inner) (W.contents writer.new.inner) result }
+    ensures exports { Exports F.Opened.Store F.may_leave F.may_leave_failed
+        (F.start file.entry.path.now) (W.contents writer.old.inner) (W.contents writer.new.inner) result }
     ensures ends { IfOk result (λ life. EndsWriting W.contents writer.old writer.new life.outcome) }
     ensures desk { IfOk result (λ life. BreaksNone life.outcome.end life.mark) }
     ensures untouched { IfErr result (λ _. writer.new ≡ writer.old) }
 {
-    let mut desk = open_file(alloc, register)?;
+    let mut desk = open_file(alloc, file)?;
     let outcome = export(alloc, &mut desk, writer);
     let (files, mark) = close_desk::<F>(desk);
     Ok(FileLife {
@@ -196,18 +197,19 @@ pub fn export_file<F: Files + Drop, W: Write>(
 /// As [`open_file`]; nothing was written then.
 pub fn report_file<F: Files + Drop, W: Write>(
     alloc: Global,
-    register: RegisterFile<'_, F>,
+    file: RegisterFile<'_, F>,
     days: u32,
     writer: &mut Watched<W>,
 ) -> Result<FileLife<F::Opened>, Refused<F::Opened, F::Failed>>
     requires { writer.old.failed ≡ false }
-    ensures reports { Reports F.Opened.Store F.may_leave F.may_leave_failed (F.start register.path.now) days
-        (W.contents writer.old.inner) (W.contents writer.new.inner) result }
+    ensures reports { Reports F.Opened.Store F.may_leave F.may_leave_failed
+        (F.start file.entry.path.now) days (W.contents writer.old.inner)
+        (W.contents writer.new.inner) result }
     ensures ends { IfOk result (λ life. EndsWriting W.contents writer.old writer.new life.outcome) }
     ensures desk { IfOk result (λ life. BreaksNone life.outcome.end life.mark) }
     ensures untouched { IfErr result (λ _. writer.new ≡ writer.old) }
 {
-    let mut desk = open_file(alloc, register)?;
+    let mut desk = open_file(alloc, file)?;
     let outcome = rotation(alloc, &mut desk, days, writer);
     let (files, mark) = close_desk::<F>(desk);
     Ok(FileLife {
@@ -223,19 +225,19 @@ pub fn report_file<F: Files + Drop, W: Write>(
 /// As [`open_file`]; no connection was accepted then.
 pub fn serve_file<F: Files + Drop, N: Network + Clock>(
     alloc: Global,
-    register: RegisterFile<'_, F>,
+    file: RegisterFile<'_, F>,
     network: &N,
     bounds: &Bounds,
     attendance: &mut Attendance,
 ) -> Result<FileLife<F::Opened>, Refused<F::Opened, F::Failed>>
     requires { attendance.old ≡ nobody }
     ensures serves { ServesExchanges F.Opened.Store F.may_leave F.may_leave_failed
-        (F.start register.path.now) bounds.now.exchanges result }
+        (F.start file.entry.path.now) bounds.now.exchanges result }
     ensures ends { IfOk result (λ life.
         ExplainsEnd bounds.now.exchanges attendance.new life.outcome.end) }
     ensures desk { IfOk result (λ life. BreaksAs life.outcome.end life.mark) }
 {
-    let mut desk = open_file(alloc, register)?;
+    let mut desk = open_file(alloc, file)?;
     let end = serve_at(alloc, &mut desk, network, bounds, attendance);
     let (files, mark) = close_desk::<F>(desk);
     Ok(FileLife {

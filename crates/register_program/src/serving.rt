@@ -133,10 +133,11 @@ pub fn serve_connection<S: Alter, R: ReadHalf, W: WriteHalf, C: Clock>(
     accepted: Accepted<'_, R, W, C>,
 ) -> ServedConnection<R, W>
     // Where the client's bytes are known, the reply is to those, and it is what was sent.
-    ensures exchanges { Exchanges S.Store accepted.moment
-        (R.remaining accepted.client.read_half) desk.old desk.new
-        (W.contents accepted.client.write_half) (W.contents result.client.write_half) result.outcome }
-    ensures reads { TookThenSome (R.remaining accepted.client.read_half)
+    ensures exchanges { Exchanges S.Store accepted.entry.moment
+        (R.remaining accepted.entry.client.read_half) desk.old desk.new
+        (W.contents accepted.entry.client.write_half) (W.contents result.client.write_half)
+        result.outcome }
+    ensures reads { TookThenSome (R.remaining accepted.entry.client.read_half)
         (R.remaining result.client.read_half) result.outcome.read }
     ensures ended { W.has_ended result.client.write_half ≡ true }
     ensures drained { R.is_drained result.client.read_half ≡ true }
