@@ -175,7 +175,8 @@ pub fn export_file<F: Files + Drop, W: Write>(
 ) -> Result<FileLife<F::Opened>, Refused<F::Opened, F::Failed>>
     requires { writer.old.failed ≡ false }
     ensures exports { Exports F.Opened.Store F.may_leave F.may_leave_failed
-        (F.start file.entry.path.now) (W.contents writer.old.inner) (W.contents writer.new.inner) result }
+        (F.start file.entry.path.now) (W.contents writer.old.inner) (W.contents writer.new.inner)
+        result }
     ensures ends { IfOk result (λ life. EndsWriting W.contents writer.old writer.new life.outcome) }
     ensures desk { IfOk result (λ life. BreaksNone life.outcome.end life.mark) }
     ensures untouched { IfErr result (λ _. writer.new ≡ writer.old) }
