@@ -2,8 +2,7 @@
 
 mod acting;
 mod acts;
-mod desks;
-mod faults;
 mod files;
 mod network;
 mod served;
+mod trials;
