@@ -135,7 +135,7 @@ def changes_of(file: File) -> Iterator[tuple[int, str, str]]:
 
 
 def planted(folder: pathlib.Path, first: File, full: File) -> int:
-    """Changes, and requests that the rules of the file's version refuse; how many there were, each of which is found."""
+    """Changes, and requests that the rules of the file's version refuse; how many there were. Each is found."""
     few, _ = made(folder, "few", at_one_moment(3))
     put = "INSERT INTO request VALUES ('{}', {}, '{}', 4, 2, 3001)".format
     changes = [(file, status, told, [statement]) for file in (first, full)
@@ -179,9 +179,11 @@ def earlier_copies(folder: pathlib.Path, full: File, chance: random.Random) -> i
     file, accepted = made(folder, "goes_on", drawn(chance, 300, (0, 0, DAY)))
     half = accepted // 2
     before = shutil.copy(changed(file, ("DELETE FROM request WHERE rowid > ?", (half,))), folder / "before.keyreg")
+    renumbered = "UPDATE request SET number = 77 WHERE command = 'advance' AND moment = 300"
+    put_in, told = "INSERT INTO request VALUES ('zed', 78, 'advance', 0, 0, 250)", "'zed', 78.: it came in since"
     cases = [
-        (later, full, 1, "earlier copy", ["UPDATE request SET number = 77 WHERE command = 'advance' AND moment = 300"]),
-        (later, full, 1, "earlier copy", ["INSERT INTO request VALUES ('zed', 77, 'advance', 0, 0, 250)"]),
+        (later, full, 1, "and in the earlier copy", [renumbered]), (later, full, 1, told, [put_in]),
+        (later, full, 1, told, [renumbered, put_in]),
         (periods, early, 1, "stand in another order", [*swapped(2, 3), "UPDATE period SET originator = 6"]),
         (periods, early, 3, "another one than the rows'", ["UPDATE quorum SET need = 3"]),
         (periods, early, 1, "stands among those of it",

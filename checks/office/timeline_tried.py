@@ -340,8 +340,8 @@ def main() -> None:
                      for name in ("thousand", "ten"))
         expect(laid <= TIMES * few, f"10000 keys are shown after {laid:.2f} seconds, 1000 after {few:.2f}")
         browser.driver.quit()
-    verdict(f"{len(rows)} keys of all states at {len(WIDTHS)} widths, and 1000 keys on {len(sheets)} sheets; 10000 keys "
-            f"are shown after {laid:.2f} seconds, 1000 after {few:.2f}")
+    verdict(f"{len(rows)} keys of all states at {len(WIDTHS)} widths, and 1000 keys on {len(sheets)} sheets; 10000 "
+            f"keys are shown after {laid:.2f} seconds, 1000 after {few:.2f}")
 
 
 main()
