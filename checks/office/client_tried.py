@@ -178,8 +178,9 @@ def refused(network: Network, folder: pathlib.Path) -> None:
             expect((fault.number, fault.name, fault.values) == wanted, f"{fault}, {fault.values} and not {wanted}")
         with unittest.mock.patch.object(office, "ask", lambda kind, **members: (kind, members)):
             for kind, members in MEMBERS.items():
-                asked = getattr(office, kind.replace("-", "_"))(*members)
-                expect(asked == (kind, dict(zip(members, members))), f"{kind} of {members} asks {asked}")
+                values = dict(zip(members, members))
+                asked = getattr(office, kind.replace("-", "_"))(**values)
+                expect(asked == (kind, values), f"{kind} asks {asked}, not {values}")
         expect(office.activate(2).state == "Active", "an activation")
         expect(office.usage(2) == {"process": "yes", "protect": True}, "a usage")
         expect([key["purpose"] for key in office.keys()] == ["root", "spare"], "the keys")

@@ -10,8 +10,8 @@ from register_rules import Refused, Register, request_of
 BEGUN = 1_700_000_000
 
 
-def words_of(name: str, *words: Any) -> list[Any]:
-    return [sys.executable, OFFICE / f"{name}.py", *words]
+def words_of(name: str, *words: Any) -> list[str]:
+    return [sys.executable, str(OFFICE / f"{name}.py"), *map(str, words)]
 
 
 def run_tool(name: str, *words: Any, **how: Any) -> subprocess.CompletedProcess:

@@ -82,7 +82,7 @@ KINDS = (
         "a day or a year of an office": "docs/AUDIT.md samples/office.txt samples/year.txt",
         "what a period means for keys": "*/register_core/src/laws.rt */exports.rt */test_desk_trials/src/desks.rt "
                                         "bench/tables.py checks/program/rules_tried.py",
-        "who the office is": "checks/office/behind_nginx.py checks/office/client_tried.py",
+        "who the office is": "checks/office/behind_nginx.py",
         "what they look at beside the day": "checks/program/large_office.py checks/program/exchanges_by_curl.py",
         "it stands for its shape": "*/Within/Fields.antt",
         "what comes of one that is left out": "docs/OPERATING.md",
