@@ -92,10 +92,9 @@ KINDS = (
     Kind("Add a command of the program", r"Task::Report|\breport_file\b|keyreg report|\[\"report\"|\"report\":|"
                                          r"\n +report\)|from report'", {
         "they ask for a report": "checks/office/audit_views.py checks/sqlite/copied_while_served.py "
-                                 "checks/office/advance_tried.py checks/package/in_systemd.sh "
-                                 "checks/program/full_register.py checks/office/replay_tried.py "
-                                 "checks/office/rebuild_tried.py docs/CHECKS.md "
-                                 "office/units/keyreg.service bench/tables.py",
+                                 "checks/package/in_systemd.sh checks/program/full_register.py "
+                                 "checks/office/replay_tried.py docs/CHECKS.md office/units/keyreg.service "
+                                 "bench/tables.py",
     }),
     Kind("Add a crate", r"\bregister_report\b", {
         "its own": "crates/register_report/*",
