@@ -101,10 +101,10 @@ const part = (name, attributes) => {
   for (const [key, value] of Object.entries(attributes)) made.setAttribute(key, value);
   return made;
 };
-const cell = (name, text) => {
+const cell = (name, content) => {
   const made = document.createElement('td');
   made.className = name;
-  made.textContent = text;
+  made.append(content);
   return made;
 };
 const SHAPES = {
@@ -129,28 +129,22 @@ function line([kind, from, to], state) {
     fill: `url(#s${state})`, stroke: `var(--s${state})`});
 }
 function drawn(key) {
-  const row = document.createElement('tr'), time = document.createElement('td');
-  const picture = part('svg', {'aria-hidden': true});
+  const row = document.createElement('tr'), button = document.createElement('button');
   row.className = 'key';
-  row.dataset.number = key[NUMBER];
-  row.dataset.owner = key[OWNER];
-  row.dataset.type = key[TYPE];
-  row.dataset.due = key[DUE];
-  row.dataset.state = states[key[STATE]];
-  const number = cell('number', ''), button = document.createElement('button');
+  Object.assign(row.dataset, {number: key[NUMBER], owner: key[OWNER], type: key[TYPE], due: key[DUE],
+    state: states[key[STATE]]});
   button.type = 'button';
   button.textContent = key[NUMBER];
   button.setAttribute('aria-expanded', false);
   button.setAttribute('aria-label', `key ${key[NUMBER]}: all texts and dates`);
-  number.append(button);
-  const state = cell('state' + (key[DUE] ? ' due' : ''), key[DUE] || states[key[STATE]]);
-  time.className = 'time';
+  const picture = part('svg', {'aria-hidden': true});
   const grid = part('svg', {viewBox: '0 0 100 20', preserveAspectRatio: 'none', width: '100%', height: 20});
   grid.append(part('path', {class: 'grid', d: years.map(x => `M${x} 0v20`).join('')}));
   picture.append(grid, ...key[LINES].map(one => line(one, key[STATE])),
     part('line', {class: 'today', x1: today + '%', x2: today + '%', y1: 0, y2: 20}), ...key[MARKS].flatMap(mark));
-  time.append(picture);
-  row.append(number, cell('owner', key[OWNER]), cell('type', key[TYPE]), state, cell('purpose', key[PURPOSE]), time);
+  row.append(cell('number', button), cell('owner', key[OWNER]), cell('type', key[TYPE]),
+    cell('state' + (key[DUE] ? ' due' : ''), key[DUE] || states[key[STATE]]), cell('purpose', key[PURPOSE]),
+    cell('time', picture));
   row.addEventListener('click', event => {
     if (event.target === button || getSelection().isCollapsed) toggle(row, button, key);
   });
@@ -160,19 +154,17 @@ function toggle(row, button, key) {
   const is_open = button.getAttribute('aria-expanded') === 'true';
   button.setAttribute('aria-expanded', !is_open);
   if (is_open) return row.nextSibling.remove();
-  const more = document.createElement('tr'), all = cell('all', ''), list = document.createElement('dl');
+  const more = document.createElement('tr'), list = document.createElement('dl'), all = cell('all', list);
   const facts = [['key', key[NUMBER]], ['owner', key[OWNER]], ['type', key[TYPE]],
     ['state', states[key[STATE]] + (key[DUE] && ', ' + key[DUE])], ['purpose', key[PURPOSE]],
     ...dates.map((name, place) => [name.replace('_', ' '), moment(key[MOMENTS][place])]).filter(([, text]) => text)];
   for (const [name, text] of facts) {
-    const term = document.createElement('dt'), value = document.createElement('dd');
-    term.textContent = name;
-    value.textContent = text;
-    list.append(term, value);
+    list.append(document.createElement('dt'), document.createElement('dd'));
+    list.lastChild.previousSibling.textContent = name;
+    list.lastChild.textContent = text;
   }
   more.className = 'more';
   all.colSpan = 6;
-  all.append(list);
   more.append(all);
   row.after(more);
 }
@@ -215,11 +207,6 @@ def shown(text):
         return text
     return "".join(f"\\u{ord(mark):04x}" if unicodedata.category(mark) in ("Cc", "Cf", "Zl", "Zp") else mark
                    for mark in text)
-
-
-def state_of(key, moment):
-    """The name of the state that the dates give."""
-    return NAMES[state_at(moment, key["activation"], key["deactivation"], key["destroyed"], key["compromised"])]
 
 
 def keys_of(text):
@@ -279,20 +266,14 @@ def spans_of(key):
     return [(kind, first, until) for kind, first, until in spans if first < until]
 
 
-def lines_of(key, scale):
-    """A key's line in the picture, with an arrow where it goes on beyond."""
-    spans = spans_of(key)
-    for kind, first, until in spans:
-        yield kind, scale.x(first), scale.x(min(until, scale.last))
+def marks_of(key, spans, due, scale):
+    """What happened to a key, and what is due: shapes that differ without a colour. A line that goes on beyond the
+    picture has an arrow."""
     bars = [(first, until) for kind, first, until in spans if kind != "wait"]
     if bars and scale.last < bars[-1][1]:
         yield ">", 100
     if bars and bars[0][0] < scale.first < bars[-1][1]:
         yield "<", 0
-
-
-def marks_of(key, due, scale):
-    """What happened to it, and what is due: shapes that differ without a colour."""
     if key["compromised"] is not None:
         yield "c", scale.x(key["compromised"]), scale.x(key["occurrence"])
     if key["destroyed"] is not None:
@@ -303,15 +284,14 @@ def marks_of(key, due, scale):
 
 def row_of(key, moment, days, scale):
     """What the script draws of a key."""
-    state, stop = state_of(key, moment), key["protect_stop"]
-    due = ""
+    stop, due, spans = key["protect_stop"], "", spans_of(key)
+    state = NAMES[state_at(moment, *(key[name] for name in ("activation", "deactivation", "destroyed", "compromised")))]
     if state == "Active" and stop is not None and stop <= moment + days * DAY:
         due = "overdue" if stop <= moment else "due"
-    drawn = list(lines_of(key, scale))
-    lines = [shape for shape in drawn if len(shape) == 3]
-    marks = [*(shape for shape in drawn if len(shape) == 2), *marks_of(key, due, scale)]
     return [int(key["number"]), shown(key["owner"]), key["type"], list(STATES).index(state), due, shown(key["purpose"]),
-            [key[name] for name in DATES], lines, marks]
+            [key[name] for name in DATES],
+            [(kind, scale.x(first), scale.x(min(until, scale.last))) for kind, first, until in spans],
+            list(marks_of(key, spans, due, scale))]
 
 
 def choice(name, label, values):

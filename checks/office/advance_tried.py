@@ -13,10 +13,11 @@ import time
 
 sys.path.insert(1, str(pathlib.Path(__file__).resolve().parents[1] / "shared"))
 from places import UNITS
+from client import Client
 from registers import database
 from register_rules import GREATEST_NUMBER
-from script import expect, verdict
-from serving import Served, get
+from script import expect, fresh_folder, verdict
+from serving import Served
 
 # So many seconds a key may still protect as it is served first.
 AHEAD = 3
@@ -44,8 +45,9 @@ def expect_status(status: int, command: str, served: Served) -> None:
 
 
 def expect_protects(protects: bool, when: str, served: Served) -> None:
-    answer = served.raw(get("/keys/1/usage"))
-    expect(answer.endswith(b'"protect":%s}' % (b"true" if protects else b"false")), f"{when}: {answer}")
+    with fresh_folder() as folder, Client(f"http://127.0.0.1:{served.port}", "ann", f"{folder}/numbers") as office:
+        usage = office.usage(1)
+    expect(usage["protect"] == protects, f"{when}: {usage}")
 
 
 def moves_on(command: str) -> int:
