@@ -1,8 +1,8 @@
 #!/usr/bin/env python3
 """A standby follows a register by office/follow.py. While the register takes one request after the other, calls are
-begun and killed at random, some with the program that they called. After each kill the standby has the tables that
-office/register_rules.py gives for so many of the first requests; after a last call it has all. What is no standby of
-the register is reported, and left as it is.
+begun and killed at random, some with the program that they called. After each kill the standby has so many of the first
+requests and the tables that they give, by office/replay.py; after a last call it has all. What is no standby of the
+register is reported, and left as it is.
 
     checks/office/follow_tried.py [--lines N] [--kills N] [--longest SECONDS] [--seed N]
 """
@@ -15,16 +15,15 @@ import subprocess
 import sys
 import threading
 import time
-from typing import Any, Iterable
+from typing import Any
 
 sys.path.insert(1, str(pathlib.Path(__file__).resolve().parents[1] / "shared"))
 from places import PROGRAM
 from drawn_registers import DAY, FULL, HOSTILE, changed, drawn, first_version, made, rows_of
-from registers import File, copy_files, keyreg, new_register
+from registers import File, copy_files, database, keyreg, new_register
 from register_rules import OF_VERSION_2
-from rules_shown import tables
 from script import expect, fresh_folder, in_order, options, verdict
-from tools import exported, registers_after, words_of
+from tools import run_tool, words_of
 
 # So long, in seconds, a program that was left alone may take to its end.
 PATIENCE = 120
@@ -40,12 +39,13 @@ def follow(register: File, standby: File, program: File = PROGRAM) -> subprocess
 def expect_end(status: int, text: str, register: File, standby: File, program: File = PROGRAM) -> None:
     """A call ends with this status and a line of this text; one that reports a fault leaves the standby as it was."""
     is_register = os.path.exists(standby) and b"SQLite" in pathlib.Path(standby).read_bytes()[:16]
-    before = kept(standby) if is_register else {}
+    before = rows_of(copy_files(standby, f"{standby}.before")) if is_register else {}
     call = follow(register, standby, program)
     output, error = call.communicate()
     end = (error or output).decode()
     expect(call.returncode == status and text in end.splitlines()[-1], f"{register}, {standby}: {end}, no {text!r}")
-    expect(not status or not before or kept(standby) == before, f"{register}, {standby}: the standby was changed")
+    is_left = not status or not before or rows_of(copy_files(standby, f"{standby}.after")) == before
+    expect(is_left, f"{register}, {standby}: the standby was changed")
 
 
 def killed(register: File, standby: File, seconds: float, chance: random.Random) -> bool:
@@ -70,25 +70,17 @@ def killed(register: File, standby: File, seconds: float, chance: random.Random)
 
 
 def kept(file: File) -> Rows:
-    """The rows of a copy of the two files; of a file without tables none."""
+    """The rows of a copy of the two files, which by office/replay.py are what the requests among them give; of a file
+    without tables none."""
     copy = copy_files(file, pathlib.Path(file).with_name("look.keyreg"))
-    return rows_of(copy) if os.path.exists(copy) else {}
-
-
-def holds_prefix(looks: Iterable[Rows], lines: Iterable[str]) -> None:
-    """Each look found the tables of a prefix of the accepted lines."""
-    by_count: dict[int, list[Rows]] = {}
-    for rows in filter(None, looks):
-        by_count.setdefault(len(rows["request"]), []).append({name: sorted(of) for name, of in rows.items()})
-    for _, register in registers_after(lines):
-        for rows in by_count.pop(len(register.kept), ()):
-            expect(rows == tables(register), f"a standby of {len(register.kept)} requests is another register")
-    expect(not by_count, f"a standby had {list(by_count)} requests, more than were accepted")
+    rows = rows_of(copy) if os.path.exists(copy) else {}
+    expect(not rows or run_tool("replay", copy).returncode == 0, f"{file} is not what its requests give")
+    return rows
 
 
 def killed_at_random(folder: pathlib.Path, lines: list[str], given: Any, chance: random.Random) -> tuple[int, int]:
     """How many calls were killed before their end, and how many requests the standby has at last."""
-    register, standby, looks, going = folder / "office.keyreg", folder / "standby.keyreg", list[Rows](), 0
+    register, standby, looks, going = folder / "office.keyreg", folder / "standby.keyreg", list[list[tuple]](), 0
     new_register(register)
     with subprocess.Popen([PROGRAM, "run", "--file", register], stdin=subprocess.PIPE,
                           stdout=subprocess.PIPE) as program:
@@ -104,21 +96,19 @@ def killed_at_random(folder: pathlib.Path, lines: list[str], given: Any, chance:
         writer.start()
         while going < given.kills and (writer.is_alive() or len(looks) < given.kills):
             going += killed(register, standby, chance.uniform(0, given.longest), chance)
-            looks.append(kept(standby))
+            looks.append(kept(standby).get("request", []))
         writer.join()
     expect(program.returncode == 0, "the register ended before all was given")
-    holds_prefix(looks, lines)
-    counts = [len(rows.get("request", ())) for rows in looks]
+    wanted, counts = rows_of(register), [len(rows) for rows in looks]
+    count = len(wanted["request"])
+    for rows in looks:
+        in_order(rows, wanted["request"][:len(rows)], "a standby of the first requests")
     expect(counts == sorted(counts), f"the standby lost requests: {counts}")
     expect(len(set(counts)) > 2, f"the standby had {counts} requests: too few looks to tell")
-    wanted = rows_of(register)
-    count = len(wanted["request"])
     expect_end(0, f", {count} in all", register, standby)
     rows = rows_of(standby)
     for name in wanted:
         in_order(rows[name], wanted[name], f"at the end: {name}")
-    export = exported(register)
-    expect(export == exported(standby) and export.count("\n") > 1, "at the end: another export")
     expect_end(0, f": 0 requests given, {count} in all", register, standby)
     return going, count
 
@@ -155,7 +145,11 @@ def no_standbys(folder: pathlib.Path) -> None:
         other.stdout.readline()
         expect_end(3, "ended with status 2", full, fresh)
         other.stdin.close()
-    expect_end(0, f"{len(FULL) - 1} in all", full, fresh)
+    bare = folder / "bare.keyreg"
+    with database(bare) as connection:
+        connection.execute("PRAGMA user_version = 1")
+    for standby in (fresh, bare):
+        expect_end(0, f"{len(FULL) - 1} in all", full, standby)
 
 
 def main() -> None:
