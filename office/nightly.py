@@ -1,7 +1,7 @@
 #!/usr/bin/env python3
 """A nightly look at a register, served or not: a copy is taken and held to its own requests and to the last good copy
 by replay.py, exported, and drawn. What keyreg-nightly.service calls; it stands beside replay.py, register_rules.py and
-timeline.py.
+timeline.py with its style and its script.
 
     nightly.py --file FILE --folder FOLDER [--keyreg PROGRAM] [--nights N] [--stale SECONDS] [--room PERCENT]
 

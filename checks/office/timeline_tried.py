@@ -56,51 +56,7 @@ WIDTHS = (380, 800, 1600)
 TIMES = 3
 TAGS = ("html head meta title style body h1 p div span svg rect path line text defs pattern circle form label "
         "select option input button script noscript table colgroup col thead tbody tr th td")
-# All elements of the page, or those of each key's row, with their attributes and texts.
-ELEMENTS = """
-const all = (place) => [...place.querySelectorAll('*')].map((one) => ({tag: one.localName, text: one.textContent,
-  ...Object.fromEntries([...one.attributes].map((its) => [its.name, its.value]))}));
-return [all(document), [...document.querySelectorAll('tr.key')].map((row) => ({...row.dataset, parts: all(row)}))];
-"""
-# What a person can see and reach of the page, in at most so many rows, if not in all.
-PROBE = """
-const seen = element => element.getClientRects().length > 0;
-const box = element => element.getBoundingClientRect();
-const rows = [...document.querySelectorAll('tr.key')], most = arguments[0] || rows.length;
-document.body.style.display = 'none';
-document.body.getBoundingClientRect();
-document.body.style.display = '';
-const begun = performance.now();
-const view = {width: innerWidth, wider: document.documentElement.scrollWidth - innerWidth};
-view.laid = performance.getEntriesByType('navigation')[0].loadEventEnd + performance.now() - begun;
-const heads = [...document.querySelectorAll('th')].filter(seen);
-view.heads = heads.map(head => head.getAttribute('aria-label') || head.textContent);
-view.above = heads.map(head => Math.round(box(head).left));
-view.below = rows.length ? [...rows[0].cells].filter(seen).map(cell => Math.round(box(cell).left)) : [];
-view.over = rows.filter(row => [...row.cells].filter(seen).some((cell, place, cells) => {
-  const next = cells[place + 1], hides = getComputedStyle(cell).overflowX === 'hidden';
-  return !hides || next && box(next).top < box(cell).bottom - 2 && box(next).left < box(cell).right - 1;
-})).map(row => row.dataset.number);
-const pages = document.querySelector('.pages');
-const middles = [...pages.children].map(one => (box(one).top + box(one).bottom) / 2);
-view.lines = 1 + Math.floor((Math.max(...middles) - Math.min(...middles)) / 10);
-view.pages = [...pages.children].map(one => one.textContent);
-view.live = document.getElementById('count').getAttribute('role');
-view.paper = getComputedStyle(document.body).backgroundColor;
-view.reached = rows.slice(0, most).map(row => {
-  const button = row.querySelector('button');
-  button.focus();
-  const is_reached = document.activeElement === button && button.tabIndex === 0;
-  button.click();
-  const more = row.nextElementSibling;
-  const is_open = more !== null && more.className === 'more' && seen(more)
-    && button.getAttribute('aria-expanded') === 'true';
-  const texts = is_open ? [...more.querySelectorAll('dd')].map(one => one.textContent) : [];
-  button.click();
-  return [is_reached && is_open, texts];
-});
-return view;
-"""
+PROBE = pathlib.Path(__file__).with_name("page_seen.js")
 
 # A row of an export with its dates in seconds, and its state.
 Row = Mapping[str, Any]
@@ -159,16 +115,20 @@ class Browser:
         console = self.driver.get_log("browser")
         expect(not console, f"chromium: {console[:3]}")
 
+    def asked(self, question: str) -> Any:
+        """What a call of the probe gives."""
+        return self.driver.execute_script(f"{PROBE.read_text(encoding='utf-8')}\nreturn {question};")
+
     def elements(self, name: str, fragment: str = "") -> tuple[list[Any], list[Any]]:
         """The elements of the page after its script, and its rows of keys."""
         self.open(name, fragment)
-        return self.driver.execute_script(ELEMENTS)
+        return self.asked("elements()")
 
     def seen(self, name: str, width: int, is_dark: bool = False, most: int = 0) -> dict[str, Any]:
         """What the probe found of the page at a width."""
         as_seen(self.driver, width, 900, is_dark)
         self.open(name)
-        view = self.driver.execute_script(PROBE, most)
+        view = self.asked(f"view({most})")
         as_usual(self.driver)
         return view
 
