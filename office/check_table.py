@@ -57,7 +57,7 @@ MARKS = str.maketrans({"“": '"', "”": '"', "„": '"', "‘": "'", "’": "'
 
 # ---- what a spreadsheet may have made of a text
 
-@functools.lru_cache(maxsize=None)
+@functools.cache
 def number_of(text):
     """The number that a spreadsheet takes the text for, with the 15 digits that it keeps, or None."""
     if not re.fullmatch(r"[+-]?(\d+\.?\d*|\.\d+)([eE][+-]?\d{1,3})?", text):
@@ -72,17 +72,15 @@ def is_close(number, other):
     return context.plus(number).normalize() == context.plus(other).normalize()
 
 
-@functools.lru_cache(maxsize=None)
+@functools.cache
 def days_of(text):
     """Each day that the text may stand for, as month and day, in one form or another; the year may be gone."""
     plain, days = " ".join(re.sub(r"[TZ]", " ", text).split()), set()
     for form in SHAPED.get(re.sub(r"[^\W\d_]+", "a", re.sub(r"\d+", "0", plain)), ()):
         with contextlib.suppress(ValueError):
             # A day without a year is one of a leap year.
-            if "%y" not in form.lower():
-                day = datetime.strptime(f"2000 {plain}", f"%Y {form}")
-            else:
-                day = datetime.strptime(plain, form)
+            year, form_of_year = ("", "") if "%y" in form.lower() else ("2000 ", "%Y ")
+            day = datetime.strptime(year + plain, form_of_year + form)
             days.add((day.month, day.day))
     return days
 

@@ -60,10 +60,6 @@ def as_bytes(text):
     return text.encode(errors="backslashreplace")
 
 
-class Unwritten(Exception):
-    """The list cannot be written."""
-
-
 class Names(dict):
     """The places of names, in the order in which they are asked for."""
 
@@ -161,22 +157,18 @@ def pieces_of(members, keys):
 
 def put(path, pieces):
     """Moves a file of these bytes into the place, whole; how many there are."""
-    folder = os.path.dirname(os.path.abspath(path))
+    handle, other = tempfile.mkstemp(prefix=".list-", dir=os.path.dirname(os.path.abspath(path)))
     try:
-        handle, other = tempfile.mkstemp(prefix=".list-", dir=folder)
-        try:
-            with os.fdopen(handle, "wb") as file:
-                size = sum(map(file.write, pieces))
-                file.flush()
-                os.fsync(handle)
-            os.chmod(other, 0o640)
-            os.replace(other, path)
-        except BaseException:
-            with contextlib.suppress(OSError):
-                os.remove(other)
-            raise
-    except OSError as fault:
-        raise Unwritten(f"{path} cannot be written: {fault.strerror}") from None
+        with os.fdopen(handle, "wb") as file:
+            size = sum(map(file.write, pieces))
+            file.flush()
+            os.fsync(handle)
+        os.chmod(other, 0o640)
+        os.replace(other, path)
+    finally:
+        # It is there still where it could not be moved.
+        with contextlib.suppress(OSError):
+            os.remove(other)
     return size
 
 
@@ -193,8 +185,8 @@ def main():
     except (Unreadable, sqlite3.Error, ValueError) as fault:
         print(f"{words.register} cannot be read as a register: {fault}", file=sys.stderr)
         return 2
-    except Unwritten as fault:
-        print(fault, file=sys.stderr)
+    except OSError as fault:
+        print(f"{words.list} cannot be written: {fault.strerror}", file=sys.stderr)
         return 3
     count = f"{members['count']} keys" if keys else f"no keys, since there are {members['count']}"
     print(f"{words.list}: {count}, up to {text_of(members['latest'])}, {size} bytes")

@@ -187,8 +187,7 @@ class File:
             place = row[:2]
             if place in came:
                 continue
-            if place in self.twice:
-                came.add(place)
+            came |= self.twice.keys() & {place}
             try:
                 yield accepted_of(row, self.version)
             except (ValueError, TypeError, AttributeError):

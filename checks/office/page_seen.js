@@ -42,7 +42,7 @@ function view(most) {
       && button.getAttribute('aria-expanded') === 'true';
     const texts = is_open ? [...more.querySelectorAll('dd')].map(one => one.textContent) : [];
     button.click();
-    return [is_reached && is_open && row.nextElementSibling !== more, texts];
+    return [is_reached && is_open && !row.nextElementSibling?.classList.contains('more'), texts];
   });
   return found;
 }

@@ -10,7 +10,6 @@ import pathlib
 import random
 import re
 import shutil
-import subprocess
 import sys
 import time
 from typing import Any, Iterator
@@ -19,11 +18,11 @@ sys.path.insert(1, str(pathlib.Path(__file__).resolve().parents[1] / "shared"))
 from places import VERSION_1
 from drawn_registers import DAY, FULL, KINDS, at_one_moment, changed, drawn, made, rows_of
 from registers import File, answered_and_killed, columns_of, copy_files, database, keyreg, new_register
-from script import expect, fresh_folder, options, verdict
+from script import expect, fresh_folder, options, output_of, verdict
 from tools import many_requests, run_tool, words_of
 
 # So many bytes any requests may take, and each of them.
-LEAST_BYTES, BYTES_OF_ONE = 40 << 20, 350
+LEAST_BYTES, BYTES_OF_ONE = 20 << 20, 250
 # What a cell becomes. A request is what is replayed: of its own columns these are changes that the others belie.
 OTHER = "CASE typeof({0}) WHEN 'text' THEN 'x' || {0} ELSE {0} + 100 END"
 REQUEST = {"caller": "'nobody'", "number": "0", "command": "'assign 1 nobody'", "key_no": "2", "state": "5",
@@ -238,21 +237,15 @@ def logs(folder: pathlib.Path) -> int:
     return len(ways)
 
 
-def measured(folder: pathlib.Path, count: int) -> tuple[float, int]:
-    """The seconds and the megabytes that a register of so many requests takes, with some of each kind."""
+def measured(folder: pathlib.Path, count: int) -> float:
+    """The seconds that a register of so many requests takes, some of each kind, in no more memory than it may."""
     file, accepted = made(folder, f"many_{count}", many_requests(count, KINDS, [f"rack {n}" for n in range(1000)]))
     expect(accepted == count // 2 * 2, f"{accepted} of {count} accepted")
-    begun, kilobytes = time.monotonic(), 0
-    with subprocess.Popen(words_of("replay", file), stdout=subprocess.DEVNULL) as process:
-        while process.poll() is None:
-            peak = re.search(r"VmHWM:\s*(\d+)", pathlib.Path(f"/proc/{process.pid}/status").read_text("ascii"))
-            kilobytes = max(kilobytes, int(peak[1]) if peak else 0)
-            time.sleep(0.02)
-    seconds, most = time.monotonic() - begun, LEAST_BYTES + BYTES_OF_ONE * count
-    expect(process.returncode == 0, f"many requests: {process.returncode}")
-    expect(0 < kilobytes << 10 <= most, f"{count} requests took {kilobytes >> 10} MB, and not {most >> 20}")
+    begun = time.monotonic()
+    output_of(["prlimit", f"--data={LEAST_BYTES + BYTES_OF_ONE * count}", *words_of("replay", file)])
+    seconds = time.monotonic() - begun
     expect_told(file, 1, "keys 1: owner is 'eve'.*'bob'", OWNER_CHANGED)
-    return seconds, kilobytes >> 10
+    return seconds
 
 
 def main() -> None:
@@ -264,11 +257,11 @@ def main() -> None:
         count = planted(folder, first, full) + earlier_copies(folder, full, chance)
         read_as_keyreg(folder, full)
         kinds = logs(folder)
-        few, _ = measured(folder, given.requests // 4)
-        seconds, megabytes = measured(folder, given.requests)
+        few, seconds = measured(folder, given.requests // 4), measured(folder, given.requests)
     expect(seconds <= 8 * few, f"{given.requests} requests took {seconds:.1f} seconds, and a quarter of them {few:.1f}")
     verdict(f"registers are what their requests give; each of {count} planted changes was found; {kinds} logs were "
-            f"counted as SQLite does; {given.requests} requests took {seconds:.1f} seconds and {megabytes} MB")
+            f"counted as SQLite does; {given.requests} requests took {seconds:.1f} seconds and no more memory than "
+            "they may")
 
 
 main()
