@@ -38,13 +38,12 @@ def follow(register: File, standby: File, program: File = PROGRAM) -> subprocess
 
 def expect_end(status: int, text: str, register: File, standby: File, program: File = PROGRAM) -> None:
     """A call ends with this status and a line of this text; one that reports a fault leaves the standby as it was."""
-    is_register = os.path.exists(standby) and b"SQLite" in pathlib.Path(standby).read_bytes()[:16]
-    before = rows_of(copy_files(standby, f"{standby}.before")) if is_register else {}
+    before = pathlib.Path(standby).read_bytes() if os.path.exists(standby) else None
     call = follow(register, standby, program)
     output, error = call.communicate()
     end = (error or output).decode()
     expect(call.returncode == status and text in end.splitlines()[-1], f"{register}, {standby}: {end}, no {text!r}")
-    is_left = not status or not before or rows_of(copy_files(standby, f"{standby}.after")) == before
+    is_left = not status or before is None or pathlib.Path(standby).read_bytes() == before
     expect(is_left, f"{register}, {standby}: the standby was changed")
 
 

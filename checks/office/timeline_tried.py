@@ -163,13 +163,13 @@ def looked_at(browser: Browser, name: str, export: str, page: int = 1) -> list[R
     table = next(element for element in elements if element["tag"] == "table")
     first, last = int(table["data-first"]), int(table["data-last"])
     in_order([row["number"] for row in drawn_rows], [row["number"] for row in rows], name)
-    fills = dict[str, set[Any]]()
     for row, shown in zip(rows, drawn_rows):
         texts = {part["class"].split()[0]: part["text"] for part in shown["parts"] if part["tag"] == "td"}
         shapes = {part.get("class", "") for part in shown["parts"]}
-        # A bar is seen, however short its span is.
+        fill = STATES.index(row["state"]) - 1
         spans = [(kind, *(100 * min(max((moment - first) / (last - first), 0), 1) for moment in span))
                  for kind, *span in spans_of(row)]
+        # A bar is seen, however short its span is.
         is_line = all(kind == other and abs(begin - x) < .01 and abs(end - until) < .06 for
                       (kind, begin, end), (other, x, until) in zip(spans, drawn_spans(shown["parts"]), strict=True))
         for what, is_so, wanted in (
@@ -179,14 +179,10 @@ def looked_at(browser: Browser, name: str, export: str, page: int = 1) -> list[R
                  [row["owner"], row["type"], row["due"] or row["state"], plain(row["purpose"])]),
                 ("has marks", [part in shapes for part in ("mark compromised", "solid destroyed", "solid rotation")],
                  [row["compromised"] is not None, row["destroyed"] is not None, bool(row["due"])]),
+                ("is filled as", {(part["fill"], part["stroke"]) for part in shown["parts"] if part["tag"] == "rect"},
+                 {(f"url(#s{fill})", f"var(--s{fill})") for kind, *_ in spans if kind != "wait"}),
                 (f"has the line {list(drawn_spans(shown['parts']))} of {spans}:", is_line, True)):
             expect(is_so == wanted, f"key {row['number']} {what} {is_so}, not {wanted}")
-        fills.setdefault(row["state"], set()).update(
-            (part["fill"], part["stroke"]) for part in shown["parts"] if part["tag"] == "rect")
-    colours = [of_state for of_state in fills.values() if of_state]
-    expect(all(len(both) == 1 for both in colours), f"a state has several colours: {fills}")
-    for which in zip(*(next(iter(both)) for both in colours)):
-        expect(len(set(which)) == len(colours), f"states look alike: {fills}")
     return rows
 
 
