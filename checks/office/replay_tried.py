@@ -119,17 +119,17 @@ def changes_of(file: File) -> Iterator[tuple[int, str, str]]:
     for table in rows_of(file):
         first, *others = columns = columns_of(table)
         row, values = f"rowid = (SELECT max(rowid) FROM {table})", {column: OTHER.format(column) for column in columns}
-        more, gone, told = ", ".join([f"{first} + 100", *others]), row, f"^{table}"
+        more, gone = ", ".join([f"{first} + 100", *others]), row
         if table == "request":
             row, values = "command IN ('set-quorum 3 3', 'assign 9 fay')", REQUEST
-            more, gone, told = "'zed', 900, 'register master bob - - - x', 51, 1, 99", "rowid = 1", ""
+            more, gone = "'zed', 900, 'register master bob - - - x', 51, 1, 99", "rowid = 1"
         for column, value in values.items():
             names_row = column == first or table in ("custodian", "approval", "request")
-            status, text = (2, "") if column == "version" else (1, f"^{table}" if names_row else f"{column} is ")
-            yield status, text, f"UPDATE {table} SET {column} = {value} WHERE {row}"
+            status, told = (2, "") if column == "version" else (1, f"^{table} " + f".*{column} is " * (not names_row))
+            yield status, told, f"UPDATE {table} SET {column} = {value} WHERE {row}"
         # Without its one row in `meta` it is no register.
-        status, told = (2, "") if table == "meta" else (1, told)
-        yield status, f"{told}", f"INSERT INTO {table} SELECT {more} FROM {table} WHERE {row}"
+        status, told = (2, "") if table == "meta" else (1, f"^{table} ")
+        yield status, told, f"INSERT INTO {table} SELECT {more} FROM {table} WHERE {row}"
         yield status, told, f"DELETE FROM {table} WHERE {gone}"
 
 
