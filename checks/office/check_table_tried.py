@@ -77,7 +77,6 @@ class Desk:
         new_register(copy_files(None, self.file))
         self.import_rows(keys, 1, "ok")
         self.keys = self.write_export()
-        put(self.table, self.keys)
 
     def write_export(self) -> list[dict[str, str]]:
         export = exported(self.file)
