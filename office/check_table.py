@@ -17,8 +17,8 @@ it:
 Each such field is printed, with its row (the first after the header row is 1) and its key. So are rows that are keys
 already, whose import makes a second key: type, owner, purpose and each date that the row gives are the key's, and of a
 row without dates the key is in use. So are rows that ask for the same key as a row before them, and rows that the
-register would refuse for their form. register_rules.py has to stand beside it. With a copy of the register
-(docs/AUDIT.md takes one) it prints the first number that the caller's next import may take. The last line is the
+register would refuse for their form. With a copy of the register (docs/AUDIT.md takes one) it prints the first number
+that the caller's next import may take. register_rules.py and replay.py have to stand beside it. The last line is the
 verdict. The status is 0 where every row is new and would be a request, 1 where not, 2 where a file cannot be read.
 """
 import argparse
@@ -29,27 +29,20 @@ import decimal
 import functools
 import io
 import itertools
-import os
 import pathlib
 import re
-import shutil
-import sqlite3
 import sys
-import tempfile
 from datetime import datetime
 
 # What is read from beside this file leaves none there.
 sys.dont_write_bytecode = True
-from register_rules import PERIODS, Refused, fitted, moment_of
+from register_rules import GREATEST_NUMBER, MOMENT_TEXT, NAME, NO_PURPOSE, PERIODS, Refused, fitted, moment_of
+from replay import Unreadable, opened
 
 COLUMNS = "type owner activation protect_stop deactivation purpose".split()
 DATES = COLUMNS[2:5]
 WORDS = ("type", "owner", "purpose")
 IN_USE = ("Pre-Active", "Active")
-NAME = re.compile("[A-Za-z0-9._@-]{1,64}")
-MOMENT = re.compile(r"\d{4}-\d\d-\d\dT\d\d:\d\d:\d\dZ")
-CONTROL = re.compile("[\0-\x1f\x7f]")
-GREATEST_NUMBER = 9007199254740991
 FORMULA = "taken for a formula, and this is its result"
 # How spreadsheets write dates, the least ambiguous first.
 FORMS = ["%Y-%m-%d", "%Y/%m/%d", "%d.%m.%Y", "%d.%m.%y", "%m/%d/%Y", "%m/%d/%y", "%d/%m/%Y", "%d/%m/%y", "%d-%m-%Y",
@@ -62,13 +55,9 @@ for form, clock in itertools.product(FORMS, CLOCKS):
 MARKS = str.maketrans({"“": '"', "”": '"', "„": '"', "‘": "'", "’": "'", "–": "-", "—": "-", "…": "..."})
 
 
-class Unreadable(Exception):
-    """A file that is no table, or no register."""
-
-
 # ---- what a spreadsheet may have made of a text
 
-@functools.lru_cache(maxsize=None)
+@functools.cache
 def number_of(text):
     """The number that a spreadsheet takes the text for, with the 15 digits that it keeps, or None."""
     if not re.fullmatch(r"[+-]?(\d+\.?\d*|\.\d+)([eE][+-]?\d{1,3})?", text):
@@ -83,17 +72,15 @@ def is_close(number, other):
     return context.plus(number).normalize() == context.plus(other).normalize()
 
 
-@functools.lru_cache(maxsize=None)
+@functools.cache
 def days_of(text):
     """Each day that the text may stand for, as month and day, in one form or another; the year may be gone."""
     plain, days = " ".join(re.sub(r"[TZ]", " ", text).split()), set()
     for form in SHAPED.get(re.sub(r"[^\W\d_]+", "a", re.sub(r"\d+", "0", plain)), ()):
         with contextlib.suppress(ValueError):
             # A day without a year is one of a leap year.
-            if "%y" not in form.lower():
-                day = datetime.strptime(f"2000 {plain}", f"%Y {form}")
-            else:
-                day = datetime.strptime(plain, form)
+            year, form_of_year = ("", "") if "%y" in form.lower() else ("2000 ", "%Y ")
+            day = datetime.strptime(year + plain, form_of_year + form)
             days.add((day.month, day.day))
     return days
 
@@ -156,11 +143,17 @@ def refusals(row):
     if not NAME.fullmatch(row["owner"]):
         yield f"owner is {row['owner']!r}, which is no name"
     for column in DATES:
-        if row[column] and not MOMENT.fullmatch(row[column]):
+        if row[column] and not MOMENT_TEXT.fullmatch(row[column]):
             yield f"{column} is {row[column]!r}, and not YYYY-MM-DDTHH:MM:SSZ"
     purpose = row["purpose"]
-    if not 1 <= len(purpose.encode()) <= 200 or purpose != purpose.strip(" ") or CONTROL.search(purpose):
+    if not 1 <= len(purpose.encode()) <= 200 or purpose != purpose.strip(" ") or NO_PURPOSE.search(purpose):
         yield f"purpose is {purpose[:60]!r}, which is empty, too long, or has a space at an end or a control character"
+
+
+def forms(text):
+    """The text, and the number that it may have been or become."""
+    number = number_of(text)
+    return {text} if number is None else {text, decimal.Context(prec=6).plus(number).normalize()}
 
 
 class Keys:
@@ -172,20 +165,14 @@ class Keys:
             for date in {"", *(key[column] for column in DATES)}:
                 self.by_words[(*(key[column] for column in WORDS), date)].append(place)
             for column in COLUMNS[1:]:
-                for form in self.forms(key[column]):
+                for form in forms(key[column]):
                     self.by_field[column, form].append(place)
         self.taken = set()
-
-    @staticmethod
-    def forms(text):
-        number = number_of(text)
-        return {text} | ({decimal.Context(prec=6).plus(number).normalize()} if number is not None else set())
 
     def made(self, row):
         """The key that the row may have made already, or None: each date that it gives is the key's."""
         given = [column for column in DATES if row[column]]
-        first = row[given[0]] if given else ""
-        for place in self.by_words.get((*(row[column] for column in WORDS), first), ()):
+        for place in self.by_words.get((*(row[column] for column in WORDS), row[given[0]] if given else ""), ()):
             key = self.keys[place]
             is_it = all(row[column] == key[column] for column in given)
             if is_it and (given or key.get("state", "Active") in IN_USE):
@@ -195,14 +182,12 @@ class Keys:
 
     def likely(self, row, place):
         """The keys that the row may have come from: that at its own place, and those that share most fields with it."""
-        if place < len(self.keys):
-            yield place
         shared = collections.Counter()
-        for column in COLUMNS[1:]:
-            for form in self.forms(row[column]):
-                places = self.by_field[column, form] if row[column] else []
-                shared.update(places if len(places) <= MOST_LIKE else [])
-        yield from (other for other, _ in shared.most_common(MOST_LIKE) if other != place)
+        for column, form in ((column, form) for column in COLUMNS[1:] if row[column] for form in forms(row[column])):
+            places = self.by_field[column, form]
+            shared.update(places if len(places) <= MOST_LIKE else [])
+        return [place] * (place < len(self.keys)) + [other for other, _ in shared.most_common(MOST_LIKE)
+                                                     if other != place]
 
     def changed(self, row, place):
         """The key that the row came from, with what became of its fields; that at its own place is asked first."""
@@ -246,43 +231,33 @@ def asked_for(row):
 SORTS = ("changed by a spreadsheet", "there already", "repeated", "of another form", "new")
 
 
-def looked_at(rows, keys):
-    """A line for each thing to tell of the rows, and how many rows are of each sort."""
-    counts, before = collections.Counter(), {}
+def looked_at(rows, keys, counts):
+    """A line for each thing to tell of the rows, which are counted by their sorts."""
+    before = {}
     for place, row in enumerate(rows):
-        key = keys.made(row) if row else None
-        if key:
+        others, changes, row_no = list(refusals(row)), {}, f"row {place + 1}"
+        if row and (key := keys.made(row)):
             counts["there already"] += 1
-            yield f"row {place + 1}: it is key {key['number']} already, and its import makes a second one"
+            yield f"{row_no}: it is key {key['number']} already, and its import makes a second one"
             continue
-        first = place if row is None or list(refusals(row)) else before.setdefault(asked_for(row), place)
-        if first != place:
+        if not others and (first := before.setdefault(asked_for(row), place)) != place:
             counts["repeated"] += 1
-            yield f"row {place + 1}: it is row {first + 1} again, and its import makes a second key"
+            yield f"{row_no}: it is row {first + 1} again, and its import makes a second key"
             continue
-        key, changes = keys.changed(row, place) if row else (None, {})
+        if row:
+            key, changes = keys.changed(row, place)
         for column, how in changes.items():
-            yield f"row {place + 1} (key {key['number']}): {column} was {key[column]!r} and is {row[column]!r}: {how}"
-        others = [why for why in refusals(row) if why.split(" ")[0] not in changes]
-        for why in others:
-            yield f"row {place + 1}: {why}"
+            yield f"{row_no} (key {key['number']}): {column} was {key[column]!r} and is {row[column]!r}: {how}"
+        others = [why for why in others if why.split(" ")[0] not in changes]
+        yield from (f"{row_no}: {why}" for why in others)
         counts["changed by a spreadsheet" if changes else "of another form" if others else "new"] += 1
-    yield counts["new"] == len(rows), ", ".join(f"{counts[sort]} {sort}" for sort in SORTS)
 
 
-def next_first(path, caller):
-    """The greatest number of the caller's accepted requests, by a copy of the copy."""
-    with tempfile.TemporaryDirectory() as folder:
-        other = pathlib.Path(folder, "copy")
-        try:
-            for end in ("", "-wal"):
-                if not end or os.path.exists(path + end):
-                    shutil.copyfile(path + end, f"{other}{end}")
-            with contextlib.closing(sqlite3.connect(other.as_uri() + "?mode=ro", uri=True)) as connection:
-                asked = "SELECT max(number) FROM request WHERE caller = ?"
-                return connection.execute(asked, [caller]).fetchone()[0] or 0
-        except (OSError, sqlite3.Error) as fault:
-            raise Unreadable(f"{path}: {fault}") from None
+def last_number(path, caller):
+    """The greatest number of the caller's accepted requests."""
+    with opened(path) as connection:
+        asked = "SELECT max(number) FROM request WHERE caller = ?"
+        return connection.execute(asked, [caller]).fetchone()[0] or 0
 
 
 def main():
@@ -296,21 +271,19 @@ def main():
         sys.exit("--copy and --caller are given together")
     try:
         keys = Keys([key for key in rows_of(words.export, ["number", *COLUMNS]) if key])
-        rows = rows_of(words.table, COLUMNS)
-        for line in looked_at(rows, keys):
-            if isinstance(line, str):
-                print(line, flush=True)
-        is_new, counts = line
+        rows, counts = rows_of(words.table, COLUMNS), collections.Counter()
+        for line in looked_at(rows, keys, counts):
+            print(line, flush=True)
         if words.copy:
-            last = next_first(words.copy, words.caller)
+            last = last_number(words.copy, words.caller)
             has_room = last + len(rows) <= GREATEST_NUMBER
             first = f"--first {last + 1}" if has_room else "none above: take one that is free"
             print(f"the next first number of {words.caller}: {first}")
     except Unreadable as fault:
         print(fault)
         return 2
-    print(f"{words.table}: {len(rows)} rows: {counts}")
-    return 0 if is_new else 1
+    print(f"{words.table}: {len(rows)} rows: {', '.join(f'{counts[sort]} {sort}' for sort in SORTS)}")
+    return 0 if counts["new"] == len(rows) else 1
 
 
 if __name__ == "__main__":

@@ -28,8 +28,10 @@ What it takes off its writer:
 """
 import argparse
 import base64
+import contextlib
 import fcntl
 import http.client
+import itertools
 import json
 import os
 import sys
@@ -98,9 +100,6 @@ class Numbers:
         os.close(folder)
         self.last, self.request = last, request
 
-    def close(self):
-        os.close(self.lock)
-
 
 class Client:
     """A caller of a served register. For `patience` seconds it sends again, None is for good, with a pause that doubles
@@ -122,7 +121,7 @@ class Client:
         return self
 
     def __exit__(self, *_):
-        self.numbers.close()
+        os.close(self.numbers.lock)
 
     # ---- requests
 
@@ -207,15 +206,13 @@ class Client:
 
     def keys(self) -> Iterator[dict[str, Any]]:
         """Each key in turn. There is no list of them: they have the numbers from 1 on."""
-        number = 1
-        while True:
+        for number in itertools.count(1):
             try:
                 yield self.key(number)
             except Refused as refusal:
-                if refusal.name == "UnknownKey":
-                    return
-                raise
-            number += 1
+                if refusal.name != "UnknownKey":
+                    raise
+                return
 
     # ---- exchanges
 
@@ -256,14 +253,12 @@ class Client:
 
 def meant(status: int, text: bytes) -> dict[str, Any]:
     """The object of an answer of keyreg's own; a refusal is raised, and so is what keyreg does not write."""
-    try:
+    with contextlib.suppress(ValueError):
         reply = json.loads(text)
-    except ValueError:
-        raise Unexpected(status, text) from None
-    if status == 200 and isinstance(reply, dict):
-        return reply
-    if isinstance(reply, dict) and isinstance(reply.get("refused"), int):
-        raise Refused(reply)
+        if isinstance(reply, dict) and status == 200:
+            return reply
+        if isinstance(reply, dict) and isinstance(reply.get("refused"), int):
+            raise Refused(reply)
     raise Unexpected(status, text)
 
 
@@ -282,20 +277,20 @@ def main():
         return 2
 
 
-def line_of(reply):
-    """As a reply line has it."""
-    return f"{reply.key} {reply.state or '-'} {reply.moment}"
+def told(word, reply):
+    """Prints a reply as a reply line has it."""
+    print(word, reply.key, reply.state or "-", reply.moment, flush=True)
 
 
 def typed(office, lines):
     """Sends what has no answer yet, and then the request of each line; the status is 1 where one was refused."""
     status, resumed = 0, office.resume()
     if resumed:
-        print("resumed", line_of(resumed), flush=True)
+        told("resumed", resumed)
     for line in lines:
         request = json.loads(line)
         try:
-            print("ok", line_of(office.ask(request.pop("kind"), **request)), flush=True)
+            told("ok", office.ask(request.pop("kind"), **request))
         except Refused as refusal:
             status = 1
             values = (f"{name}={value}" for name, value in refusal.values.items())

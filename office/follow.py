@@ -36,16 +36,12 @@ TRIES = 50
 ROWS = "SELECT caller, number, command, key_no, state, moment FROM request NOT INDEXED ORDER BY "
 
 
-class Differs(Exception):
-    """The standby is, or would become, another register than the first part of the register."""
+class Fault(Exception):
+    """What ends a call with another status than 0."""
 
-
-class Unread(Exception):
-    """A file that cannot be read."""
-
-
-class Ended(Exception):
-    """The program did not go on."""
+    def __init__(self, status, text):
+        super().__init__(text)
+        self.status = status
 
 
 @contextlib.contextmanager
@@ -54,7 +50,7 @@ def reading(path):
         with opened(path, TRIES) as connection:
             yield connection
     except Unreadable as fault:
-        raise Unread(f"{path} cannot be read: {fault}") from None
+        raise Fault(2, f"{path} cannot be read: {fault}") from None
 
 
 def rows_of(connection):
@@ -76,10 +72,10 @@ def further(rows, standby):
         for place, held in enumerate(rows_of(connection), 1):
             row = next(rows, None)
             if row is None:
-                raise Differs(f"request {place} is in the standby alone, {shown(held)}: the register is an older one "
-                              "than it was, or the standby was written to")
+                raise Fault(1, f"request {place} is in the standby alone, {shown(held)}: the register is an older one "
+                               "than it was, or the standby was written to")
             if row != held:
-                raise Differs(f"request {place} is {shown(row)} in the register, and {shown(held)} in the standby")
+                raise Fault(1, f"request {place} is {shown(row)} in the register, and {shown(held)} in the standby")
     return place
 
 
@@ -95,7 +91,7 @@ def run(words, **how):
     try:
         return subprocess.Popen(words, **how)
     except OSError as fault:
-        raise Ended(f"{words[0]}: {fault.strerror}") from None
+        raise Fault(3, f"{words[0]}: {fault.strerror}") from None
 
 
 def give(rows, standby, program):
@@ -106,7 +102,7 @@ def give(rows, standby, program):
             for caller, number, command, key, state, moment in rows:
                 line = f"{moment} {caller} {number} {command}\n"
                 if line.count("\n") != 1:
-                    raise Differs(f"{line!r} is no request")
+                    raise Fault(1, f"{line!r} is no request")
                 register.stdin.write(line.encode(errors="surrogateescape"))
                 register.stdin.flush()
                 reply = register.stdout.readline().decode().rstrip("\n")
@@ -114,12 +110,12 @@ def give(rows, standby, program):
                     break
                 first = f"ok {key} {STATES[state]} {moment}"
                 if reply != first:
-                    raise Differs(f"the reply to {line.rstrip()!r} is {reply!r}, and was {first!r}")
+                    raise Fault(1, f"the reply to {line.rstrip()!r} is {reply!r}, and was {first!r}")
                 count += 1
         with contextlib.suppress(BrokenPipeError):
             register.stdin.close()
     if register.returncode:
-        raise Ended(f"{program} ended with status {register.returncode} after {count} requests")
+        raise Fault(3, f"{program} ended with status {register.returncode} after {count} requests")
     return count, moment
 
 
@@ -127,7 +123,7 @@ def follow(source, standby, program):
     """The line of a standby that has all."""
     with reading(source) as connection:
         if not has_tables(standby) and run([program, "init", "--file", standby]).wait():
-            raise Ended("the standby could not be made")
+            raise Fault(3, "the standby could not be made")
         rows = rows_of(connection)
         before = further(rows, standby)
         first = next(rows, None)
@@ -145,8 +141,8 @@ def main():
     status = 0
     try:
         end = follow(words.register, words.standby, words.keyreg)
-    except (Differs, Unread, Ended) as fault:
-        status, end = {Differs: 1, Unread: 2, Ended: 3}[type(fault)], fault
+    except Fault as fault:
+        status, end = fault.status, fault
     line = f"{words.standby}: {end}".encode(errors="backslashreplace").decode()
     print(line, file=sys.stderr if status else sys.stdout)
     return status

@@ -48,7 +48,7 @@ from replay import Unreadable, columns_of, opened, row_place
 TRIES = 50
 DATES = ("activation", "protect_stop", "deactivation", "destroyed", "compromised", "occurrence")
 # After each key.
-END = (float("inf"), "")
+END = (float("inf"), ())
 COLUMNS = ("type", "owner", "purpose", "initial", *DATES, "need", "custodians", "approvals", "requests")
 
 
@@ -58,10 +58,6 @@ json_text = json.JSONEncoder(ensure_ascii=False).encode
 def as_bytes(text):
     """The bytes of a text of JSON. What is no UTF-8 in a register is an escape."""
     return text.encode(errors="backslashreplace")
-
-
-class Unwritten(Exception):
-    """The list cannot be written."""
 
 
 class Names(dict):
@@ -83,43 +79,34 @@ def without_key(command):
     return f"{word} {rest}" if rest and word != "register" else word
 
 
-def last_requests(connection, names, count):
-    """The cells of the last requests about each key, so many of each at most, by the numbers of the keys."""
-    place = row_place(columns_of(connection, "request"))
-    rows = connection.execute("SELECT key_no, moment, caller, command FROM request NOT INDEXED "
-                              f"WHERE typeof(key_no) = 'integer' AND key_no > 0 ORDER BY key_no, {place}")
-    for key, group in itertools.groupby(rows, operator.itemgetter(0)):
-        yield key, ",".join(f"{moment},{names[caller]},{json_text(without_key(command))}"
-                            for _, moment, caller, command in collections.deque(group, count))
-
-
-def by_key(connection, table, names):
-    """The places of the names that a table has of each key, by the names' bytes, and by the numbers of the keys."""
-    rows = connection.execute(f"SELECT key_no, name FROM {table} WHERE typeof(key_no) = 'integer' "
-                              "ORDER BY key_no, name COLLATE BINARY")
-    for key, group in itertools.groupby(rows, operator.itemgetter(0)):
-        yield key, ",".join(str(names[name]) for _, name in group)
-
-
 class Beside:
-    """What stands beside keys, in the order of their numbers, so that one alone is held."""
+    """What rows that begin with the number of a key give beside it, in the order of these numbers, so that one alone is
+    held; of each key that of so many rows at most, the last ones."""
 
-    def __init__(self, cells):
-        self.cells = cells
-        self.ahead = next(cells, END)
+    def __init__(self, connection, asked, cell, most=None):
+        self.groups = itertools.groupby(connection.execute(asked), operator.itemgetter(0))
+        self.cell, self.most, self.ahead = cell, most, next(self.groups, END)
 
     def of(self, number):
         """The cells of this key, which comes after those that were asked for before it."""
         while self.ahead[0] < number:
-            self.ahead = next(self.cells, END)
-        return f"[{self.ahead[1]}]" if self.ahead[0] == number else "[]"
+            self.ahead = next(self.groups, END)
+        rows = collections.deque(self.ahead[1], self.most) if self.ahead[0] == number else ()
+        return f"[{','.join(itertools.starmap(self.cell, rows))}]"
 
 
 def rows_of(connection, names, requests):
     """Each key's cells as JSON."""
-    custodians, approvals = (Beside(by_key(connection, table, names)) for table in ("custodian", "approval"))
+    custodians, approvals = (
+        Beside(connection, f"SELECT key_no, name FROM {table} WHERE typeof(key_no) = 'integer' "
+                           "ORDER BY key_no, name COLLATE BINARY", lambda _, name: str(names[name]))
+        for table in ("custodian", "approval"))
     needs = dict(connection.execute("SELECT key_no, need FROM quorum")) if has_table(connection, "quorum") else {}
-    last = Beside(last_requests(connection, names, requests))
+    place = row_place(columns_of(connection, "request"))
+    last = Beside(connection, "SELECT key_no, moment, caller, command FROM request NOT INDEXED "
+                              f"WHERE typeof(key_no) = 'integer' AND key_no > 0 ORDER BY key_no, {place}",
+                  lambda _, moment, caller, command: f"{moment},{names[caller]},{json_text(without_key(command))}",
+                  requests)
     asked = ("SELECT number, kind, owner, purpose, initial, activation, protect_stop, deactivation, destroyed, "
              "compromised, occurrence FROM keys ORDER BY number")
     for place, (number, kind, owner, purpose, initial, *dates) in enumerate(connection.execute(asked), 1):
@@ -170,22 +157,18 @@ def pieces_of(members, keys):
 
 def put(path, pieces):
     """Moves a file of these bytes into the place, whole; how many there are."""
-    folder = os.path.dirname(os.path.abspath(path))
+    handle, other = tempfile.mkstemp(prefix=".list-", dir=os.path.dirname(os.path.abspath(path)))
     try:
-        handle, other = tempfile.mkstemp(prefix=".list-", dir=folder)
-        try:
-            with os.fdopen(handle, "wb") as file:
-                size = sum(map(file.write, pieces))
-                file.flush()
-                os.fsync(handle)
-            os.chmod(other, 0o640)
-            os.replace(other, path)
-        except BaseException:
-            with contextlib.suppress(OSError):
-                os.remove(other)
-            raise
-    except OSError as fault:
-        raise Unwritten(f"{path} cannot be written: {fault.strerror}") from None
+        with os.fdopen(handle, "wb") as file:
+            size = sum(map(file.write, pieces))
+            file.flush()
+            os.fsync(handle)
+        os.chmod(other, 0o640)
+        os.replace(other, path)
+    finally:
+        # It is there still where it could not be moved.
+        with contextlib.suppress(OSError):
+            os.remove(other)
     return size
 
 
@@ -202,8 +185,8 @@ def main():
     except (Unreadable, sqlite3.Error, ValueError) as fault:
         print(f"{words.register} cannot be read as a register: {fault}", file=sys.stderr)
         return 2
-    except Unwritten as fault:
-        print(fault, file=sys.stderr)
+    except OSError as fault:
+        print(f"{words.list} cannot be written: {fault.strerror}", file=sys.stderr)
         return 3
     count = f"{members['count']} keys" if keys else f"no keys, since there are {members['count']}"
     print(f"{words.list}: {count}, up to {text_of(members['latest'])}, {size} bytes")

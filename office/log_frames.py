@@ -7,10 +7,15 @@ stop cuts off what was not answered. But of one damaged byte in the middle all t
 nothing else tells it. A frame behind a damaged one is known by its own sum, which goes on from the one that its
 neighbour bears. Room that was never written is no frame.
 """
+import collections
 import os
 import struct
 
 MAGIC = {0x377F0682: "<", 0x377F0683: ">"}
+SIZES = [2 ** power for power in range(9, 17)]
+# What a frame is that does not count.
+EARLIER, WAITING, DAMAGED, BEHIND = KINDS = (
+    "of an earlier log", "of a transaction that was not ended", "damaged or cut off", "whole ones behind those")
 HEADER, FRAME = struct.Struct(">8I"), struct.Struct(">6I")
 
 
@@ -41,43 +46,34 @@ def frames_of(file, order, size, salts, sums):
 
 
 def counted(path):
-    """How many frames count; of those that follow, how many are of an earlier log, of no transaction that was ended,
-    damaged, and whole behind a damaged one."""
+    """How many frames count, and of those that follow how many are of each kind."""
+    counts, others = 0, collections.Counter()
     with open(path, "rb") as file:
         head = file.read(HEADER.size)
         if len(head) < HEADER.size:
-            return 0, 0, 0, 0, 0
+            return counts, others
         magic, _, size, _, *salts, one, other = HEADER.unpack(head)
-        order = MAGIC.get(magic, "")
-        size = size if size in (2 ** power for power in range(9, 17)) else 0
+        order, size = MAGIC.get(magic, ""), size if size in SIZES else 0
         if not (order and size) or summed((0, 0), head[:24], order) != (one, other):
-            return 0, 0, 0, max((os.path.getsize(path) - HEADER.size) // (FRAME.size + (size or 4096)), 0), 0
-        counts = earlier = waiting = damaged = behind = 0
+            others[DAMAGED] = max((os.path.getsize(path) - HEADER.size) // (FRAME.size + (size or 4096)), 0)
+            return counts, others
         for is_of_log, is_whole, is_end in frames_of(file, order, size, tuple(salts), (one, other)):
-            if not is_of_log:
-                earlier += 1
-            elif not is_whole:
-                damaged += 1
-            elif damaged or earlier:
-                behind += 1
-            else:
-                waiting += 1
-                counts, waiting = (counts + waiting, 0) if is_end else (counts, waiting)
-        return counts, earlier, waiting, damaged, behind
+            is_behind = others[DAMAGED] or others[EARLIER]
+            others[EARLIER if not is_of_log else DAMAGED if not is_whole else BEHIND if is_behind else WAITING] += 1
+            if is_end and not (others[DAMAGED] or others[EARLIER]):
+                counts += others.pop(WAITING)
+    return counts, others
 
 
 def lines_of_log(path: str) -> list[str]:
     """A line of a log that has frames, and a second where damage took some away."""
-    counts, *others = counted(path)
-    if not counts + sum(others):
+    counts, others = counted(path)
+    if not counts + others.total():
         return []
-    earlier, waiting, damaged, behind = others
-    parts = [f"{count} {what}" for count, what in (
-        (earlier, "of an earlier log"), (waiting, "of a transaction that was not ended"),
-        (damaged, "damaged or cut off"), (behind, "whole ones behind those")) if count]
-    lines = [f"log: {counts} of its frames count, and {sum(others)} that follow do not"
+    parts = [f"{others[kind]} {kind}" for kind in KINDS if others[kind]]
+    lines = [f"log: {counts} of its frames count, and {others.total()} that follow do not"
              + f": {', '.join(parts)}" * bool(parts)]
-    if behind:
-        lines.append(f"log: frame {counts + waiting + 1} is damaged in the middle of the log, and what stood behind it "
-                     "is lost")
+    if others[BEHIND]:
+        lines.append(f"log: frame {counts + others[WAITING] + 1} is damaged in the middle of the log, and what stood "
+                     "behind it is lost")
     return lines

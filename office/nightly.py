@@ -1,7 +1,7 @@
 #!/usr/bin/env python3
 """A nightly look at a register, served or not: a copy is taken and held to its own requests and to the last good copy
 by replay.py, exported, and drawn. What keyreg-nightly.service calls; it stands beside replay.py, register_rules.py and
-timeline.py.
+timeline.py with its style and its script.
 
     nightly.py --file FILE --folder FOLDER [--keyreg PROGRAM] [--nights N] [--stale SECONDS] [--room PERCENT]
 
@@ -19,6 +19,7 @@ with any status, the export, the picture, a moment that is too old, or after the
 that is too full; 2 where words are wrong.
 """
 import argparse
+import contextlib
 import os
 import pathlib
 import shutil
@@ -73,9 +74,8 @@ def looked_at(night, last, program):
 
 def watched(night, stale, room):
     """How old the latest accepted moment is, and how full the disk."""
-    with sqlite3.connect(f"file:{night / NAME}?mode=ro", uri=True) as copy:
+    with contextlib.closing(sqlite3.connect(f"file:{night / NAME}?mode=ro", uri=True)) as copy:
         (latest,) = copy.execute("SELECT latest FROM meta").fetchone()
-    copy.close()
     (night / (NAME + "-shm")).unlink(missing_ok=True)
     age = int(time.time()) - latest
     print(f"latest accepted moment: {age} seconds ago", flush=True)
@@ -93,10 +93,8 @@ def watched(night, stale, room):
 
 def tidied(folder, nights):
     """Removes the oldest nights beyond so many, and none that `last` leads to."""
-    kept = (folder / LAST).resolve()
-    dated = sorted(path for path in folder.glob("20*") if path.is_dir())
-    for path in dated[:-nights]:
-        if path.resolve() != kept:
+    for path in sorted(path for path in folder.glob("20*") if path.is_dir())[:-nights]:
+        if path.resolve() != (folder / LAST).resolve():
             shutil.rmtree(path)
 
 

@@ -130,7 +130,7 @@ class Search:
         for number, requests in self.of_key.items():
             chains.append([request for request, _ in all_paths.get(number, ())] or requests)
         for chain in chains:
-            for one, other in zip(chain, chain[1:]):
+            for one, other in itertools.pairwise(chain):
                 before[other].add(one)
         ordered = []
         for group in by_moment(self.all):

@@ -68,12 +68,6 @@ class Choice:
                 came |= self.twice & {name}
                 yield row, request, None
 
-    def lines(self):
-        """What is written."""
-        for _, request, why in self.rows():
-            if why is None:
-                yield f"{line(*request)}\n"
-
 
 def read_request(row):
     """The request of a row, or None. A text with a line's end in it would be two lines: it is none."""
@@ -87,8 +81,8 @@ def read_request(row):
 
 def shown(row):
     """A row as it is printed. Characters that a terminal obeys are escaped."""
-    caller, number, command, *_, moment = row
-    return f"{moment} {caller if type(caller) is str and caller.isprintable() else repr(caller)} {number!r} {command!r}"
+    caller, number, command, *_, at = row
+    return f"{at} {caller if type(caller) is str and caller.isprintable() else repr(caller)} {number!r} {command!r}"
 
 
 def text_of_request(request):
@@ -172,22 +166,18 @@ def number_word(text):
     return int(text)
 
 
-def moment_word(text):
-    """A moment as it is typed."""
-    moment = moment_of(text) if MOMENT_TEXT.fullmatch(text) else number_word(text)
-    if not 0 <= moment <= LAST:
+def moment(text):
+    """A moment as it is typed. By this name argparse says what was wanted."""
+    seconds = moment_of(text) if MOMENT_TEXT.fullmatch(text) else number_word(text)
+    if not 0 <= seconds <= LAST:
         raise ValueError(text)
-    return moment
-
-
-# So argparse names what was wanted.
-moment_word.__name__ = "moment"
+    return seconds
 
 
 def read_words():
     words = argparse.ArgumentParser(description="Writes the accepted requests of a register as request lines.")
     words.add_argument("copy")
-    words.add_argument("--until", metavar="MOMENT", type=moment_word, default=LAST)
+    words.add_argument("--until", metavar="MOMENT", type=moment, default=LAST)
     words.add_argument("--without", metavar=("CALLER", "NUMBER"), nargs=2, action="append", default=[])
     given = words.parse_args()
     try:
@@ -205,7 +195,7 @@ def write(lines):
     """Writes the lines; the status."""
     try:
         for text in lines:
-            sys.stdout.buffer.write(text.encode(errors="surrogateescape"))
+            sys.stdout.buffer.write(f"{text}\n".encode(errors="surrogateescape"))
         sys.stdout.buffer.flush()
     except OSError as fault:
         # What is still held is given up, or the end of Python would try it again.
@@ -231,7 +221,7 @@ def main():
             say(f"{words.copy}: {counts['written']} requests up to {text_of(latest)}, {counts['left out']} left out; "
                 f"{counts['refused']} will be refused, {counts['otherwise']} answered otherwise")
             sys.stderr.flush()
-            return write(choice.lines()) or int(not is_well)
+            return write(line(*request) for _, request, why in choice.rows() if why is None) or int(not is_well)
     except Unreadable as fault:
         say(f"{words.copy}: its requests cannot be read: {fault}")
         return 2

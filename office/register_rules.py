@@ -60,8 +60,10 @@ def moment_of(text: str) -> int:
     return (datetime.strptime(text, MOMENT_FORM) - EPOCH) // timedelta(seconds=1)
 
 
-def plus_months(moment: int, months: int) -> Optional[int]:
-    """The same day so many months later, or that month's last; None past the range of moments."""
+def plus_months(moment: Optional[int], months: int) -> Optional[int]:
+    """The same day so many months later, or that month's last; None past the range of moments, and of no moment."""
+    if moment is None:
+        return None
     day = date.fromordinal(EPOCH_DAY + moment // 86400)
     year, month = divmod(day.year * 12 + day.month - 1 + months, 12)
     if year > 9999:
@@ -73,26 +75,22 @@ def plus_months(moment: int, months: int) -> Optional[int]:
 def fitted(dates: Sequence[Optional[int]], period: tuple[int, int], trims: bool) -> dict[str, Optional[int]]:
     """The three dates after Fill, or after Trim, by a usage period."""
     activation, stop, end = dates
-    originator, recipient = period
-    limit = None if activation is None else plus_months(activation, originator)
-    is_past = False
+    limit, is_past = plus_months(activation, period[0]), False
     if activation is not None and stop is None:
-        if end is not None and (limit is None or end < limit):
-            stop = end
-        else:
-            stop, is_past = limit, limit is None
-    if trims and limit is not None and stop is not None:
+        is_end_first = end is not None and (limit is None or end < limit)
+        stop, is_past = (end, False) if is_end_first else (limit, limit is None)
+    if trims and None not in (limit, stop):
         stop = min(stop, limit)
-    last = None if stop is None else plus_months(stop, recipient)
+    last = plus_months(stop, period[1])
     if activation is not None and end is None and stop is not None:
         end, is_past = last, is_past or last is None
-    if trims and last is not None and end is not None:
+    if trims and None not in (last, end):
         end = min(end, last)
     given = [date for date in (activation, stop, end) if date is not None]
     refuse(given != sorted(given), "DateOrder")
     if not trims:
-        refuse(limit is not None and stop is not None and stop > limit, "PeriodTooLong", limit=limit)
-        refuse(last is not None and end is not None and end > last, "PeriodTooLong", limit=last)
+        refuse(None not in (limit, stop) and stop > limit, "PeriodTooLong", limit=limit)
+        refuse(None not in (last, end) and end > last, "PeriodTooLong", limit=last)
     refuse(is_past, "DateRange")
     return {"activation": activation, "stop": stop, "end": end}
 
@@ -100,11 +98,8 @@ def fitted(dates: Sequence[Optional[int]], period: tuple[int, int], trims: bool)
 def is_long(dates: Iterable[Optional[int]], period: tuple[int, int]) -> bool:
     """Whether the three dates go past a limit of a usage period. One that is past the range limits nothing."""
     activation, stop, end = dates
-    for first, last, months in ((activation, stop, period[0]), (stop, end, period[1])):
-        limit = None if first is None else plus_months(first, months)
-        if last is not None and limit is not None and last > limit:
-            return True
-    return False
+    limits = plus_months(activation, period[0]), plus_months(stop, period[1])
+    return any(None not in (last, limit) and last > limit for last, limit in zip((stop, end), limits))
 
 
 # ---- keys

@@ -34,8 +34,10 @@ It reports which part of the log counts (log_frames.py). No more than one row of
 bytes, are held: a million registrations took 240 MB, and it takes more where another order is looked for.
 """
 import argparse
+import collections
 import contextlib
 import filecmp
+import heapq
 import itertools
 import marshal
 import operator
@@ -165,12 +167,10 @@ class File:
 
     def look_at_requests(self):
         """Whether their rows go by their moments, which are there twice, and how many share their moment."""
-        moments = self.connection.execute(f"SELECT moment FROM request NOT INDEXED ORDER BY {self.places['request']}")
-        self.goes_by_moments, last = True, -1
-        for moment, in moments:
-            if type(moment) is int:
-                self.goes_by_moments &= last <= moment
-                last = moment
+        before = f"lag(moment, 1, -1) OVER (ORDER BY {self.places['request']})"
+        self.goes_by_moments = not self.connection.execute(
+            f"SELECT count(*) FROM (SELECT moment, {before} AS before FROM request NOT INDEXED "
+            "WHERE typeof(moment) = 'integer') WHERE before > moment").fetchone()[0]
         self.twice = {(caller, number): count for caller, number, count in self.connection.execute(
             "SELECT caller, number, count(*) FROM request NOT INDEXED "
             "GROUP BY caller COLLATE BINARY, number HAVING count(*) > 1")}
@@ -187,8 +187,7 @@ class File:
             place = row[:2]
             if place in came:
                 continue
-            if place in self.twice:
-                came.add(place)
+            came |= self.twice.keys() & {place}
             try:
                 yield accepted_of(row, self.version)
             except (ValueError, TypeError, AttributeError):
@@ -198,27 +197,15 @@ class File:
 
 # ---- the replay
 
-class Keys:
+class Keys(dict):
     """Keys by their numbers, each in few bytes."""
 
-    def __init__(self):
-        self.packed = {}
-
     def get(self, number):
-        packed = self.packed.get(number)
+        packed = super().get(number)
         return None if packed is None else Key(*marshal.loads(packed))
 
     def __setitem__(self, number, key):
-        self.packed[number] = marshal.dumps(tuple(key), 2)
-
-    def __contains__(self, number):
-        return number in self.packed
-
-    def __len__(self):
-        return len(self.packed)
-
-    def numbers(self):
-        return sorted(self.packed)
+        super().__setitem__(number, marshal.dumps(tuple(key), 2))
 
 
 class Replay(Register):
@@ -259,43 +246,27 @@ def replayed(file, requests):
     return register.faults + other + list(key_differences(file, register))
 
 
-class Groups:
-    """The rows of a table, in groups by the key that they are about, in the order of these."""
-
-    def __init__(self, file, name):
-        column = TABLES[name][0][0]
-        rows = file.rows(name, column, f"typeof({column}) = 'integer'")
-        self.groups = itertools.groupby(rows, operator.itemgetter(0))
-        self.ahead = next(self.groups, (END, ()))
-
-    def take(self, number):
-        """The rows about this key, none of which is about one before it."""
-        if self.ahead[0] != number:
-            return []
-        rows = list(self.ahead[1])
-        self.ahead = next(self.groups, (END, ()))
-        return rows
-
-
-# After every number.
-END = float("inf")
+def by_number(name, rows):
+    """Rows with the number of the key that each is about, and with the name of their table."""
+    return ((row[0], name, row) for row in rows)
 
 
 def key_differences(file, register):
     """A line for each difference in the tables that are about keys, by key, so that the rows of one alone are held."""
-    groups = {name: Groups(file, name) for name in ("keys", "custodian", "approval", "quorum") if name in file.kept}
-    numbers = iter(register.keys.numbers())
-    wanted = next(numbers, END)
-    while (number := min(wanted, *(group.ahead[0] for group in groups.values()))) != END:
-        rows = {}
-        if number == wanted:
-            rows, wanted = key_rows(number, register.keys.get(number), register.latest), next(numbers, END)
-        for name, group in groups.items():
-            in_file, given = group.take(number), rows.get(name, ())
-            if in_file != given:
-                yield from differences(name, in_file, given)
-    for name in groups:
-        yield from differences(name, file.rows(name, where=f"typeof({TABLES[name][0][0]}) <> 'integer'"), ())
+    firsts = {name: TABLES[name][0][0] for name in ("keys", "custodian", "approval", "quorum") if name in file.kept}
+    found = (by_number(name, file.rows(name, first, f"typeof({first}) = 'integer'")) for name, first in firsts.items())
+    number_of = operator.itemgetter(0)
+    merged = heapq.merge(*found, by_number("", zip(sorted(register.keys))), key=number_of)
+    for number, group in itertools.groupby(merged, number_of):
+        rows = collections.defaultdict(list)
+        for _, name, row in group:
+            rows[name].append(row)
+        wanted = key_rows(number, register.keys.get(number), register.latest) if "" in rows else {}
+        for name in firsts:
+            if rows[name] != wanted.get(name, []):
+                yield from differences(name, rows[name], wanted.get(name, ()))
+    for name, first in firsts.items():
+        yield from differences(name, file.rows(name, where=f"typeof({first}) <> 'integer'"), ())
 
 
 def differences(name, rows, wanted):

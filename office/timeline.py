@@ -14,8 +14,8 @@ keyboard, has all texts and dates of its key. Printed, the axis stands on each s
         export itself are those of the latest accepted moment.
 --days  so many days ahead a Protect Stop Date is due; else 60
 
-Years more than ten before or after the moment are cut off: a bar that goes on there has an arrow. register_rules.py has
-to stand beside it.
+Years more than ten before or after the moment are cut off: a bar that goes on there has an arrow. register_rules.py,
+timeline.css and timeline.js have to stand beside it.
 """
 import argparse
 import base64
@@ -23,6 +23,7 @@ import csv
 import hashlib
 import io
 import json
+import pathlib
 import sys
 import time
 import unicodedata
@@ -35,178 +36,16 @@ from register_rules import EPOCH, STATES as NAMES, moment_of, state_at, text_of
 DATES = ("initial", "activation", "protect_stop", "deactivation", "occurrence", "compromised", "destroyed")
 COLUMNS = ("number", "type", "owner", *DATES, "purpose")
 DAY, YEARS_SHOWN, PAGE = 86400, 10, 1000
-# The states with their colours on paper and in the dark, which those who are colour-blind tell apart, and the lines of
-# their patterns.
+# The states with the lines of their patterns; timeline.css has their colours.
 STATES = {
-    "Pre-Active": ("#767676", "#a8a8a8", '<circle cx="4" cy="4" r="1.3" fill="{0}"/>'),
-    "Active": ("#0072b2", "#56b4e9", '<rect width="8" height="8" fill="{0}"/>'),
-    "Deactivated": ("#c98500", "#e69f00", '<path d="M-1 1l2-2M0 8l8-8M7 9l2-2" stroke="{0}" stroke-width="2.4"/>'),
-    "Compromised": ("#d55e00", "#ff8a3d", '<path d="M0 0l8 8M0 8l8-8" stroke="{0}" stroke-width="1.8"/>'),
-    "Destroyed": ("#4d4d4d", "#c8c8c8", '<path d="M2 0v8M6 0v8" stroke="{0}" stroke-width="1.4"/>'),
-    "Destroyed-Compromised": ("#b0487f", "#e58ab8", '<path d="M0 2h8M0 6h8M4 0v8" stroke="{0}" stroke-width="1.4"/>'),
+    "Pre-Active": '<circle cx="4" cy="4" r="1.3" fill="{0}"/>',
+    "Active": '<rect width="8" height="8" fill="{0}"/>',
+    "Deactivated": '<path d="M-1 1l2-2M0 8l8-8M7 9l2-2" stroke="{0}" stroke-width="2.4"/>',
+    "Compromised": '<path d="M0 0l8 8M0 8l8-8" stroke="{0}" stroke-width="1.8"/>',
+    "Destroyed": '<path d="M2 0v8M6 0v8" stroke="{0}" stroke-width="1.4"/>',
+    "Destroyed-Compromised": '<path d="M0 2h8M0 6h8M4 0v8" stroke="{0}" stroke-width="1.4"/>',
 }
-STYLE = """
-:root{color-scheme:light dark;--paper:#fff;--ink:#111;--faint:#ccc;--edge:#888;@LIGHT@}
-@media screen and (prefers-color-scheme:dark){:root{--paper:#16181b;--ink:#eee;--faint:#3a3e44;--edge:#777;@DARK@}}
-*{box-sizing:border-box}
-body{font:15px/1.4 system-ui,sans-serif;margin:1rem;color:var(--ink);background:var(--paper)}
-h1{font-size:1.3rem;margin:0 0 .3rem}p{max-width:60rem;margin:.3rem 0}
-form{display:flex;flex-wrap:wrap;gap:.4rem 1rem;margin:.6rem 0;align-items:center}
-label,.pages{white-space:nowrap}select,button{font:inherit;max-width:15rem}
-.legend{display:flex;flex-wrap:wrap;gap:.2rem 1.1rem;margin:.3rem 0}.legend span{white-space:nowrap}
-.legend svg{width:34px;height:14px;vertical-align:-2px}.defs{position:absolute;width:0;height:0}
-table{width:100%;table-layout:fixed;border-collapse:collapse;font-size:13px;line-height:20px}
-col.number{width:4.6rem}col.owner{width:10rem}col.type{width:10rem}col.state{width:11rem}col.purpose{width:14rem}
-th,td{padding:0 .4rem;text-align:left;vertical-align:top;overflow:hidden;text-overflow:ellipsis;white-space:nowrap;
-unicode-bidi:isolate}
-th{position:sticky;top:0;z-index:1;background:var(--paper);border-bottom:1px solid var(--edge);font-weight:600;
-line-height:24px}
-tr.key{cursor:pointer}tr.key:hover td{font-weight:600}tr.key:hover td.time,tr.more td{font-weight:400}
-.number{text-align:right}
-td.number button{font:inherit;color:inherit;background:none;border:0;padding:0 .2rem;cursor:pointer;
-text-decoration:underline dotted}
-button:focus-visible{outline:2px solid var(--s1)}
-.time{padding:0}.grid{stroke:var(--faint);vector-effect:non-scaling-stroke}
-.time>svg{display:block;width:100%;height:20px;overflow:hidden}
-th.time,th.time>svg{overflow:visible}th.time>svg{height:24px}
-tr.more td{white-space:normal;overflow-wrap:anywhere;border-bottom:1px solid var(--edge);padding:.2rem .4rem .5rem 5rem}
-dl{display:grid;grid-template-columns:max-content 1fr;gap:0 1rem;margin:0}dt{color:var(--ink);opacity:.75}dd{margin:0}
-text{font:12px system-ui,sans-serif;fill:var(--ink)}
-.today{stroke:var(--ink);stroke-width:1.5;stroke-dasharray:5 3}.wait{stroke:var(--s0);stroke-dasharray:2 3}
-.mark{stroke:var(--ink);stroke-width:1.6;fill:none}.solid{fill:var(--ink);stroke:none}.due{font-weight:700}
-@media screen and (max-width:1150px){col.purpose{width:0}.purpose{display:none}}
-@media screen and (max-width:820px){col.owner{width:8rem}col.type{width:9rem}.year.odd,.year.half{display:none}}
-@media screen and (max-width:640px){
-body{margin:.5rem}table,tbody,thead{display:block}thead{position:sticky;top:0;z-index:1;background:var(--paper)}
-colgroup{display:none}tr{display:grid;grid-template-columns:3.2rem 1fr 11rem}th{position:static}
-.type{display:none}.time{grid-column:1/-1}tr.more td{grid-column:1/-1;padding-left:.4rem}
-tr.key{border-bottom:1px solid var(--faint)}td.number button{padding:.1rem .3rem}
-}
-@media print{@page{size:A4 landscape;margin:10mm}
-form label,form button{display:none}body{margin:0;font-size:11px}table{font-size:10px;line-height:16px}
-th{position:static}
-thead{display:table-header-group}tr,.legend{break-inside:avoid}td{white-space:normal;overflow-wrap:anywhere}
-col.number{width:3rem}col.owner{width:8rem}col.type{width:7.5rem}col.state{width:8.5rem}col.purpose{width:11rem}
-.purpose{display:table-cell}.year.odd{display:none}td.number button{text-decoration:none}*{print-color-adjust:exact}}
-"""
-SCRIPT = """
-'use strict';
-const table = document.querySelector('table'), body = table.tBodies[0], form = document.querySelector('form');
-const {states, dates, today, years, keys} = JSON.parse(document.getElementById('data').textContent);
-const count = document.getElementById('count'), PAGE = +table.dataset.page;
-const [NUMBER, OWNER, TYPE, STATE, DUE, PURPOSE, MOMENTS, LINES, MARKS] = keys.columns.map((_, place) => place);
-const STOP = dates.indexOf('protect_stop'), field = name => form.elements[name];
-const part = (name, attributes) => {
-  const made = document.createElementNS('http://www.w3.org/2000/svg', name);
-  for (const [key, value] of Object.entries(attributes)) made.setAttribute(key, value);
-  return made;
-};
-const cell = (name, text) => {
-  const made = document.createElement('td');
-  made.className = name;
-  made.textContent = text;
-  return made;
-};
-const SHAPES = {
-  c: 'M-5 5l10 10M-5 15l10-10', d: 'M-5 5h10v10h-10z', r: 'M-6 0h12l-6 9z',
-  '>': 'M-8 4l7 6l-7 6z', '<': 'M8 4l-7 6l7 6z'
-};
-const CLASSES = {
-  c: 'mark compromised', d: 'solid destroyed', r: 'solid rotation', '>': 'solid later', '<': 'solid before'
-};
-function mark([kind, x, since]) {
-  const place = part('svg', {x: x + '%', overflow: 'visible', class: 'place'});
-  place.append(part('path', {class: CLASSES[kind], d: SHAPES[kind]}));
-  if (kind !== 'c') return [place];
-  const begun = part('svg', {x: since + '%', overflow: 'visible'});
-  begun.append(part('path', {class: 'mark', d: 'M0 3v14'}));
-  return [part('line', {class: 'mark', x1: since + '%', x2: x + '%', y1: 10, y2: 10}), begun, place];
-}
-function line([kind, from, to], state) {
-  if (kind === 'wait') return part('line', {class: kind, x1: from + '%', x2: to + '%', y1: 10, y2: 10});
-  const [y, height] = kind === 'protect' ? [3, 14] : [7, 6];
-  return part('rect', {class: 'bar ' + kind, x: from + '%', y, width: Math.max(to - from, .05).toFixed(3) + '%', height,
-    fill: `url(#s${state})`, stroke: `var(--s${state})`});
-}
-function drawn(key) {
-  const row = document.createElement('tr'), time = document.createElement('td');
-  const picture = part('svg', {'aria-hidden': true});
-  row.className = 'key';
-  row.dataset.number = key[NUMBER];
-  row.dataset.owner = key[OWNER];
-  row.dataset.type = key[TYPE];
-  row.dataset.due = key[DUE];
-  row.dataset.state = states[key[STATE]];
-  const number = cell('number', ''), button = document.createElement('button');
-  button.type = 'button';
-  button.textContent = key[NUMBER];
-  button.setAttribute('aria-expanded', false);
-  button.setAttribute('aria-label', `key ${key[NUMBER]}: all texts and dates`);
-  number.append(button);
-  const state = cell('state' + (key[DUE] ? ' due' : ''), key[DUE] || states[key[STATE]]);
-  time.className = 'time';
-  const grid = part('svg', {viewBox: '0 0 100 20', preserveAspectRatio: 'none', width: '100%', height: 20});
-  grid.append(part('path', {class: 'grid', d: years.map(x => `M${x} 0v20`).join('')}));
-  picture.append(grid, ...key[LINES].map(one => line(one, key[STATE])),
-    part('line', {class: 'today', x1: today + '%', x2: today + '%', y1: 0, y2: 20}), ...key[MARKS].flatMap(mark));
-  time.append(picture);
-  row.append(number, cell('owner', key[OWNER]), cell('type', key[TYPE]), state, cell('purpose', key[PURPOSE]), time);
-  row.addEventListener('click', event => {
-    if (event.target === button || getSelection().isCollapsed) toggle(row, button, key);
-  });
-  return row;
-}
-function toggle(row, button, key) {
-  const is_open = button.getAttribute('aria-expanded') === 'true';
-  button.setAttribute('aria-expanded', !is_open);
-  if (is_open) return row.nextSibling.remove();
-  const more = document.createElement('tr'), all = cell('all', ''), list = document.createElement('dl');
-  const facts = [['key', key[NUMBER]], ['owner', key[OWNER]], ['type', key[TYPE]],
-    ['state', states[key[STATE]] + (key[DUE] && ', ' + key[DUE])], ['purpose', key[PURPOSE]],
-    ...dates.map((name, place) => [name.replace('_', ' '), moment(key[MOMENTS][place])]).filter(([, text]) => text)];
-  for (const [name, text] of facts) {
-    const term = document.createElement('dt'), value = document.createElement('dd');
-    term.textContent = name;
-    value.textContent = text;
-    list.append(term, value);
-  }
-  more.className = 'more';
-  all.colSpan = 6;
-  all.append(list);
-  more.append(all);
-  row.after(more);
-}
-const moment = seconds => seconds === null ? '' : new Date(seconds * 1000).toISOString().replace('.000', '');
-let page = 0;
-for (const [name, value] of new URLSearchParams(location.hash.slice(1))) {
-  if (name === 'page') page = Math.max(0, value - 1);
-  else if (name === 'due') field('due').checked = true;
-  else if (field(name)) field(name).value = value;
-}
-const by = {
-  number: () => 0, owner: key => key[OWNER], type: key => key[TYPE], state: key => key[STATE],
-  stop: key => key[MOMENTS][STOP] === null ? Infinity : key[MOMENTS][STOP]
-};
-function show() {
-  const order = by[field('sort').value], is = (name, text) => !field(name).value || field(name).value === text;
-  const kept = keys.rows.filter(key => is('owner', key[OWNER]) && is('type', key[TYPE])
-    && is('state', states[key[STATE]]) && (!field('due').checked || key[DUE]));
-  kept.sort((a, b) => order(a) < order(b) ? -1 : order(a) > order(b) ? 1 : a[NUMBER] - b[NUMBER]);
-  const pages = Math.max(1, Math.ceil(kept.length / PAGE));
-  page = Math.min(page, pages - 1);
-  const shown = kept.slice(page * PAGE, (page + 1) * PAGE);
-  body.replaceChildren(...shown.map(drawn));
-  const first = kept.length ? page * PAGE + 1 : 0;
-  count.textContent = `${first} to ${page * PAGE + shown.length} of ${kept.length} keys`;
-  field('previous').disabled = page === 0;
-  field('next').disabled = page === pages - 1;
-}
-form.addEventListener('change', () => { page = 0; show(); });
-field('previous').addEventListener('click', () => { page -= 1; show(); });
-field('next').addEventListener('click', () => { page += 1; show(); });
-form.addEventListener('submit', event => event.preventDefault());
-show();
-"""
+STYLE, SCRIPT = (pathlib.Path(__file__).with_suffix(end).read_text(encoding="utf-8") for end in (".css", ".js"))
 
 
 def shown(text):
@@ -215,11 +54,6 @@ def shown(text):
         return text
     return "".join(f"\\u{ord(mark):04x}" if unicodedata.category(mark) in ("Cc", "Cf", "Zl", "Zp") else mark
                    for mark in text)
-
-
-def state_of(key, moment):
-    """The name of the state that the dates give."""
-    return NAMES[state_at(moment, key["activation"], key["deactivation"], key["destroyed"], key["compromised"])]
 
 
 def keys_of(text):
@@ -279,20 +113,14 @@ def spans_of(key):
     return [(kind, first, until) for kind, first, until in spans if first < until]
 
 
-def lines_of(key, scale):
-    """A key's line in the picture, with an arrow where it goes on beyond."""
-    spans = spans_of(key)
-    for kind, first, until in spans:
-        yield kind, scale.x(first), scale.x(min(until, scale.last))
+def marks_of(key, spans, due, scale):
+    """What happened to a key, and what is due: shapes that differ without a colour. A line that goes on beyond the
+    picture has an arrow."""
     bars = [(first, until) for kind, first, until in spans if kind != "wait"]
     if bars and scale.last < bars[-1][1]:
         yield ">", 100
     if bars and bars[0][0] < scale.first < bars[-1][1]:
         yield "<", 0
-
-
-def marks_of(key, due, scale):
-    """What happened to it, and what is due: shapes that differ without a colour."""
     if key["compromised"] is not None:
         yield "c", scale.x(key["compromised"]), scale.x(key["occurrence"])
     if key["destroyed"] is not None:
@@ -303,15 +131,14 @@ def marks_of(key, due, scale):
 
 def row_of(key, moment, days, scale):
     """What the script draws of a key."""
-    state, stop = state_of(key, moment), key["protect_stop"]
-    due = ""
+    stop, due, spans = key["protect_stop"], "", spans_of(key)
+    state = NAMES[state_at(moment, *(key[name] for name in ("activation", "deactivation", "destroyed", "compromised")))]
     if state == "Active" and stop is not None and stop <= moment + days * DAY:
         due = "overdue" if stop <= moment else "due"
-    drawn = list(lines_of(key, scale))
-    lines = [shape for shape in drawn if len(shape) == 3]
-    marks = [*(shape for shape in drawn if len(shape) == 2), *marks_of(key, due, scale)]
     return [int(key["number"]), shown(key["owner"]), key["type"], list(STATES).index(state), due, shown(key["purpose"]),
-            [key[name] for name in DATES], lines, marks]
+            [key[name] for name in DATES],
+            [(kind, scale.x(first), scale.x(min(until, scale.last))) for kind, first, until in spans],
+            list(marks_of(key, spans, due, scale))]
 
 
 def choice(name, label, values):
@@ -331,12 +158,6 @@ def legend():
         yield f'<span><svg viewBox="0 0 34 14">{drawn}</svg> {name}</span>'
 
 
-def style_of():
-    light, dark = ("".join(f"--s{place}:{colours[which]};" for place, colours in enumerate(STATES.values()))
-                   for which in (0, 1))
-    return STYLE.replace("@LIGHT@", light).replace("@DARK@", dark)
-
-
 def form_of(keys):
     owners = sorted({shown(key["owner"]) for key in keys})
     types = sorted({key["type"] for key in keys})
@@ -350,11 +171,10 @@ def form_of(keys):
 
 def page_of(keys, moment, days):
     scale = Scale(keys, moment)
-    style = style_of()
     patterns = "".join(f'<pattern id="s{place}" width="8" height="8" patternUnits="userSpaceOnUse">'
                        f'<rect width="8" height="8" fill="var(--paper)"/>{drawn.format(f"var(--s{place})")}</pattern>'
-                       for place, (_, _, drawn) in enumerate(STATES.values()))
-    hashes = [base64.b64encode(hashlib.sha256(text.encode()).digest()).decode() for text in (style, SCRIPT)]
+                       for place, drawn in enumerate(STATES.values()))
+    hashes = [base64.b64encode(hashlib.sha256(text.encode()).digest()).decode() for text in (STYLE, SCRIPT)]
     columns = ("number", "owner", "type", "state", "purpose", "time")
     heads = "".join(f'<th scope="col" class="{name}">{"key" if name == "number" else name}</th>'
                     for name in columns[:-1])
@@ -367,7 +187,7 @@ def page_of(keys, moment, days):
 <html lang="en"><head><meta charset="utf-8"><title>Keys at {text_of(moment)}</title>
 <meta http-equiv="Content-Security-Policy"
  content="default-src 'none'; style-src 'sha256-{hashes[0]}'; script-src 'sha256-{hashes[1]}'">
-<meta name="viewport" content="width=device-width"><style>{style}</style></head><body>
+<meta name="viewport" content="width=device-width"><style>{STYLE}</style></head><body>
 <h1>Keys at {text_of(moment)}</h1>
 <p>{len(keys)} keys. States are those of this moment by the dates of the export. Due: Active, and its Protect Stop
 Date is within {days} days. A bar is high while the key may protect data, and low while it may only process what is

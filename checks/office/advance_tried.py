@@ -3,13 +3,10 @@
 served register on: of a key whose Protect Stop has passed the usage says `protect` until then, and not any more after
 it. The command is run as it stands in the file, with the port of the check.
 
-    checks/office/advance_tried.py [--year]
-
---year  also measures what such requests add to a file in a year, one an hour and one a minute
+    checks/office/advance_tried.py
 """
 import pathlib
 import re
-import shutil
 import subprocess
 import sys
 import time
@@ -17,42 +14,40 @@ import time
 sys.path.insert(1, str(pathlib.Path(__file__).resolve().parents[1] / "shared"))
 from places import UNITS
 from client import Client
-from registers import database, keyreg, new_register
+from registers import database
 from register_rules import GREATEST_NUMBER
-from script import expect, fresh_folder, options, verdict
+from script import expect, fresh_folder, verdict
 from serving import Served
 
-SERVICE, TIMER, CRON = (UNITS / f"keyreg-advance.{kind}" for kind in ("service", "timer", "cron"))
 # So many seconds a key may still protect as it is served first.
 AHEAD = 3
-# The seconds from one to the next.
-STEPS = {"hour": 3600, "minute": 60}
-FIRST, YEAR = 1_700_000_000, 365 * 86400
 
 
 def unit_command() -> str:
     """The command that the unit runs, as a shell's text."""
-    line = re.search(r"^ExecStart=/bin/sh -c '(.*)'$", SERVICE.read_text(encoding="ascii"), re.M)[1]
+    text = (UNITS / "keyreg-advance.service").read_text(encoding="ascii")
+    line = re.search(r"^ExecStart=/bin/sh -c '(.*)'$", text, re.M)[1]
     return line.replace("$$", "$").replace("%%", "%").replace('\\\\"', '\\"')
 
 
 def cron_command() -> str:
     """The command of the line of cron, likewise: five fields and a user stand before it."""
-    line = [line for line in CRON.read_text(encoding="ascii").splitlines() if not line.startswith("#")][-1]
+    line = (UNITS / "keyreg-advance.cron").read_text(encoding="ascii").splitlines()[-1]
     return line.split(" ", 6)[6].replace("\\%", "%")
 
 
-def posted(command: str, served: Served) -> int:
-    """The status of the command, over the served register."""
+def expect_status(status: int, command: str, served: Served) -> None:
+    """The command ends so, over the served register."""
     text = command.replace("8420", str(served.port))
     expect(text != command, f"no port 8420 in {command}")
-    return subprocess.run(["sh", "-c", text], capture_output=True, check=False).returncode
+    done = subprocess.run(["sh", "-c", text], capture_output=True, check=False)
+    expect(done.returncode == status, f"{command}: {done}, not {status}")
 
 
-def protects(served: Served, key: int) -> bool:
-    with fresh_folder() as folder:
-        with Client(f"http://127.0.0.1:{served.port}", "ann", str(folder / "numbers")) as office:
-            return office.usage(key)["protect"]
+def expect_protects(protects: bool, when: str, served: Served) -> None:
+    with fresh_folder() as folder, Client(f"http://127.0.0.1:{served.port}", "ann", f"{folder}/numbers") as office:
+        usage = office.usage(1)
+    expect(usage["protect"] == protects, f"{when}: {usage}")
 
 
 def moves_on(command: str) -> int:
@@ -60,14 +55,13 @@ def moves_on(command: str) -> int:
     now = int(time.time())
     stop = now + AHEAD
     with Served(lines=[f"{now} ann 1 register master bob {now - 86400} {stop} - root"]) as served:
-        expect(protects(served, 1), "a key that may protect does not")
-        while time.time() <= stop + 1:
-            time.sleep(0.1)
-        expect(protects(served, 1), "the answer is fresh without a request: this check shows nothing")
-        expect(posted(command, served) == 0, f"{command} failed")
-        expect(not protects(served, 1), "the answer is as it was after the advance")
+        expect_protects(True, "a key that may protect", served)
+        time.sleep(max(stop + 1.1 - time.time(), 0))
+        expect_protects(True, "past its Protect Stop, without a request", served)
+        expect_status(0, command, served)
+        expect_protects(False, "after the advance", served)
         for _ in range(20):
-            expect(posted(command, served) == 0, f"{command} failed as it came again")
+            expect_status(0, command, served)
         served.kill()
         with database(served.file) as connection:
             columns = "caller, number, command, moment"
@@ -80,50 +74,13 @@ def moves_on(command: str) -> int:
     return len(rows)
 
 
-def fails_where_refused(command: str) -> None:
-    """A register that is ahead of the clock refuses it, and the command says so."""
-    with Served(lines=[f"{int(time.time()) + 86400} ann 1 advance"]) as served:
-        status = posted(command, served)
-    expect(status == 22, f"{command}: status {status} where it is refused")
-
-
-def units_verified() -> None:
-    if not shutil.which("systemd-analyze"):
-        print("systemd-analyze is not installed, and was not asked")
-        return
-    words = ["systemd-analyze", "verify", "--man=no", SERVICE, TIMER]
-    done = subprocess.run(words, capture_output=True, text=True, check=False)
-    lines = [line for line in done.stderr.splitlines() if "keyreg-advance" in line]
-    expect(not lines, f"systemd-analyze: {lines}")
-
-
-def size_of(folder: pathlib.Path) -> int:
-    return sum(path.stat().st_size for path in folder.iterdir())
-
-
-def print_year(step: str) -> None:
-    """What the advances of a year add to the file, in bytes, and the seconds that its opening takes then."""
-    with fresh_folder() as folder:
-        file = folder / "office.keyreg"
-        new_register(file, ["1 ann 1 register master bob - - - root"])
-        before, moments = size_of(folder), range(FIRST, FIRST + YEAR, STEPS[step])
-        keyreg(["run", "--file", file], [f"{moment} clock.job {moment} advance" for moment in moments])
-        added, begun = size_of(folder) - before, time.monotonic()
-        keyreg(["report", "--file", file, "--days", "0"])
-        seconds = time.monotonic() - begun
-    print(f"one a {step}: {len(moments)} requests in a year add {added / 1e6:.1f} MB, {added / len(moments):.0f} bytes "
-          f"each; an opening takes {seconds:.1f} seconds then")
-
-
 def main() -> None:
-    given = options(__doc__, year=False)
-    units_verified()
-    commands = (unit_command(), cron_command())
-    counts = [moves_on(command) for command in commands]
-    for command in commands:
-        fails_where_refused(command)
-    for step in STEPS if given.year else ():
-        print_year(step)
+    counts = []
+    for command in (unit_command(), cron_command()):
+        counts.append(moves_on(command))
+        # A register that is ahead of the clock refuses it, and the command says so.
+        with Served(lines=[f"{int(time.time()) + 86400} ann 1 advance"]) as served:
+            expect_status(22, command, served)
     verdict(f"the unit's command and cron's line move the register on; of 21 requests {counts[0]} and {counts[1]} were "
             "accepted")
 

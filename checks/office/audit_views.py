@@ -17,7 +17,7 @@ from places import OFFICE, SAMPLES, VERSION_1
 from answers import reply_line
 from registers import STATES, File, database, keyreg, new_register, run_program
 from register_rules import Register, command_of
-from script import expect, fresh_folder, output_of, verdict
+from script import expect, fresh_folder, in_order, output_of, verdict
 
 VIEWS = OFFICE / "audit.sql"
 DAYS = 60
@@ -29,20 +29,13 @@ def asked(file: File, question: str) -> list[list[str]]:
     return [row.split("|") for row in output_of(words).splitlines()]
 
 
-def expect_same(what: str, rows: object, wanted: object) -> None:
-    expect(rows == wanted, f"{what} is {rows}, not {wanted}")
-
-
-def register_of_page(file: File) -> None:
-    """The register of the page: a day, a table of keys, and a year."""
+def look_at_views(file: File) -> tuple[int, int]:
+    """The views beside the rules over the same accepted requests, and the program's report; the register is that of the
+    page: a day, a table of keys, and a year."""
     new_register(file, (SAMPLES / "day.txt").read_text("ascii").splitlines())
     words = ["import", "--file", file, "--moment", "1767690000", "--caller", "intake", "--first", "1"]
     expect(run_program(words, (SAMPLES / "keys.csv").read_bytes()).returncode == 0, "the table is not imported")
     keyreg(["run", "--file", file], (SAMPLES / "year.txt").read_text("ascii").splitlines())
-
-
-def look_at_views(file: File) -> tuple[int, int]:
-    """The views beside the rules over the same accepted requests, and the program's report."""
     register = Register()
     requests = asked(file, "SELECT moment, caller, number, command FROM request ORDER BY moment, rowid")
     for moment, caller, number, command in requests:
@@ -51,12 +44,11 @@ def look_at_views(file: File) -> tuple[int, int]:
     latest = register.latest
     wanted = [[str(number), STATES[key.state(latest)], "yes" if key.protects(latest) else "no", key.processes(latest)]
               for number, key in register.keys.items()]
-    standing = asked(file, "SELECT number, state, protects, processes FROM standing ORDER BY number")
-    expect_same("standing", standing, wanted)
+    in_order(asked(file, "SELECT number, state, protects, processes FROM standing ORDER BY number"), wanted, "standing")
     due = asked(file, "SELECT number, protect_stop, mark, type, owner, purpose FROM due")
     lines = ["  ".join([f"{number:>7}", stop, f"{mark:7}", f"{kind:22}", owner, purpose])
              for number, stop, mark, kind, owner, purpose in due]
-    expect_same("due", lines, keyreg(["report", "--file", file, "--days", str(DAYS)])[1:-1])
+    in_order(lines, keyreg(["report", "--file", file, "--days", str(DAYS)])[1:-1], "due")
     return len(requests), len(wanted)
 
 
@@ -71,7 +63,7 @@ def look_at_version_1(folder: pathlib.Path) -> int:
     rows = 0
     for name in names:
         answers, wanted = (asked(of_version, f"SELECT * FROM {name}") for of_version in (file, later))
-        expect_same(f"{name} of version 1", answers, wanted)
+        in_order(answers, wanted, f"{name} of version 1")
         rows += len(answers)
     expect(rows > len(names), f"{rows} rows of {len(names)} views")
     return len(names)
@@ -79,7 +71,6 @@ def look_at_version_1(folder: pathlib.Path) -> int:
 
 def main() -> None:
     with fresh_folder() as folder:
-        register_of_page(folder / "year.keyreg")
         requests, keys = look_at_views(folder / "year.keyreg")
         views = look_at_version_1(folder)
     verdict(f"{keys} keys of {requests} requests are as the rules say; {views} views answer of version 1 too")

@@ -15,7 +15,7 @@ import socket
 import ssl
 import sys
 import time
-from typing import Any, NamedTuple, Union
+from typing import Any, NamedTuple, Optional, Union
 
 sys.path.insert(1, str(pathlib.Path(__file__).resolve().parents[1] / "shared"))
 from nginx import HOST, USERS, Guard
@@ -43,11 +43,13 @@ class Answer(NamedTuple):
     value: Any
 
 
+def basic(user: str, word: Optional[str] = None) -> str:
+    return "Authorization: Basic " + base64.b64encode(f"{user}:{word or USERS[user]}".encode()).decode()
+
+
 def asked(place: Place, *lines: str, body: bytes = b"", user: Any = None, word: Any = None) -> Answer:
     """The answer to a request; a user gives a password."""
-    if user:
-        token = base64.b64encode(f"{user}:{word or USERS[user]}".encode()).decode()
-        lines = (*lines, f"Authorization: Basic {token}")
+    lines = (*lines, basic(user, word)) if user else lines
     is_port = isinstance(place, int)
     with socket.create_connection(("127.0.0.1", place), PATIENCE) if is_port else place.connected() as connection:
         connection.sendall(head(*lines, "Connection: close") + body)
@@ -67,10 +69,6 @@ def got(place: Place, path: str, user: Any = None, word: Any = None) -> Answer:
     return asked(place, f"GET {path} HTTP/1.1", f"Host: {HOST}", user=user, word=word)
 
 
-def expect_answer(what: str, answer: Answer, status: int, value: Any = None) -> None:
-    expect((answer.status, answer.value) == (status, value), f"{what}: {answer}, not {status} with {value}")
-
-
 def expect_no_preflight(place: Place, status: int, host: str, *fields: str) -> None:
     """What a browser asks before it sends another page's request is refused."""
     answer = asked(place, "OPTIONS /requests HTTP/1.1", f"Host: {host}", EVIL, "Access-Control-Request-Method: POST",
@@ -82,32 +80,26 @@ def expect_no_preflight(place: Place, status: int, host: str, *fields: str) -> N
 
 
 def behind(guard: Guard) -> None:
-    """What comes by way of nginx, where each number is used once."""
-    forged = ("Caller: office", "caller: office")
-    number = iter(f"Request-Number: {place}" for place in range(1, 99))
-    for user, word in STRANGERS:
-        expect_answer(f"{user} with {word}", posted(guard, PERIOD, *forged, next(number), user=user, word=word), 401)
-    answer = posted(guard, PERIOD, *forged, next(number), user="alice.meyer")
-    expect_answer("a forged caller", answer, 409, {"name": "NotOffice", "refused": 21})
-    answer = posted(guard, KEY, "Caller: bob", next(number), user="alice.meyer")
-    expect(answer.status == 200 and answer.value["key"] == 1, f"alice.meyer registers: {answer}")
-    for host in ("evil.example", "127.0.0.1", f"127.0.0.1:{guard.port}", "evil.example:80", f"{HOST}.evil.example"):
-        expect_answer(f"the host {host}", posted(guard, PERIOD, next(number), user="office", host=host), 421)
+    """Who a request that comes by way of nginx is from, and who is refused. A request that says for which user it is
+    acts for that one alone."""
+    forged, refused = {"fields": ("Caller: office", "caller: office")}, {"name": "NotOffice", "refused": 21}
+    another = {**KEY, "owner": "another"}
+    cases = [
+        *(({**forged, "user": user, "word": word}, PERIOD, 401, None) for user, word in STRANGERS),
+        ({**forged, "user": "alice.meyer"}, PERIOD, 409, refused),
+        ({"fields": ("Caller: bob",), "user": "alice.meyer"}, KEY, 200, 1),
+        *(({"user": "office", "host": host}, PERIOD, 421, None) for host in (
+            "evil.example", "127.0.0.1", f"127.0.0.1:{guard.port}", "evil.example:80", f"{HOST}.evil.example")),
+        ({"fields": ("Caller: alice.meyer",), "user": "office"}, PERIOD, 200, 0),
+        *(({"fields": (f"Desk-User: {shows}",), "user": "office"}, another, 412, None)
+          for shows in ("alice.meyer", "offic", "office:office")),
+        ({"fields": ("Desk-User: office",)}, another, 401, None),
+        ({"fields": ("Desk-User: alice.meyer",), "user": "alice.meyer"}, {**KEY, "purpose": "more"}, 200, 2)]
+    for number, (how, value, status, wanted) in enumerate(cases, 1):
+        answer = posted(guard, value, *how.pop("fields", ()), f"Request-Number: {number}", **how)
+        told = answer.value["key"] if status == 200 == answer.status else answer.value
+        expect((answer.status, told) == (status, wanted), f"request {number}: {answer}, not {status} with {wanted}")
     expect_no_preflight(guard, 401, HOST)
-    answer = posted(guard, PERIOD, "Caller: alice.meyer", next(number), user="office")
-    expect((answer.status, answer.value["key"]) == (200, 0), f"the office: {answer}")
-    whom_the_page_shows(guard)
-
-
-def whom_the_page_shows(guard: Guard) -> None:
-    """A request that says for which user it is acts for that one alone; without a password it is asked for."""
-    key = {**KEY, "owner": "another"}
-    for user, shows, status in (("office", "alice.meyer", 412), ("office", "offic", 412),
-                                ("office", "office:office", 412), (None, "office", 401)):
-        answer = posted(guard, key, f"Desk-User: {shows}", "Request-Number: 90", user=user)
-        expect_answer(f"{user} for {shows}", answer, status)
-    answer = posted(guard, KEY, "Desk-User: alice.meyer", "Request-Number: 5", user="alice.meyer")
-    expect(answer.value and answer.value["key"] == 1, f"a request again, for its own user: {answer}")
 
 
 def desk(guard: Guard) -> None:
@@ -118,9 +110,8 @@ def desk(guard: Guard) -> None:
             answer = got(guard, path, user, word)
             expect(answer.status == 401 and b"office" not in answer.body, f"{path} for {user} with {word}: {answer}")
         answer = got(guard, path, "office")
-        expect(answer.status == 200 and answer.body, f"{path}: {answer}")
-        expect(path == "/list.json" or POLICY in answer.lines, f"{path} comes without its policy: {answer.lines}")
-        expect("unsafe" not in answer.lines and "nosniff" in answer.lines, f"{path}: {answer.lines}")
+        is_held = (path == "/list.json" or POLICY in answer.lines) and "nosniff" in answer.lines
+        expect(answer.status == 200 and answer.body and is_held and "unsafe" not in answer.lines, f"{path}: {answer}")
     expect(got(guard, "/me", "alice.meyer").body == b"alice.meyer", "the name of the user")
     for path in ("/../list/list.json", "/nginx.conf", "/%2e%2e/users"):
         expect(got(guard, path, "office").status in (400, 404), f"{path} is handed out")
@@ -128,10 +119,9 @@ def desk(guard: Guard) -> None:
 
 def stalled(guard: Guard) -> None:
     """A client that sends half a body holds up nobody."""
-    token = base64.b64encode(b"office:desk").decode()
     with guard.connected() as connection:
-        connection.sendall(head("POST /requests HTTP/1.1", f"Host: {HOST}", f"Authorization: Basic {token}",
-                                "Request-Number: 50", "Content-Length: 100") + b'{"kind"')
+        connection.sendall(head("POST /requests HTTP/1.1", f"Host: {HOST}", basic("office"), "Request-Number: 50",
+                                "Content-Length: 100") + b'{"kind"')
         begun = time.monotonic()
         answer = posted(guard, {"kind": "advance"}, "Request-Number: 51", user="office")
         expect(answer.status == 200 and time.monotonic() - begun < 5, f"beside a client that stalls: {answer}")
@@ -171,7 +161,7 @@ def tried(tls: bool) -> None:
         served.kill()
         with database(served.file) as connection:
             rows = connection.execute("SELECT caller, number FROM request ORDER BY rowid").fetchall()
-    wanted = [("alice.meyer", 5), ("office", 11), ("office", 51), ("office", 60)]
+    wanted = [("alice.meyer", 5), ("office", 11), ("alice.meyer", 16), ("office", 51), ("office", 60)]
     expect(rows == wanted, f"accepted were {rows}, not {wanted}")
 
 

@@ -1,7 +1,7 @@
 #!/usr/bin/env python3
 """Puts tables to office/check_table.py that went out by `keyreg export` and came back: with what spreadsheets were seen
-to make of fields, and with what LibreOffice does where it is installed; with rows that are keys already, that an import
-refuses, and that stand twice; and of ten thousand rows that were all changed each is reported as it is found.
+to make of fields; with rows that are keys already, that an import refuses, and that stand twice; and of ten thousand
+rows that were all changed each is reported as it is found.
 
     checks/office/check_table_tried.py
 """
@@ -10,18 +10,16 @@ import io
 import json
 import pathlib
 import re
-import shutil
 import subprocess
 import sys
 import time
-from datetime import datetime, timedelta
 from typing import Any, Iterable, Mapping, Sequence
 
 sys.path.insert(1, str(pathlib.Path(__file__).resolve().parents[1] / "shared"))
 from places import TOP
 from registers import IMPORT_COLUMNS, File, copy_files, new_register, run_program
-from register_rules import text_of
-from script import expect, fresh_folder, output_of, verdict
+from register_rules import moment_of, text_of
+from script import expect, fresh_folder, verdict
 from tools import exported, run_tool, words_of
 
 CASES = TOP / "desk" / "tests" / "made.json"
@@ -51,11 +49,6 @@ REFUSED = [
     ({"purpose": "a\tb"}, "control"), ({"purpose": "ü" * 101}, "too long"),
 ]
 KEY = {"type": "master", "owner": "ann", "activation": "", "protect_stop": "", "deactivation": "", "purpose": "root"}
-# How LibreOffice reads a table: as it proposes, as Windows-1252, and as UTF-8 with each column as text. It writes
-# UTF-8.
-TEXT_COLUMNS = "1/2/2/2/3/2/4/2/5/2/6/2"
-READINGS = {"as it proposes": None, "as Windows-1252": "44,34,1", "as text": f"44,34,76,1,{TEXT_COLUMNS}"}
-FILTER = "Text - txt - csv (StarCalc)"
 # How many rows are all changed, at first and at last.
 FEW, MANY = 2_500, 10_000
 
@@ -82,93 +75,75 @@ class Desk:
     def __init__(self, folder: pathlib.Path, keys: Sequence[Row]) -> None:
         self.file, self.export, self.table = (folder / name for name in ("a.keyreg", "export.csv", "table.csv"))
         new_register(copy_files(None, self.file))
-        put(self.table, keys)
-        self.import_table(1, ["ok"] * len(keys))
-        self.keys = list(csv.DictReader(io.StringIO(self.write_export())))
-        put(self.table, self.keys)
+        self.import_rows(keys, 1, "ok")
+        self.keys = self.write_export()
 
-    def write_export(self) -> str:
+    def write_export(self) -> list[dict[str, str]]:
         export = exported(self.file)
         self.export.write_text(export, encoding="utf-8")
-        return export
+        return list(csv.DictReader(io.StringIO(export)))
 
-    def import_table(self, first: int, wanted: list[str]) -> None:
-        """Imports the table, whose rows are answered so."""
+    def import_rows(self, rows: Sequence[Row], first: int, wanted: str) -> None:
+        """Imports a table of these rows, each of which is answered so."""
+        put(self.table, rows)
         words = ["import", "--file", self.file, "--moment", "1769904000", "--caller", "intake", "--first", str(first)]
         done = run_program(words, self.table.read_bytes())
         answers = [line.split(" ")[0] for line in done.stdout.decode().splitlines()]
-        expect((done.returncode, answers) == (0, wanted), f"import: {done}")
+        expect((done.returncode, answers) == (0, [wanted] * len(rows)), f"import: {done}")
 
-    def expect_end(self, status: int, text: str, *more: Any) -> list[str]:
-        """A check of the table ends with this status, and its last line has this text. Gives its lines."""
+    def expect_lines(self, rows: Iterable[Row], status: int, last: str, *begins: tuple[str, str],
+                     more: Sequence[Any] = ()) -> None:
+        """A check of a table of these rows ends so. Its last line has this text, and there are lines that begin with
+        the one text and have the other."""
+        put(self.table, rows)
         end, lines = checked(self.table, self.export, *more)
-        expect(end == status and text in lines[-1], f"not {status} with {text!r}: {end}, {lines}")
-        return lines
-
-
-def expect_line(lines: Sequence[str], begin: str, text: str = "") -> None:
-    expect(any(line.startswith(begin) and text in line for line in lines), f"no {begin!r} with {text!r}: {lines}")
+        expect(end == status and last in lines[-1], f"not {status} with {last!r}: {end}, {lines}")
+        for begin, text in begins:
+            is_there = any(line.startswith(begin) and text in line for line in lines)
+            expect(is_there, f"no {begin!r} with {text!r}: {lines}")
 
 
 # ---- the parts
 
 
 def recorded(folder: pathlib.Path) -> None:
-    """Each conversion is reported, with its row, its key and its column."""
+    """Each conversion is reported, with its row, its key and its column, also where the rows were turned round."""
     keys = [{**KEY, "owner": f"team{place}", "purpose": f"disks {place}", column: was}
             for place, (column, was, _, _) in enumerate(RECORDED)]
-    desk = Desk(folder, keys)
+    desk, count = Desk(folder, keys), len(RECORDED)
     rows = [{**key, column: now} for key, (column, _, now, _) in zip(desk.keys, RECORDED)]
-    for is_reversed in (False, True):
-        put(desk.table, rows[::-1] if is_reversed else rows)
-        lines = desk.expect_end(1, f"{len(rows)} changed by a spreadsheet")
-        for place, (column, was, now, how) in enumerate(RECORDED):
-            row = len(rows) - place if is_reversed else place + 1
-            expect_line(lines, f"row {row} (key {place + 1}): {column} was {was!r} and is {now!r}: ", how)
-
-
-def by_libreoffice(folder: pathlib.Path) -> str:
-    """What LibreOffice makes of a table; how it was asked."""
-    program = shutil.which("libreoffice") or shutil.which("soffice")
-    if not program:
-        return "LibreOffice is not installed, and was left out"
-    texts, purposes = ["0042", "1e5", "3.10", ".5", "ann"], ["plain", "00123", "=1+1", "Schlüssel", "=A1"]
-    keys = [{**KEY, "owner": owner, "purpose": purpose, "activation": START} for owner, purpose in zip(texts, purposes)]
-    desk, out, counts = Desk(folder, keys), folder / "out", {}
-    for name, reading in READINGS.items():
-        words = [program, "--headless", f"-env:UserInstallation=file://{folder}/profile", "--convert-to",
-                 f"csv:{FILTER}:44,34,76", "--outdir", out, *([f"--infilter={FILTER}:{reading}"] if reading else []),
-                 desk.table]
-        output_of(words, timeout=120)
-        status, lines = checked(out / "table.csv", desk.export)
-        text, counts[name] = "\n".join(lines), sum(" was " in line for line in lines[:-1])
-        is_same = (out / "table.csv").read_bytes() == desk.table.read_bytes()
-        expect(status == 1 and (is_same == (name == "as text")), f"{name}: {status}, {lines}")
-        expect(is_same or all(f"was {was!r}" in text for was in (*texts[:4], "00123", "=1+1")), f"{name}: {lines}")
-        expect(name != "as Windows-1252" or "SchlÃ¼ssel" in text, f"{name}: {lines}")
-        expect(" 0 new" in lines[-1], f"{name}: {lines}")
-    return "LibreOffice changed " + ", ".join(f"{count} fields read {name}" for name, count in counts.items())
+    for way in (1, -1):
+        desk.expect_lines(rows[::way], 1, f"{count} changed by a spreadsheet", *(
+            (f"row {key if way == 1 else count + 1 - key} (key {key}): {column} was {was!r} and is {now!r}: ", how)
+            for key, (column, was, now, how) in enumerate(RECORDED, 1)))
 
 
 def rows_reported(folder: pathlib.Path) -> None:
-    """Rows that are keys already, that are refused, and new ones; an import answers as was said."""
+    """Rows that are keys already, that are refused, that stand twice, and new ones; an import answers as was said."""
     desk = Desk(folder, [KEY, {**KEY, "purpose": "another"}])
-    expect_line(desk.expect_end(1, "2 there already")[:1], "row 1: it is key 1 already")
-    put(desk.table, [{**KEY, **change} for change, _ in REFUSED])
-    lines = desk.expect_end(1, f"{len(REFUSED)} of another form, 0 new")
-    for place, (_, how) in enumerate(REFUSED, 1):
-        expect_line(lines, f"row {place}: ", how)
-    desk.import_table(100, ["refused"] * len(REFUSED))
-    put(desk.table, [{**KEY, "owner": "bob", "purpose": "new"}, {**KEY, "purpose": "b=new"}])
+    desk.expect_lines(desk.keys, 1, "2 there already", ("row 1: it is key 1 already", ""))
+    refused = [{**KEY, **change} for change, _ in REFUSED]
+    desk.expect_lines(refused, 1, f"{len(REFUSED)} of another form, 0 new",
+                      *((f"row {place}: ", how) for place, (_, how) in enumerate(REFUSED, 1)))
+    desk.import_rows(refused, 100, "refused")
     # A number need not be above the last one of the caller.
-    desk.import_table(50, ["ok", "ok"])
-    put(desk.table, [{**KEY, "owner": "carl", "purpose": "newer"}])
-    desk.import_table(2, ["refused"])
+    desk.import_rows([{**KEY, "owner": "bob", "purpose": "new"}, {**KEY, "purpose": "b=new"}], 50, "ok")
+    rows = [{**KEY, "owner": "carl", "purpose": "newer"}]
+    desk.import_rows(rows, 2, "refused")
     for caller, number in (("intake", 52), ("nobody", 1)):
-        lines = desk.expect_end(0, "", "--copy", desk.file, "--caller", caller)
-        expect(lines[0] == f"the next first number of {caller}: --first {number}", f"{lines}")
-        if caller == "intake":
-            desk.import_table(number, ["ok"])
+        desk.expect_lines(rows, 0, "1 new", (f"the next first number of {caller}: --first {number}", ""),
+                          more=("--copy", desk.file, "--caller", caller))
+    desk.import_rows(rows, 52, "ok")
+    # Of two rows one has the dates that the period gives the other.
+    row = {**KEY, "owner": "dora", "activation": START}
+    whole = {**row, "protect_stop": "2027-02-01T00:00:00Z", "deactivation": "2027-02-01T00:00:00Z"}
+    rows = [row, {**row, "owner": "emil"}, row, whole]
+    desk.expect_lines(rows, 1, "2 repeated, 0 of another form, 2 new",
+                      *((f"row {number}: it is row 1 again", "") for number in (3, 4)))
+    # A table that was imported is known, though its rows leave the later dates out.
+    desk.import_rows(rows, 200, "ok")
+    desk.write_export()
+    desk.expect_lines(rows, 1, "4 there already, 0 repeated, 0 of another form, 0 new")
 
 
 def known_again(folder: pathlib.Path) -> int:
@@ -184,65 +159,30 @@ def known_again(folder: pathlib.Path) -> int:
     return len(cases)
 
 
-def repeats(folder: pathlib.Path) -> None:
-    """A row that stands twice in a table, also where one has the dates that the period gives the other."""
-    desk = Desk(folder, [KEY])
-    row = {**KEY, "owner": "dora", "activation": START}
-    whole = {**row, "protect_stop": "2027-02-01T00:00:00Z", "deactivation": "2027-02-01T00:00:00Z"}
-    put(desk.table, [row, {**row, "owner": "emil"}, row, whole])
-    lines = desk.expect_end(1, "2 repeated, 0 of another form, 2 new")
-    for number in (3, 4):
-        expect_line(lines, f"row {number}: it is row 1 again")
-    # A table that was imported is known, though its rows leave the later dates out.
-    desk.import_table(200, ["ok"] * 4)
-    desk.write_export()
-    expect(" 0 new" in desk.expect_end(1, "4 there already")[-1], "a row of a table that was imported is new")
-
-
 def no_tables(folder: pathlib.Path) -> None:
     """Of what is no table it is said what is wrong."""
-    desk, whole = Desk(folder, [KEY]), ",".join(COLUMNS) + "\nmaster,ann,,,,Schlüssel\n"
-    for raw, how in ((whole.encode("utf-16"), "UTF-16"), (whole.encode("latin-1"), "no UTF-8"),
+    table, export, whole = folder / "none.csv", folder / "export.csv", ",".join(COLUMNS) + "\nmaster,a,,,,Schlüssel\n"
+    for raw, how in ((None, "No such file"), (whole.encode("utf-16"), "UTF-16"), (whole.encode("latin-1"), "no UTF-8"),
                      (whole.encode("utf-8-sig"), "byte order mark"), (whole.replace(",", ";").encode(), "`;`"),
                      (b"", "header row"), (b"number,owner\n", "header row")):
-        desk.table.write_bytes(raw)
-        desk.expect_end(2, how)
-    expect(checked(folder / "none", desk.export)[0] == 2, "a table that is not there")
-
-
-# ---- many rows
-
-
-def many(folder: pathlib.Path) -> float:
-    """The seconds of a table of ten thousand rows, all alike but for a number."""
-    keys = [{**KEY, "number": place, "owner": f"{place:05}", "purpose": "disks"} for place in range(1, MANY + 1)]
-    export, table = folder / "export.csv", folder / "table.csv"
-    put(export, keys, ["number", *COLUMNS])
-    put(table, [{**key, "owner": key["owner"].lstrip("0")} for key in keys])
-    begun = time.monotonic()
-    status, lines = checked(table, export)
-    expect(status == 1 and lines[0].startswith("row 1 (key 1): owner was '00001'"), f"{lines[:3]}")
-    count = sum(len(key["owner"].lstrip("0")) < 5 for key in keys)
-    expect(f"{count} changed by a spreadsheet, {MANY - count} there already" in lines[-1], f"{lines[-1]}")
-    return time.monotonic() - begun
-
-
-def saved_as(form: str, key: Row) -> Row:
-    """The key with its dates as a spreadsheet writes them."""
-    return {**key, **{name: datetime.strptime(key[name], "%Y-%m-%dT%H:%M:%SZ").strftime(form) for name in DATES}}
+        if raw is not None:
+            table.write_bytes(raw)
+        status, lines = checked(table, export)
+        expect(status == 2 and how in lines[-1], f"not 2 with {how!r}: {status}, {lines}")
 
 
 def all_changed(folder: pathlib.Path, count: int) -> list[float]:
     """So many rows of which each was changed, in all dates, in place and the other way round: each is reported with its
     key, and the first before the others were looked at. Gives the seconds that each way took."""
-    day, seconds = (datetime(2026, 1, 1) - datetime(1970, 1, 1)).total_seconds(), list[float]()
+    begin, seconds = moment_of("2026-01-01T00:00:00Z"), list[float]()
     export, table = folder / "export.csv", folder / "table.csv"
+    dates = [[begin + 3600 * (7 * n + 7200 * later) for later in range(3)] for n in range(1, count + 1)]
     keys = [{**KEY, "type": "data-encryption", "number": n, "owner": f"team{n % 40}", "purpose": f"disks {n}",
-             **{name: text_of(day + timedelta(hours=7 * n, days=300 * later).total_seconds())
-                for later, name in enumerate(DATES)}} for n in range(1, count + 1)]
+             **dict(zip(DATES, map(text_of, of_key)))} for n, of_key in enumerate(dates, 1)]
     put(export, keys, ["number", *COLUMNS])
     for form, way in (("%m/%d/%y %I:%M:%S %p", 1), ("%Y-%m-%d %H:%M:%S", 1), ("%d.%m.%Y %H:%M", -1)):
-        put(table, [saved_as(form, key) for key in keys][::way])
+        put(table, [{**key, **{name: time.strftime(form, time.gmtime(date)) for name, date in zip(DATES, of_key)}}
+                    for key, of_key in zip(keys, dates)][::way])
         begun, words = time.monotonic(), words_of("check_table", table, "--export", export)
         with subprocess.Popen(words, stdout=subprocess.PIPE, text=True) as process:
             first, came = process.stdout.readline(), time.monotonic() - begun
@@ -259,18 +199,14 @@ def all_changed(folder: pathlib.Path, count: int) -> list[float]:
 def main() -> None:
     with fresh_folder() as folder:
         recorded(folder)
-        office = by_libreoffice(folder)
         rows_reported(folder)
         known = known_again(folder)
-        repeats(folder)
         no_tables(folder)
-        alike, few, most = many(folder), all_changed(folder, FEW), all_changed(folder, MANY)
+        few, most = all_changed(folder, FEW), all_changed(folder, MANY)
     grown = sum(most) / sum(few)
     expect(grown <= 2 * MANY / FEW, f"{MANY} changed rows took {grown:.1f} times as long as {FEW}: {most}, {few}")
-    print(office)
-    verdict(f"{len(RECORDED)} conversions, {len(REFUSED)} refused rows and {known} rows of keys were reported; "
-            f"{MANY} rows took {alike:.1f} seconds, and {MANY} changed ones {max(most):.1f} at most, {grown:.1f} times "
-            f"as long as {FEW}")
+    verdict(f"{len(RECORDED)} conversions, {len(REFUSED)} refused rows and {known} rows of keys were reported; {MANY} "
+            f"changed rows took {max(most):.1f} seconds at most, {grown:.1f} times as long as {FEW}")
 
 
 if __name__ == "__main__":

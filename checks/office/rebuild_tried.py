@@ -13,89 +13,74 @@ import random
 import re
 import subprocess
 import sys
-import time
 from typing import Any
 
 sys.path.insert(1, str(pathlib.Path(__file__).resolve().parents[1] / "shared"))
 from drawn_registers import DAY, FULL, HOSTILE, changed, drawn, first_version, made, rows_of
-from registers import STATES, File, copy_files, database, new_register, run_program
+from registers import STATES, File, copy_files, database, new_register
 from register_rules import OF_VERSION_2
-from rules_shown import tables
-from script import expect, fresh_folder, options, show, verdict
-from tools import exported, many_requests, registers_after, run_tool
+from script import expect, fresh_folder, in_order, options, verdict
+from tools import exported, many_requests, run_tool
 
 # By how much the moments of a register go on: where not at all, the rows' order alone shows that of the requests.
-STEPS = [(0, 0, 0, DAY), (0,), (0, DAY, 30 * DAY), (1, DAY)]
+STEPS = [(0, 0, 0, DAY), (0, DAY, 30 * DAY), (0,)]
 FORETOLD = re.compile(r"(refused|otherwise): \d+ (\S+) (\d+) ['\"].*['\"]: (\w+)")
 PAGE = 4096
 
 
-def rebuilt(*words: Any) -> tuple[int, str, list[str]]:
+def rebuilt(*words: Any) -> tuple[int, list[str], list[str]]:
     """The status, the lines, and what is said on standard error."""
     done = run_tool("rebuild", *words)
-    return done.returncode, done.stdout.decode(), done.stderr.decode().splitlines()
+    return done.returncode, done.stdout.decode().split("\n")[:-1], done.stderr.decode().splitlines()
 
 
-def remade(folder: pathlib.Path, lines: str) -> tuple[File, list[str]]:
-    """The register that the lines make in a new file, and the replies."""
+def remade(folder: pathlib.Path, lines: list[str], *words: Any) -> tuple[File, list[str]]:
+    """The register that the lines make in a new file, and the replies; these have to begin with the words."""
     file = copy_files(None, folder / "again.keyreg")
-    new_register(file)
-    done = run_program(["run", "--file", file], lines.encode())
-    expect(done.returncode == 0 and not done.stderr, f"run: {done.returncode}, {done.stderr}")
-    return file, done.stdout.decode().splitlines()
+    replies = new_register(file, lines) if lines else new_register(file)
+    expect(all(reply.startswith(words) for reply in replies), f"{lines[:3]}..: a reply is none of {words}")
+    return file, replies
 
-
-def remade_well(folder: pathlib.Path, lines: str, what: str) -> tuple[File, int]:
-    """The same where each line is accepted, and how many there are."""
-    again, replies = remade(folder, lines)
-    expect(all(reply.startswith("ok ") for reply in replies), f"{what}: a reply is no ok")
-    return again, len(replies)
-
-
-# ---- the parts
 
 def whole(folder: pathlib.Path, copy: File) -> int:
     """Of the whole list the same register comes, row by row. Gives how many requests that were."""
     status, lines, said = rebuilt(copy)
     is_whole = said[0].endswith(", 0 left out; 0 will be refused, 0 answered otherwise")
     expect(status == 0 and len(said) == 1 and is_whole, f"{copy}: {status}, {said[:3]}")
-    again, count = remade_well(folder, lines, f"{copy}")
+    again, _ = remade(folder, lines, "ok ")
     # A file of version 1 becomes one of version 2 in the program's hands.
     later = copy_files(copy, folder / "later.keyreg")
     expect(exported(later) == exported(again), f"{copy}: another export")
     wanted, rows = rows_of(later), rows_of(again)
+    expect(wanted.keys() == rows.keys(), f"{copy}: other tables")
     for name in wanted:
-        expect(rows[name] == wanted[name], f"{copy}: other rows of {name}")
-    expect(count == len(wanted["request"]) and wanted.keys() == rows.keys(), f"{copy}: {count} replies")
-    return count
+        in_order(rows[name], wanted[name], f"{copy}: {name}")
+    return len(wanted["request"])
 
 
-def prefixes(folder: pathlib.Path, copy: File, lines: list[str], chance: random.Random) -> None:
-    """Of a prefix come the tables that the rules give for the lines of that prefix."""
-    # Of accepted requests, so that a moment too few or too many is seen.
-    moments = [row[-1] for row in rows_of(copy)["request"]]
+def prefixes(folder: pathlib.Path, copy: File, chance: random.Random) -> None:
+    """Of a prefix come its requests, and by office/replay.py the tables that they give."""
+    requests = rows_of(copy)["request"]
+    moments = [row[-1] for row in requests]
     for until in {0, moments[0], chance.choice(moments), chance.choice(moments) - 1, moments[-1]}:
-        for _, register in registers_after(line for line in lines if int(line.split(" ")[0]) <= until):
-            pass
-        status, given, said = rebuilt(copy, "--until", str(until))
+        status, lines, said = rebuilt(copy, "--until", until)
         expect(status == 0, f"--until {until}: {status}, {said[-1]}")
-        again, _ = remade_well(folder, given, f"--until {until}")
-        rows = {name: sorted(of_table) for name, of_table in rows_of(again).items()}
-        expect(rows == tables(register), f"--until {until}: other tables than the rules give")
+        again, _ = remade(folder, lines, "ok ")
+        in_order(rows_of(again)["request"], [row for row in requests if row[-1] <= until], f"--until {until}")
+        expect(run_tool("replay", again).returncode == 0, f"--until {until}: not what its requests give")
 
 
 def without(folder: pathlib.Path, copy: File, chance: random.Random) -> tuple[int, int]:
     """What is said to be refused and answered otherwise is, and nothing else. Gives how many of each."""
     kept = {row[:2]: row for row in rows_of(copy)["request"]}
     gone = chance.sample(sorted(kept), chance.randint(1, 4))
-    words = [str(word) for place in gone for word in ("--without", *place)]
+    words = [word for place in gone for word in ("--without", *place)]
     status, lines, said = rebuilt(copy, *words)
-    _, replies = remade(folder, lines)
     foretold: dict[str, dict[tuple[str, int], str]] = {"refused": {}, "otherwise": {}}
     for kind, caller, number, how in (match.groups() for match in map(FORETOLD.match, said) if match):
         foretold[kind][caller, int(number)] = how
     refused, otherwise = {}, set()
-    for line, reply in zip(lines.split("\n"), replies):
+    for line, reply in zip(lines, remade(folder, lines, "ok ", "refused ")[1]):
         place = (line.split(" ")[1], int(line.split(" ")[2]))
         key, state, moment = kept.pop(place)[3:]
         if reply.startswith("refused "):
@@ -113,36 +98,33 @@ def without(folder: pathlib.Path, copy: File, chance: random.Random) -> tuple[in
 
 def another_key(folder: pathlib.Path) -> None:
     """What goes to another key, once a registration is gone, is reported although each of its replies is as before."""
-    lines = ["100 ann 1 register master bob - - - first", "100 ann 2 register master bob - - - second",
-             "100 ann 3 register master bob - - - third", "101 bob 1 assign 2 eve", "102 cat 1 revoke 3 2 -"]
-    copy, _ = made(folder, "three", lines)
+    copy, _ = made(folder, "three", [
+        "100 ann 1 register master bob - - - first", "100 ann 2 register master bob - - - second",
+        "100 ann 3 register master bob - - - third", "101 bob 1 assign 2 eve", "102 cat 1 revoke 3 2 -"])
     status, _, said = rebuilt(copy, "--without", "ann", "1")
-    reaches = [line for line in said if "assign 2 eve" in line and "it reaches key 2, which was key 3" in line]
-    expect(status == 1 and reaches, f"{said}")
-    expect(any("revoke 3 2 -" in line and "UnknownKey, for want of 100 ann 1" in line for line in said), f"{said}")
-    expect("1 will be refused, 3 answered otherwise" in said[-1], f"{said[-1]}")
+    for pattern in ("assign 2 eve.*it reaches key 2, which was key 3", "revoke 3 2 -.*UnknownKey, for want of 100 ann",
+                    "1 will be refused, 3 answered otherwise"):
+        expect(status == 1 and re.search(pattern, "\n".join(said)), f"{status}, no {pattern!r} in {said}")
 
 
 def no_requests(copy: File) -> None:
     """Rows that are no requests become no line, and are reported."""
     put = "INSERT INTO request VALUES (?, ?, ?, 1, 1, 300)"
     two_lines = "register master bob - - - x\n300 office 900 set-period master 1 0"
-    anew = [("CREATE TABLE other AS SELECT * FROM request{}",), ("DROP TABLE request",),
-            ("ALTER TABLE other RENAME TO request",)]
 
-    def again(order: str = "", *more: tuple[str]) -> list[tuple[str]]:
-        return [(statement.format(order),) for statement, in anew] + list(more)
+    def again(order: str = "") -> list[tuple[str]]:
+        return [(f"CREATE TABLE other AS SELECT * FROM request {order}",), ("DROP TABLE request",),
+                ("ALTER TABLE other RENAME TO request",)]
 
     rows = [("eve", 900, two_lines), ("eve", 900, ""), ("e e", 900, "advance"), ("eve", 0, "advance"),
             ("eve", 900, "register master bob - - - x\r")]
-    cases = [(f"{row}", "it is no request", [(put, row)]) for row in rows]
-    second = "INSERT INTO request SELECT * FROM request WHERE number = 2"
-    cases.append(("twice", "of this number before", again("", (second,))))
-    for what, text, statements in cases:
-        status, lines, said = rebuilt(changed(copy, *statements))
-        expect(status == 1 and any(text in line for line in said), f"{what}: {status}, {said}")
-        expect(lines == rebuilt(copy)[1], f"{what}: other lines")
-    said = rebuilt(changed(copy, *again(" ORDER BY rowid DESC")))[2]
+    twice = [*again(), ("INSERT INTO request SELECT * FROM request WHERE number = 2",)]
+    lines = rebuilt(copy)[1]
+    for text, statements in (*(("it is no request", [(put, row)]) for row in rows), ("of this number before", twice)):
+        status, given, said = rebuilt(changed(copy, *statements))
+        expect(status == 1 and any(text in line for line in said), f"{statements}: {status}, {said}")
+        expect(given == lines, f"{statements}: other lines")
+    said = rebuilt(changed(copy, *again("ORDER BY rowid DESC")))[2]
     expect(any(line.startswith("order: ") for line in said), "rows that do not go by their moments are not reported")
 
 
@@ -163,20 +145,15 @@ def damaged(folder: pathlib.Path) -> None:
     written; of what SQLite's shell finds in the other pages each comes, in its order."""
     lines = [f"{100 + n} ann {n} register master bob - - - disks {n} {'x' * 150}" for n in range(1, 121)]
     copy = changed(made(folder, "whole", lines)[0], ("UPDATE meta SET latest = latest",))
-    for table, wanted, wanted_lines in (("keys", 0, rebuilt(copy)[1]), ("request", 2, "")):
+    for table, wanted, wanted_lines in (("keys", 0, lines), ("request", 2, [])):
         bad = with_noise(copy, table)
-        done = run_program(["report", "--file", bad, "--days", "0"])
         status, given, said = rebuilt(bad)
-        expect(done.returncode and status == wanted, f"{table}: {done}, {status}, {said}")
-        expect(given == wanted_lines, f"{table}: {given[:200]}")
+        expect((status, given) == (wanted, wanted_lines), f"{table}: {status}, {given[:3]}, {said}")
     dump = f"sqlite3 {bad} '.dump --preserve-rowids request' | sed 's/^ROLLBACK.*/COMMIT;/' | sqlite3 {copy}.found"
     subprocess.run(["sh", "-c", dump], stderr=subprocess.DEVNULL, check=True)
-    _, given, said = rebuilt(f"{copy}.found")
-    there = given.splitlines()
-    places = [int(line.split(" ")[2]) for line in there]
-    is_in_order = there == [lines[place - 1] for place in places] and places == sorted(places)
-    expect(is_in_order, "what was found comes otherwise")
-    expect(60 < len(there) < len(lines), f"{len(there)} of {len(lines)} requests were found")
+    _, found, said = rebuilt(f"{copy}.found")
+    expect(found == [line for line in lines if line in found], "what was found comes otherwise")
+    expect(60 < len(found) < len(lines), f"{len(found)} of {len(lines)} requests were found")
     expect(", 0 answered otherwise" not in said[-1], f"what comes of the lost ones is not said: {said[-1]}")
 
 
@@ -187,52 +164,38 @@ def statuses(folder: pathlib.Path, copy: File) -> None:
     for words in ((text,), (folder / "none",), (copy, "--until", "tomorrow"), (copy, "--until", "-1"),
                   (copy, "--without", "ann", "77777"), (copy, "--without", "ann", "one"), (copy, "--without", "ann")):
         status, lines, said = rebuilt(*words)
-        expect((status, lines) == (2, "") and said, f"{words}: {status}, {said}")
+        expect((status, lines) == (2, []) and said, f"{words}: {status}, {said}")
     with open("/dev/full", "wb") as full:
         done = run_tool("rebuild", copy, capture_output=False, stdout=full, stderr=subprocess.PIPE)
     expect(done.returncode == 3 and b"Traceback" not in done.stderr, f"a full disk: {done}")
     by_text, by_number = rebuilt(copy, "--until", "1970-01-01T00:04:00Z"), rebuilt(copy, "--until", "240")
-    expect(by_text == by_number and "set-quorum 3 3" in by_text[1], "a moment as a text is another than as a number")
-
-
-def many(folder: pathlib.Path, count: int) -> float:
-    """The seconds that a register of so many requests takes, from its copy to its lines."""
-    copy, accepted = made(folder, "many", many_requests(count, ["data-encryption"], HOSTILE))
-    expect(accepted == count, f"{accepted} of {count} accepted")
-    begun = time.monotonic()
-    rebuilt(copy)
-    seconds = time.monotonic() - begun
-    whole(folder, copy)
-    return seconds
+    is_same = by_text == by_number and by_text[1][-1].endswith("set-quorum 3 3")
+    expect(is_same, f"a moment as a text is another than as a number: {by_text}")
 
 
 def main() -> None:
-    given = options(__doc__, requests=100_000, registers=12, lines=700, seed=random.randrange(1_000_000))
+    given = options(__doc__, requests=20_000, registers=6, lines=700, seed=random.randrange(1_000_000))
     print(f"seed {given.seed}", flush=True)
     chance, requests, foretold = random.Random(given.seed), 0, [0, 0]
     with fresh_folder(2**28) as folder:
         for place in range(given.registers):
-            show(f"{place} of {given.registers} registers")
-            steps, is_first = STEPS[place // 2 % len(STEPS)], place % 2
-            lines = list(drawn(chance, given.lines, steps, HOSTILE))
+            lines, is_first = list(drawn(chance, given.lines, STEPS[place // 2 % len(STEPS)], HOSTILE)), place % 2
             lines = [line for line in lines if not is_first or line.split(" ")[3] not in OF_VERSION_2]
             copy, _ = made(folder, f"drawn_{place}", lines)
             copy = first_version(copy) if is_first else copy
             requests += whole(folder, copy)
-            prefixes(folder, copy, lines, chance)
+            prefixes(folder, copy, chance)
             for _ in range(4):
                 foretold = [before + more for before, more in zip(foretold, without(folder, copy, chance))]
+        expect(min(foretold) > 0, f"{foretold} refused and answered otherwise: too few to tell")
         full, _ = made(folder, "full", FULL)
-        whole(folder, full)
         another_key(folder)
         no_requests(full)
         statuses(folder, full)
         damaged(folder)
-        expect(min(foretold) > 0, f"{foretold} refused and answered otherwise: too few to tell")
-        seconds = many(folder, given.requests)
-    verdict(f"{given.registers} drawn registers of {requests} requests, and one of {given.requests}, whose lines took "
-            f"{seconds:.1f} seconds, were made again row by row; {foretold[0]} refusals and {foretold[1]} "
-            "other answers came as was said")
+        requests += whole(folder, made(folder, "many", many_requests(given.requests, ["data-encryption"], HOSTILE))[0])
+    verdict(f"{given.registers + 1} registers of {requests} requests were made again row by row; {foretold[0]} "
+            f"refusals and {foretold[1]} other answers came as was said")
 
 
 main()

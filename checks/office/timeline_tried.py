@@ -1,11 +1,11 @@
 #!/usr/bin/env python3
-"""Looks at what office/timeline.py draws of an export, in chromium. Each key is drawn once; at moments drawn at random
-its line is as the states and the usage of office/register_rules.py say. Every text of a key stays a text, and nothing
-is loaded. At 380, 800 and 1600 wide, light and dark, nothing runs over its neighbour or past the edge, and each row's
-button gives all texts and dates of its key. Printed, each row stands whole on one sheet. Ten thousand keys are sorted,
-filtered, and turned over by pages, and are shown in at most TIMES the time that a thousand take.
+"""Looks at what office/timeline.py draws of an export, in chromium. Each key is drawn once, with the state that
+office/register_rules.py gives, and its line by the cases that the desk draws by. Every text of a key stays a text, and
+nothing is loaded. At 380, 800 and 1600 wide, light and dark, nothing runs over its neighbour or past the edge, and each
+row's button gives all texts and dates of its key. Printed, each row stands whole on one sheet. Ten thousand keys are
+sorted, filtered, and turned over by pages, and are shown in at most TIMES the time that a thousand take.
 
-    checks/office/timeline_tried.py [--screenshots FOLDER]
+    checks/office/timeline_tried.py
 
 It needs chromium, chromium-driver, python3-selenium and poppler-utils of Debian.
 """
@@ -17,17 +17,14 @@ import random
 import re
 import shutil
 import sys
-import time
-from datetime import datetime, timezone
-from typing import Any, Iterable, Iterator, Mapping, Optional
+from typing import Any, Iterator, Mapping
 
 sys.path.insert(1, str(pathlib.Path(__file__).resolve().parents[1] / "shared"))
 from places import TOP
-from browser import as_seen
-from page_seen import Browser, Element, Page
+from browser import as_seen, as_usual, chromium, print_page
 from registers import EXPORT_COLUMNS, EXPORT_DATES, export_row, new_register
-from register_rules import ACTIVE, COMPROMISED, PRE_ACTIVE, STATES, Key, text_of
-from script import expect, fresh_folder, options, verdict
+from register_rules import STATES, moment_of, state_at, text_of
+from script import expect, fresh_folder, in_order, output_of, verdict
 from timeline import NEVER, spans_of
 from tools import exported, run_tool
 
@@ -57,10 +54,9 @@ LINES = [re.sub(r"(?<![^ ])[+-]\d+(?![^ ])", lambda days: str(NOW + int(days[0])
 WIDTHS = (380, 800, 1600)
 # How much longer ten thousand keys may take than a thousand.
 TIMES = 3
-# What may load something, or run.
-LOADING = {"src", "href", "xlink:href", "srcset", "action", "formaction", "data", "poster", "background", "style"}
 TAGS = ("html head meta title style body h1 p div span svg rect path line text defs pattern circle form label "
         "select option input button script noscript table colgroup col thead tbody tr th td")
+PROBE = pathlib.Path(__file__).with_name("page_seen.js")
 
 # A row of an export with its dates in seconds, and its state.
 Row = Mapping[str, Any]
@@ -72,115 +68,6 @@ def drawn(export: str) -> str:
     return done.stdout.decode()
 
 
-def seconds(text: str) -> Optional[int]:
-    if not text:
-        return None
-    return round(datetime.strptime(text, "%Y-%m-%dT%H:%M:%SZ").replace(tzinfo=timezone.utc).timestamp())
-
-
-def key_of(row: Row, ends: Iterable[Optional[int]]) -> Key:
-    """The key of a row by the rules, with these Destroy and Compromise Dates."""
-    return Key(row["type"], row["owner"], row["purpose"], row["initial"], row["activation"], row["protect_stop"],
-               row["deactivation"], *ends)
-
-
-def keys_of(export: str) -> Iterator[Row]:
-    """The rows of an export, with the state that the rules give each at the moment."""
-    for row in csv.DictReader(io.StringIO(export)):
-        row = {**row, **{name: seconds(row[name]) for name in EXPORT_DATES}}
-        yield {**row, "state": STATES[key_of(row, (row["destroyed"], row["compromised"])).state(NOW)]}
-
-
-def plain(text: str) -> str:
-    return re.sub("[\u202e]", lambda mark: f"\\u{ord(mark[0]):04x}", text)
-
-
-def is_there(row: Row, moment: int) -> Optional[str]:
-    """What the line of a key shows at a moment, by the rules: protect, process, wait, or nothing."""
-    key = key_of(row, (None if row[name] is None or row[name] > moment else row[name]
-                       for name in ("destroyed", "compromised")))
-    state = key.state(moment)
-    if state == PRE_ACTIVE and moment >= key.initial:
-        return "wait"
-    if state == ACTIVE:
-        return "protect" if key.stop > moment else "process"
-    has_begun = key.activation is not None and key.activation <= moment < key.end
-    return "process" if state == COMPROMISED and has_begun else None
-
-
-def number(text: str) -> float:
-    return float(text.rstrip("%"))
-
-
-def line_faults(row: Row, parts: list[Element], scale: tuple[int, int], chance: random.Random) -> Iterator[str]:
-    """Where the line of a key is another one than the rules say, at moments drawn at random and beside its dates."""
-    spans = []
-    for part in parts:
-        words = part.get("class", "").split()
-        if part["tag"] == "line" and "wait" in words:
-            spans.append(("wait", number(part["x1"]), number(part["x2"])))
-        elif part["tag"] == "rect" and "bar" in words:
-            spans.append((words[1], number(part["x"]), number(part["x"]) + number(part["width"])))
-    first, last = scale
-    edges = [row[name] for name in EXPORT_DATES if row[name] is not None]
-    moments = [edge + side * 4 * DAY for edge in edges for side in (-1, 1)]
-    for moment in [*moments, *(chance.randrange(first, last) for _ in range(12))]:
-        if not first < moment < last or any(abs(moment - edge) < 3 * DAY for edge in edges):
-            continue
-        x = 100 * (moment - first) / (last - first)
-        kinds, wanted = {kind for kind, begin, end in spans if begin <= x <= end}, {is_there(row, moment)} - {None}
-        if kinds != wanted:
-            yield f"key {row['number']} at {moment} has {kinds}, not {wanted}"
-
-
-def looked_at(page: Page, export: str, first_key: int = 0) -> dict[str, int]:
-    """Compares the rows of a page with the keys from one on; gives how many of each state."""
-    rows = list(keys_of(export))[first_key:first_key + 1000]
-    table = next(element for element in page.elements if element["tag"] == "table")
-    scale, chance = (int(table["data-first"]), int(table["data-last"])), random.Random(first_key)
-    expect([row["data-number"] for row, _ in page.keys] == [row["number"] for row in rows], "each key is drawn once")
-    fills, counts = dict[str, set[Any]](), dict.fromkeys(STATES[1:], 0)
-    for row, (drawn_row, parts) in zip(rows, page.keys):
-        is_due = row["state"] == "Active" and row["protect_stop"] <= NOW + DAYS * DAY
-        due = ("overdue" if row["protect_stop"] <= NOW else "due") if is_due else ""
-        texts = {part["class"].split()[0]: part["text"] for part in parts if part["tag"] == "td"}
-        shapes = {part.get("class", "") for part in parts}
-        for what, shown, wanted in (
-                ("is", [drawn_row[f"data-{name}"] for name in ("owner", "type", "state", "due")],
-                 [row["owner"], row["type"], row["state"], due]),
-                ("says", [texts[name] for name in ("owner", "type", "state", "purpose")],
-                 [row["owner"], row["type"], due or row["state"], plain(row["purpose"])]),
-                ("has marks", [name in shapes for name in ("mark compromised", "solid destroyed", "solid rotation")],
-                 [row["compromised"] is not None, row["destroyed"] is not None, bool(due)])):
-            expect(shown == wanted, f"key {row['number']} {what} {shown}, not {wanted}")
-        faults = list(line_faults(row, parts, scale, chance))
-        expect(not faults, f"{faults[:3]}")
-        for part in parts:
-            if part["tag"] == "rect":
-                fills.setdefault(row["state"], set()).add((part["fill"], part["stroke"]))
-        counts[row["state"]] += 1
-    expect(all(len(both) == 1 for both in fills.values()), f"a state has several colours: {fills}")
-    for colours in zip(*(next(iter(both)) for both in fills.values())):
-        expect(len(set(colours)) == len(fills), f"states look alike: {fills}")
-    return counts
-
-
-def loads_nothing(page: Page, text: str) -> None:
-    """Nothing of the page leads elsewhere, and no text of a key became an element."""
-    tags = [element["tag"] for element in page.elements]
-    expect(set(tags) <= set(TAGS.split()), f"the page has {set(tags) - set(TAGS.split())}")
-    for tag, wanted in (("script", 2), ("style", 1), ("form", 1)):
-        expect(tags.count(tag) == wanted, f"the page has {tags.count(tag)} of {tag}")
-    for element in page.elements:
-        expect(not set(element) & LOADING, f"{element} loads something")
-        expect(not any(name.startswith("on") for name in element), f"{element} runs something")
-        leads = re.findall(r"url\(([^)]*)", str(element.get("fill")))
-        expect(all(value.startswith("#") for value in leads), f"{element}")
-    policy = next(element["content"] for element in page.elements if element.get("http-equiv"))
-    expect(policy.startswith("default-src 'none';") and "unsafe" not in policy, f"the policy is {policy}")
-    expect("@import" not in text, "the style loads something")
-
-
 def many(count: int) -> str:
     """An export of so many keys."""
     chance = random.Random(count)
@@ -188,11 +75,143 @@ def many(count: int) -> str:
     for place in range(1, count + 1):
         begin = NOW + chance.randrange(-1200, 300) * DAY
         activation, stop, end = (text_of(begin + DAY * more) for more in (0, 700, 1700))
-        kind, owner = chance.choice(["master", "data-encryption"]), f"team-{place % 7}"
         rows.append(",".join(export_row(
-            number=place, type=kind, owner=owner, activation=activation, protect_stop=stop, deactivation=end,
-            initial="2020-01-01T00:00:00Z", purpose=f"key {place}")))
+            number=place, type=chance.choice(["master", "data-encryption"]), owner=f"team-{place % 7}",
+            activation=activation, protect_stop=stop, deactivation=end, initial="2020-01-01T00:00:00Z",
+            purpose=f"key {place}")))
     return "\n".join(rows) + "\n"
+
+
+def keys_of(export: str) -> Iterator[Row]:
+    """The rows of an export, with the state that the rules give each at the moment, and whether it is due."""
+    for row in csv.DictReader(io.StringIO(export)):
+        dates = {name: moment_of(row[name]) if row[name] else None for name in EXPORT_DATES}
+        moments = (dates[name] for name in ("activation", "deactivation", "destroyed", "compromised"))
+        state, due = STATES[state_at(NOW, *moments)], ""
+        if state == "Active" and dates["protect_stop"] <= NOW + DAYS * DAY:
+            due = "overdue" if dates["protect_stop"] <= NOW else "due"
+        yield {**row, **dates, "state": state, "due": due}
+
+
+def plain(text: str) -> str:
+    return text.replace("\u202e", "\\u202e")
+
+
+# ---- what the page has
+
+
+class Browser:
+    """Chromium, with a folder that has the pages."""
+
+    def __init__(self, folder: pathlib.Path, texts: Mapping[str, str]) -> None:
+        self.folder, self.driver = folder, chromium("--hide-scrollbars")
+        for name, text in texts.items():
+            (folder / f"{name}.html").write_text(text, encoding="utf-8")
+
+    def open(self, name: str, fragment: str = "") -> None:
+        """The page as it comes anew."""
+        self.driver.get("about:blank")
+        self.driver.get(f"file://{self.folder}/{name}.html{fragment}")
+        console = self.driver.get_log("browser")
+        expect(not console, f"chromium: {console[:3]}")
+
+    def asked(self, question: str) -> Any:
+        """What a call of the probe gives."""
+        return self.driver.execute_script(f"{PROBE.read_text(encoding='utf-8')}\nreturn {question};")
+
+    def elements(self, name: str, fragment: str = "") -> tuple[list[Any], list[Any]]:
+        """The elements of the page after its script, and its rows of keys."""
+        self.open(name, fragment)
+        return self.asked("elements()")
+
+    def seen(self, name: str, width: int, is_dark: bool = False, most: int = 0) -> dict[str, Any]:
+        """What the probe found of the page at a width."""
+        as_seen(self.driver, width, 900, is_dark)
+        self.open(name)
+        view = self.asked(f"view({most})")
+        as_usual(self.driver)
+        return view
+
+    def printed(self, name: str) -> tuple[list[str], list[float]]:
+        """The text of each sheet, and how much of each sheet, from above, has text."""
+        sheets = self.folder / "printed.pdf"
+        self.open(name)
+        print_page(self.driver, sheets, printBackground=True, preferCSSPageSize=True)
+        text, boxes = (output_of(["pdftotext", way, sheets, "-"]) for way in ("-layout", "-bbox"))
+        filled = []
+        for sheet in boxes.split("<page ")[1:]:
+            height = float(re.search(r'height="([\d.]+)"', sheet)[1])
+            filled.append(max(map(float, re.findall(r'yMax="([\d.]+)"', sheet)), default=0) / height)
+        return text.split("\f")[:-1], filled
+
+
+def drawn_spans(parts: list[Any]) -> Iterator[tuple[str, float, float]]:
+    """The spans of a row's line, from and to so many hundredths of its width."""
+    for part in parts:
+        kind, number = part.get("class", ""), {name: float(text.rstrip("%")) for name, text in part.items()
+                                               if name in ("x", "x1", "x2", "width") and text.endswith("%")}
+        if kind == "wait":
+            yield kind, number["x1"], number["x2"]
+        elif kind.startswith("bar "):
+            yield kind[4:], number["x"], round(number["x"] + number["width"], 3)
+
+
+def looked_at(browser: Browser, name: str, export: str, page: int = 1) -> list[Row]:
+    """Compares what a page of up to a thousand keys draws with the keys, and gives these."""
+    elements, drawn_rows = browser.elements(name, f"#page={page}")
+    rows = list(keys_of(export))[1000 * (page - 1):1000 * page]
+    table = next(element for element in elements if element["tag"] == "table")
+    first, last = int(table["data-first"]), int(table["data-last"])
+    in_order([row["number"] for row in drawn_rows], [row["number"] for row in rows], name)
+    for row, shown in zip(rows, drawn_rows):
+        texts = {part["class"].split()[0]: part["text"] for part in shown["parts"] if part["tag"] == "td"}
+        shapes = {part.get("class", "") for part in shown["parts"]}
+        fill = STATES.index(row["state"]) - 1
+        spans = [(kind, *(100 * min(max((moment - first) / (last - first), 0), 1) for moment in span))
+                 for kind, *span in spans_of(row)]
+        # A bar is seen, however short its span is.
+        is_line = all(kind == other and abs(begin - x) < .01 and abs(end - until) < .06 for
+                      (kind, begin, end), (other, x, until) in zip(spans, drawn_spans(shown["parts"]), strict=True))
+        for what, is_so, wanted in (
+                ("is", [shown[part] for part in ("owner", "type", "state", "due")],
+                 [row["owner"], row["type"], row["state"], row["due"]]),
+                ("says", [texts[part] for part in ("owner", "type", "state", "purpose")],
+                 [row["owner"], row["type"], row["due"] or row["state"], plain(row["purpose"])]),
+                ("has marks", [part in shapes for part in ("mark compromised", "solid destroyed", "solid rotation")],
+                 [row["compromised"] is not None, row["destroyed"] is not None, bool(row["due"])]),
+                ("is filled as", {(part["fill"], part["stroke"]) for part in shown["parts"] if part["tag"] == "rect"},
+                 {(f"url(#s{fill})", f"var(--s{fill})") for kind, *_ in spans if kind != "wait"}),
+                (f"has the line {list(drawn_spans(shown['parts']))} of {spans}:", is_line, True)):
+            expect(is_so == wanted, f"key {row['number']} {what} {is_so}, not {wanted}")
+    return rows
+
+
+def loads_nothing(elements: list[Any]) -> None:
+    """No text of a key became an element, and the page's policy lets its own style and script alone act: of what it
+    refuses Chromium's console would tell."""
+    tags = {element["tag"] for element in elements}
+    expect(tags <= set(TAGS.split()), f"the page has {tags - set(TAGS.split())}")
+    policy = next(element["content"] for element in elements if element.get("http-equiv"))
+    expect(re.fullmatch(r"default-src 'none'; style-src 'sha256-[^' ]+'; script-src 'sha256-[^' ]+'", policy),
+           f"the policy is {policy}")
+
+
+def turned_over(browser: Browser, small: list[Row]) -> None:
+    """The page filters, sorts and turns over."""
+    cases = [("thousand", "", "1 to 1000 of 1000 keys", [1, 2]),
+             ("ten", "#page=10", "9001 to 10000 of 10000 keys", [9001]),
+             ("ten", "#owner=team-3", "1 to 1000 of 1429 keys", [3, 10]),
+             ("ten", "#owner=team-3&sort=owner&page=2", "1001 to 1429 of 1429 keys", [7003]),
+             ("small", "#due=1&sort=stop", "1 to 2 of 2 keys", [3, 2])]
+    for state in STATES[1:]:
+        numbers = [int(row["number"]) for row in small if row["state"] == state]
+        expect(numbers, f"no key is {state}")
+        cases.append(("small", f"#state={state}", f"1 to {len(numbers)} of {len(numbers)} keys", numbers))
+    for name, fragment, wanted, first in cases:
+        elements, rows = browser.elements(name, fragment)
+        count = next(element["text"] for element in elements if element.get("id") == "count")
+        numbers = [int(row["number"]) for row in rows][:len(first)]
+        expect((count, numbers) == (wanted, first), f"{name}{fragment}: {count}, {numbers}, not {wanted}, {first}")
 
 
 # ---- what is seen
@@ -212,10 +231,10 @@ def layout_faults(view: Mapping[str, Any], rows: list[Row], width: int, is_dark:
         if value != wanted:
             yield f"{width} wide: {name}: {value}, not {wanted}"
     for row, (is_reached, texts) in zip(rows, view["reached"]):
-        state = next((text for text in texts if text.split(",")[0] in STATES[1:]), "")
+        state = ", ".join(filter(None, (row["state"], row["due"])))
         dates = [text_of(row[name]) for name in EXPORT_DATES if row[name] is not None]
         wanted = [row["number"], plain(row["owner"]), row["type"], state, plain(row["purpose"]), *dates]
-        if not is_reached or sorted(texts) != sorted(wanted) or state.split(",")[0] != row["state"]:
+        if not is_reached or sorted(texts) != sorted(wanted):
             yield f"{width} wide: key {row['number']}: its button gives {texts}"
 
 
@@ -228,7 +247,7 @@ def light(colour: str) -> float:
 
 def contrast_faults(text: str) -> Iterator[str]:
     """Colours that do not stand out from the paper: 3 to 1 for what is drawn, 7 to 1 for texts."""
-    for name, block in zip(("light", "dark"), re.findall(r":root\{([^}]*--paper[^}]*)\}", text)):
+    for name, block in zip(("light", "dark"), re.findall(r":root\{([^}]*--paper[^}]*)\}", text), strict=True):
         colours = dict(re.findall(r"--(\w+):(#\w+)", block))
         for which, colour in colours.items():
             least = 7 if which == "ink" else 3 if re.match(r"s\d|edge", which) else 1
@@ -237,94 +256,48 @@ def contrast_faults(text: str) -> Iterator[str]:
                 yield f"{name}: {which} {colour} has {(high + 0.05) / (low + 0.05):.2f}, not {least}, to 1"
 
 
-def print_faults(sheets: list[list[str]], filled: list[float], count: int) -> Iterator[str]:
+def print_faults(sheets: list[str], filled: list[float], count: int) -> Iterator[str]:
     """What is missing or cut on the sheets of a printed page of so many keys `key N`."""
-    rows = [int(line.split()[0]) for sheet in sheets for line in sheet if re.match(r"\s*(\d+) .*\bkey \1\b", line)]
+    rows = [int(row) for sheet in sheets for row in re.findall(r"(?m)^\s*(\d+) .*\bkey \1\b", sheet)]
     if rows != list(range(1, count + 1)):
         yield f"printed: {len(rows)} whole rows, the first {rows[:2]}"
     for place, (sheet, part) in enumerate(zip(sheets, filled), 1):
-        axis = next((line for line in sheet if "owner" in line and "purpose" in line), "")
+        axis = next((line for line in sheet.split("\n") if "owner" in line and "purpose" in line), "")
         if len(re.findall(r"\b20\d\d\b", axis)) < 3:
             yield f"printed: sheet {place} has the axis {axis.split()}"
         if part > 0.955:
             yield f"printed: a row of sheet {place} reaches to {part:.3f} of its height"
 
 
-def shown_in(page: Page) -> tuple[str, list[int]]:
-    """The count on the page, and the numbers of the keys that it shows, from above."""
-    count = next(element["text"].strip() for element in page.elements if element.get("id") == "count")
-    return count, [int(row["data-number"]) for row, _ in page.keys]
-
-
-def turned_over(browser: Browser, pages: Mapping[str, pathlib.Path], small: str) -> None:
-    """The page filters, sorts and turns over."""
-    for name, fragment, wanted, first in (
-            ("thousand", "", "1 to 1000 of 1000 keys", [1, 2]),
-            ("ten", "#page=10", "9001 to 10000 of 10000 keys", [9001]),
-            ("ten", "#owner=team-3", "1 to 1000 of 1429 keys", [3, 10]),
-            ("ten", "#owner=team-3&sort=owner&page=2", "1001 to 1429 of 1429 keys", [7003])):
-        count, numbers = shown_in(browser.elements(pages[name], fragment))
-        expect(count == wanted and numbers[:len(first)] == first, f"{name}{fragment}: {count}, {numbers[:3]}")
-    cases = [(f"#state={state}", [int(row["number"]) for row in keys_of(small) if row["state"] == state])
-             for state in STATES[1:]]
-    for fragment, wanted in [*cases, ("#due=1&sort=stop", [3, 2])]:
-        _, numbers = shown_in(browser.elements(pages["small"], fragment))
-        expect(numbers == wanted, f"{fragment}: {numbers}, not {wanted}")
-
-
-def seen(browser: Browser, pages: Mapping[str, pathlib.Path], small: str) -> int:
-    """Looks at the pages at each width, in both schemes, and printed; how many sheets those of a thousand keys are."""
-    faults, rows = list(contrast_faults(pages["small"].read_text(encoding="utf-8"))), list(keys_of(small))
-    for width in WIDTHS:
-        for is_dark in (False, True):
-            faults += layout_faults(browser.seen(pages["small"], width, is_dark), rows, width, is_dark)
-    sheets, filled = browser.printed(pages["thousand"])
-    faults += print_faults(sheets, filled, 1000)
-    expect(not faults, "\n".join(faults[:12]))
-    return len(sheets)
-
-
-def same_spans() -> None:
-    """The spans of the cases that the desk draws by too."""
+def main() -> None:
     for case in json.loads(SPANS.read_text(encoding="utf-8")):
         spans = [[kind, first, None if until == NEVER else until] for kind, first, until in spans_of(case["key"])]
         expect(spans == case["spans"], f"{case['case']}: {spans}, not {case['spans']}")
-
-
-def main() -> None:
-    same_spans()
-    screenshots = options(__doc__, screenshots="").screenshots
     missing = [tool for tool in ("chromium", "pdftotext") if not shutil.which(tool)]
     expect(not missing, f"not here: {missing}: apt-get install chromium poppler-utils")
     with fresh_folder() as folder:
         replies = new_register(folder / "office.keyreg", LINES)
         expect(all(reply.startswith("ok ") for reply in replies), f"{replies}")
         small, large = exported(folder / "office.keyreg"), many(10_000)
-        begun = time.monotonic()
-        texts = {"ten": drawn(large)}
-        taken = time.monotonic() - begun
-        texts |= {"small": drawn(small), "thousand": drawn(many(1000))}
-        browser = Browser(folder)
-        pages = {name: browser.page(name, text) for name, text in texts.items()}
-        page = browser.elements(pages["small"])
-        counts = looked_at(page, small)
-        expect(all(counts.values()), f"a state has no key: {counts}")
-        loads_nothing(page, texts["small"])
-        for place in range(10):
-            looked_at(browser.elements(pages["ten"], f"#page={place + 1}"), large, place * 1000)
-        turned_over(browser, pages, small)
-        sheets = seen(browser, pages, small)
-        few, laid = (min(browser.seen(pages[name], 1600, most=1)["laid"] for _ in range(3)) / 1000
+        texts = {"small": drawn(small), "thousand": drawn(many(1000)), "ten": drawn(large)}
+        browser = Browser(folder, texts)
+        rows = looked_at(browser, "small", small)
+        loads_nothing(browser.elements("small")[0])
+        looked_at(browser, "ten", large, page=2)
+        turned_over(browser, rows)
+        faults = list(contrast_faults(texts["small"]))
+        for width in WIDTHS:
+            for is_dark in (False, True):
+                faults += layout_faults(browser.seen("small", width, is_dark), rows, width, is_dark)
+        sheets, filled = browser.printed("thousand")
+        faults += print_faults(sheets, filled, 1000)
+        expect(not faults, "\n".join(faults[:12]))
+        few, laid = (min(browser.seen(name, 1600, most=1)["laid"] for _ in range(3)) / 1000
                      for name in ("thousand", "ten"))
         expect(laid <= TIMES * few, f"10000 keys are shown after {laid:.2f} seconds, 1000 after {few:.2f}")
-        for width, name in ((width, name) for width in WIDTHS if screenshots for name in pages):
-            as_seen(browser.driver, width, 900)
-            browser.open(pages[name])
-            browser.driver.save_screenshot(f"{screenshots}/{name}-{width}.png")
         browser.driver.quit()
-    verdict(f"{sum(counts.values())} keys of all states at {len(WIDTHS)} widths, and 1000 keys on {sheets} sheets; "
-            f"10000 keys: drawn in {taken:.1f} seconds, {len(texts['ten']) / 1e6:.1f} MB, shown after {laid:.2f} "
-            f"seconds, 1000 after {few:.2f}")
+    verdict(f"{len(rows)} keys of all states at {len(WIDTHS)} widths, and 1000 keys on {len(sheets)} sheets; 10000 "
+            f"keys are shown after {laid:.2f} seconds, 1000 after {few:.2f}")
 
 
 main()

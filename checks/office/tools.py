@@ -1,17 +1,16 @@
-"""What the checks of the programs of office/ share: runs of them, large registers, and the tables of a prefix."""
+"""What the checks of the programs of office/ share: runs of them, and large registers."""
 import subprocess
 import sys
-from typing import Any, Iterable, Iterator
+from typing import Any, Iterable
 
 from places import OFFICE
 from registers import File, keyreg
-from register_rules import Refused, Register, request_of
 
 BEGUN = 1_700_000_000
 
 
-def words_of(name: str, *words: Any) -> list[Any]:
-    return [sys.executable, OFFICE / f"{name}.py", *words]
+def words_of(name: str, *words: Any) -> list[str]:
+    return [sys.executable, str(OFFICE / f"{name}.py"), *map(str, words)]
 
 
 def run_tool(name: str, *words: Any, **how: Any) -> subprocess.CompletedProcess:
@@ -29,16 +28,3 @@ def many_requests(count: int, kinds: Iterable[str], purposes: Iterable[str]) -> 
     return [*(f"{BEGUN + n} ann {n} register {kinds[n % len(kinds)]} bob {BEGUN + n} - - {purposes[n % len(purposes)]}"
               for n in numbers),
             *(f"{BEGUN + count + n} bob {n} add-custodian {n} cat" for n in numbers)]
-
-
-def registers_after(lines: Iterable[str]) -> Iterator[tuple[int, Register]]:
-    """The register of the rules at first, and after each line that it accepts, with the moment of that."""
-    register = Register()
-    yield 0, register
-    for line in lines:
-        request = request_of(line)
-        try:
-            register.answer(request)
-        except Refused:
-            continue
-        yield request.moment, register

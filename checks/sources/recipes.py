@@ -82,7 +82,7 @@ KINDS = (
         "a day or a year of an office": "docs/AUDIT.md samples/office.txt samples/year.txt",
         "what a period means for keys": "*/register_core/src/laws.rt */exports.rt */test_desk_trials/src/desks.rt "
                                         "bench/tables.py checks/program/rules_tried.py",
-        "who the office is": "checks/office/behind_nginx.py checks/office/client_tried.py",
+        "who the office is": "checks/office/behind_nginx.py",
         "what they look at beside the day": "checks/program/large_office.py checks/program/exchanges_by_curl.py",
         "it stands for its shape": "*/Within/Fields.antt crates/http_messages/src/command_value.rt",
         "what comes of one that is left out": "docs/OPERATING.md",
@@ -92,10 +92,9 @@ KINDS = (
     Kind("Add a command of the program", r"Task::Report|\breport_file\b|keyreg report|\[\"report\"|\"report\":|"
                                          r"\n +report\)|from report'", {
         "they ask for a report": "checks/office/audit_views.py checks/sqlite/copied_while_served.py "
-                                 "checks/office/advance_tried.py checks/package/in_systemd.sh "
-                                 "checks/program/full_register.py checks/office/replay_tried.py "
-                                 "checks/office/rebuild_tried.py docs/CHECKS.md "
-                                 "office/units/keyreg.service bench/tables.py",
+                                 "checks/package/in_systemd.sh checks/program/full_register.py "
+                                 "checks/office/replay_tried.py docs/CHECKS.md office/units/keyreg.service "
+                                 "bench/tables.py",
     }),
     Kind("Add a crate", r"\bregister_report\b", {
         "its own": "crates/register_report/*",
