@@ -47,11 +47,12 @@ def name_faults(modules: list[pathlib.Path]) -> Iterator[str]:
 def main() -> None:
     modules = sorted(DESK.glob("*.js"))
     faults = sorted(name_faults(modules))
-    done = subprocess.run(["timeout", str(PATIENCE), "node", "--test", "desk/"], cwd=TOP, capture_output=True,
-                          text=True, check=False)
-    passed = re.search(r"^(?:#|ℹ) pass ([1-9]\d*)", done.stdout, re.M)
+    done = subprocess.run(["timeout", str(PATIENCE), "node", "--test", "--test-reporter=tap", "desk/"], cwd=TOP,
+                          capture_output=True, text=True, check=False)
+    passed = re.search(r"^# pass ([1-9]\d*)", done.stdout, re.M)
+    faults += re.findall(r"(?ms)^ *not ok .*?^ *\.\.\.$", done.stdout)
     if done.returncode or not passed:
-        faults.append(f"node: status {done.returncode}, 124 after {PATIENCE} s: {done.stdout[-4000:]}{done.stderr}")
+        faults.append(f"node: status {done.returncode}, 124 after {PATIENCE} s: {done.stderr[-2000:]}")
     verdict(f"the desk: {len(modules)} modules, {passed and passed[1]} tests passed, {len(faults)} faults", faults)
 
 
