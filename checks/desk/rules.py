@@ -41,16 +41,14 @@ for await (const line of createInterface({input: process.stdin})) {
   console.log(JSON.stringify({judged, shown}));
 }
 """
-# What a page knows, the command, and what the rules say of it, in the words of the desk.
-Case = tuple[dict[str, Any], dict[str, Any]]
 
 
-def node(cases: list[Case]) -> list[Any]:
-    """What node writes: the tables, and a judgement of each case."""
+def node(cases: list[dict[str, Any]]) -> list[Any]:
+    """What node writes: the tables, and a judgement of each command with what a page knows."""
     with fresh_folder() as folder:
         (folder / "rules.mjs").write_bytes((DESK / "rules.js").read_bytes())
         (folder / "judge.mjs").write_text(JUDGE, encoding="ascii")
-        written = output_of(["node", folder / "judge.mjs"], input="".join(f"{json.dumps(case[0])}\n" for case in cases))
+        written = output_of(["node", folder / "judge.mjs"], input="".join(f"{json.dumps(case)}\n" for case in cases))
     return [json.loads(row) for row in written.split("\n") if row]
 
 
@@ -181,8 +179,8 @@ def drawn(chance: random.Random, count: int) -> Iterator[tuple[Register, Request
         yield register, Request(moment, caller, number, command)
 
 
-def judged(register: Register, request: Request) -> Case:
-    """What a page knows, with which it judges, and what the rules say; what they accept is then done."""
+def judged(register: Register, request: Request) -> tuple[dict[str, Any], dict[str, Any]]:
+    """The command with what a page knows, and what the rules say, in the desk's words; what they accept is done."""
     named, wanted = request.named if request.named in register.keys else None, {"shown": None}
     known = {"command": request_object(request.command), "caller": request.caller, "moment": request.moment,
              "latest": register.latest, "key": shown(register, named) if named else None, "count": len(register.keys),
@@ -201,35 +199,12 @@ def judged(register: Register, request: Request) -> Case:
     return known, {"judged": {"key": after}, **wanted}
 
 
-GOOD = {"kind": "register", "type": "master", "owner": "bob", "activation": None, "protect_stop": None,
-        "deactivation": None, "purpose": "x"}
-# Bodies that are no command, each for one member; and what is just within the ranges.
-WRONG = [*({**GOOD, member: value} for member, values in {
-    "type": ("master2", "toString"), "owner": ("", "a b", "x" * 65, "ü", "bob\n"),
-    "activation": (-1, LAST + 1, 1.5, "keep", "1"),
-    "purpose": ("", " x", "x ", "ü" * 101, "a\tb", "a\x7f", "a\n")}.items() for value in values),
-         {"kind": "set-quorum", "key": 1, "need": 1}, {"kind": "set-quorum", "key": 1, "need": 6},
-         {"kind": "activate", "key": 0}, {"kind": "activate", "key": 4294967296}, {"kind": "nothing"},
-         {"kind": "revoke", "key": 1, "reason": 1, "occurrence": 5},
-         {"kind": "revoke", "key": 1, "reason": 8, "occurrence": None},
-         {"kind": "set-period", "type": "master", "originator": 0, "recipient": 0},
-         {"kind": "set-period", "type": "master", "originator": 1, "recipient": 1201}]
-RIGHT = [{**GOOD, **change} for change in (
-    {"owner": "x" * 64}, {"activation": LAST, "protect_stop": LAST, "deactivation": LAST}, {"purpose": "ü" * 100},
-    {"purpose": "a\u2028b"}, {"purpose": "\u00a0x"}, {"purpose": "\u202ex"})]
-# What a page knows of nothing.
-BLANK = {"caller": "ann", "moment": 9, "latest": 0, "key": None, "periods": {}, "count": 0}
-
-
 def main() -> None:
     given = options(__doc__, requests=10_000, seed=69)
-    forms, cases = [*WRONG, *RIGHT], [judged(*found) for found in drawn(random.Random(given.seed), given.requests)]
-    tables, *judgements = node([({**BLANK, "command": form}, {}) for form in forms] + cases)
+    cases = [judged(*found) for found in drawn(random.Random(given.seed), given.requests)]
+    tables, *judgements = node([known for known, _ in cases])
     count, counts = look_at_tables(tables), collections.Counter()
-    for place, (form, judgement) in enumerate(zip(forms, judgements)):
-        is_refused = judgement["judged"].get("refused") == 1
-        expect(is_refused == (place < len(WRONG)), f"{form} is judged {judgement}")
-    for (known, wanted), judgement in zip(cases, judgements[len(forms):], strict=True):
+    for (known, wanted), judgement in zip(cases, judgements, strict=True):
         expect(judgement == wanted, f"{json.dumps(known)}\n  is judged\n{judgement}\n  and the rules say\n{wanted}")
         counts[wanted["judged"].get("name", "accepted")] += 1
     print(", ".join(f"{name} {times}" for name, times in counts.most_common()))
@@ -237,7 +212,7 @@ def main() -> None:
     # A page never judges that a number was used; and the ranges, a full register and the seventeenth name are rare.
     never = set(REFUSALS) - set(counts) - {"BadLine", "RequestReused", "Full", "TooManyCustodians"}
     expect(not never, f"never drawn were {never}")
-    verdict(f"desk/rules.js: {count} tables are the document's; {len(forms)} forms and {len(cases)} judgements agree")
+    verdict(f"desk/rules.js: {count} tables are the document's; {len(cases)} judgements agree")
 
 
 main()

@@ -28,11 +28,9 @@ COMPLETED = (
     ("keyreg im", "keyreg import "),
     ("keyreg rep", "keyreg report "),
     ("keyreg run --fi", "keyreg run --file"),
-    ("keyreg import --mom", "keyreg import --moment"),
     ("keyreg import --file x --fir", "keyreg import --file x --first"),
     ("keyreg serve --file x --po", "keyreg serve --file x --port"),
     ("keyreg report --da", "keyreg report --days"),
-    ("keyreg export --he", "keyreg export --help"),
     ("keyreg run --file off", "keyreg run --file office.keyreg"),
     ("keyreg run --file=off", "keyreg run --file=office.keyreg"),
     ("keyreg report --days 3 --file=off", "keyreg report --days 3 --file=office.keyreg"),
@@ -115,7 +113,7 @@ def missing_in(lines: Sequence[str], choices: str) -> set[str]:
     return set(choices.split()) - set(shown.replace(",", " ").split())
 
 
-def faults_of(shell: str, words: Sequence[str], folder: pathlib.Path, files: str = ":") -> Iterator[str]:
+def faults_of(shell: str, words: Sequence[str], folder: pathlib.Path, files: str) -> Iterator[str]:
     """What a shell, begun behind these words in the folder, and told of the files by others, does not complete."""
     begin, first, _ = SHELLS[shell]
     with begun([*words, *begin.split()], first.format(files), folder) as terminal:

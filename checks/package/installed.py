@@ -18,9 +18,7 @@ From the base on all is in a network of its own, in which the ports of the units
 import contextlib
 import ctypes
 import fcntl
-import os
 import pathlib
-import pty
 import re
 import shutil
 import socket
@@ -42,9 +40,8 @@ MORE = ("man-db", "bash-completion", "zsh", "fish", "python3", "sqlite3", "curl"
 # What dpkg, apt, man, nginx and the users' programs keep of their own, which no package can take away.
 OWN = re.compile(r"/var/(lib/(dpkg|apt|nginx)/|log/|cache/(man|apt|debconf|ldconfig)/)|/etc/ld\.so\.cache$"
                  r"|/etc/g?(passwd|group|shadow)-$|/(proc|sys|dev|tmp|run)/")
-EXPOSURE = 1.5
-# The files of completion, where the shells of a root look for them by themselves.
-COMPLETIONS = {"bash": ". /usr/share/bash-completion/bash_completion", "zsh": ":", "fish": ":"}
+# What the service is let do besides its work, at most, by the measure of systemd-analyze in tenths.
+EXPOSURE = 15
 # The packages of the libraries that a program may load.
 LIBRARIES = {"libc.so.6": "libc6", "libm.so.6": "libc6", "ld-linux-x86-64.so.2": "libc6",
              "ld-linux-aarch64.so.1": "libc6", "libgcc_s.so.1": "libgcc-s1"}
@@ -101,7 +98,9 @@ def completes(root: pathlib.Path) -> None:
     """The shells of the root complete what they are to, by a Tab."""
     folder = root / "tmp/tabs"
     completion.furnish(folder)
-    for shell, files in COMPLETIONS.items():
+    for shell in completion.SHELLS:
+        # The others look for the files by themselves.
+        files = ". /usr/share/bash-completion/bash_completion" if shell == "bash" else ":"
         # fish looks below /usr/local where this says so, as a desktop's session does.
         words = inside(root, "/tmp/tabs", "HOME=/tmp/tabs/home", "XDG_DATA_DIRS=/usr/local/share:/usr/share")
         for text in completion.faults_of(shell, words, folder, files):
@@ -139,44 +138,18 @@ def page_faults(docs: pathlib.Path, page: pathlib.Path) -> Iterator[str]:
 
 def read_there(root: pathlib.Path, docs: pathlib.Path) -> None:
     """The pages are true where they lie: what they name is there, and their commands print there what stands there."""
-    pages = sorted([*docs.rglob("*.md"), *docs.rglob("*.yaml")])
-    for page in pages:
+    for page in sorted([*docs.rglob("*.md"), *docs.rglob("*.yaml")]):
         for text in page_faults(docs, page):
             fault(False, f"{page.relative_to(root)}: {text}")
     (root / "tmp/reader").mkdir()
     texts = {f"/{(docs / name).relative_to(root)}": (docs / name).read_text("utf-8") for name in PAGES}
     shell = inside(root, "/tmp/reader", "HOME=/tmp/reader", "no_proxy=*", "bash", "-c")
     wrong, count = document_commands.compared(texts, str(root), shell)
-    for text in wrong:
-        fault(False, text)
+    fault(not wrong and count > 0, f"of {count} blocks of commands: {wrong}")
     shutil.rmtree(root / "tmp/reader")
-    print(f"{len(pages)} pages name what is there, and {count} blocks of commands were run", flush=True)
-
-
-def exposed(root: pathlib.Path) -> None:
-    unit = root / "usr/lib/systemd/system/keyreg.service"
-    done = call("systemd-analyze", "security", "--offline=true", f"--root={root}", "--no-pager", unit)
-    level = re.search(r"exposure level for \S+: ([\d.]+)", done.stdout)
-    fault(level is not None and float(level[1]) <= EXPOSURE, f"exposure: {level and level[1]} {done.stderr}")
 
 
 # ---- the desk, by the words of the page
-
-
-def in_terminal(words: list[str], answer: str) -> tuple[int, str]:
-    """Runs a command in a terminal, and types the answer where a password is asked for; its status and its words."""
-    process, terminal = pty.fork()
-    if not process:
-        os.execvp(words[0], words)
-    shown, answered = "", 0
-    with contextlib.suppress(OSError):
-        while piece := os.read(terminal, 4096):
-            shown += piece.decode(errors="replace")
-            while shown.lower().count("password:") > answered:
-                os.write(terminal, f"{answer}\n".encode())
-                answered += 1
-    os.close(terminal)
-    return os.waitstatus_to_exitcode(os.waitpid(process, 0)[1]), shown
 
 
 def unit_words(root: pathlib.Path, unit: pathlib.Path) -> list[str]:
@@ -225,11 +198,12 @@ def browsed(list_words: list[str]) -> None:
 
 def desk(root: pathlib.Path, docs: pathlib.Path, units: pathlib.Path) -> None:
     """The desk stands by the words of the installed pages, serves a browser, and goes by them."""
-    page, list_words = docs / "docs/OPERATING.md", unit_words(root, units / "keyreg-list.service")
+    list_words = unit_words(root, units / "keyreg-list.service")
     head = re.search(r"(?:^#     .*\n)+", (units / "keyreg.service").read_text(), re.M)[0]
     call_well(*as_root(root, re.sub(r"(?m)^#     ", "", head)))
-    status, shown = in_terminal(as_root(root, "\n".join(blocks_of(page)["the-desk"][0])), PASSWORD)
-    fault(status == 0, f"the words of The desk: {shown}")
+    # With the password that it asks for in a terminal.
+    words = "\n".join(blocks_of(docs / "docs/OPERATING.md")["the-desk"][0])
+    call_well(*as_root(root, words.replace("openssl passwd -6", f"openssl passwd -6 {PASSWORD}")))
     nginx = as_root(root, "exec nginx -g 'daemon off;'")
     call_well(*list_words)
     with running(unit_words(root, units / "keyreg.service"), 8420), running(nginx, DESK_PORT) as is_there:
@@ -255,7 +229,8 @@ def packaged(root: pathlib.Path, package: pathlib.Path) -> None:
     completes(root)
     depends(package, root / "usr/bin/keyreg")
     read_there(root, docs)
-    exposed(root)
+    call_well("systemd-analyze", "security", "--offline=true", f"--root={root}", f"--threshold={EXPOSURE}",
+              root / "usr/lib/systemd/system/keyreg.service")
     desk(root, docs, root / "usr/lib/systemd/system")
     removal = row_words(docs, "remove").replace("keyreg keyreg-", "keyreg keyreg-list.timer keyreg-", 1)
     call_well(*as_root(root, removal))

@@ -3,7 +3,7 @@ import pathlib
 import re
 import subprocess
 import sys
-from typing import Any, Optional, Sequence
+from typing import Any, Sequence
 
 from places import TOP
 from script import output_of

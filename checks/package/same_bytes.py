@@ -2,11 +2,9 @@
 """The package is made bit for bit the same anywhere: twice, in copies of the checkout in two folders, with other times
 of the files, another umask, zone, language, disk and number of cores, each of its files has the same bytes.
 
-    checks/package/same_bytes.py [PROGRAM PROGRAM]
+    checks/package/same_bytes.py
 
-Without words both are of the program that is built, or of KEYREG. Two programs that were built of the same sources, as
-in two folders, are compared first, and each package is made of one of them. It needs what ./package needs (`apt-get
-install dpkg binutils`).
+Both are of the program that is built, or of KEYREG. It needs what ./package needs (`apt-get install dpkg binutils`).
 
 What another version of a tool (strip, xz, gzip, tar) would make is not seen here.
 """
@@ -48,7 +46,7 @@ def difference(first: pathlib.Path, second: pathlib.Path) -> Iterator[str]:
                f"{len(os.path.commonprefix([one, other]))} on")
 
 
-def packaged(base: pathlib.Path, place: Place, program: str) -> pathlib.Path:
+def packaged(base: pathlib.Path, place: Place) -> pathlib.Path:
     """The folder of packages that a copy of the checkout, as git would take it, makes in a place of its own."""
     folder = base / place.folder
     names = output_of(["git", "ls-files", "-z", "--cached", "--others", "--exclude-standard"], cwd=TOP)
@@ -58,7 +56,7 @@ def packaged(base: pathlib.Path, place: Place, program: str) -> pathlib.Path:
         shutil.copyfile(TOP / name, folder / name)
         (folder / name).chmod((0o777 if os.access(TOP / name, os.X_OK) else 0o666) & ~place.umask)
         os.utime(folder / name, (MOMENT + place.shift, MOMENT + place.shift))
-    environment = {**os.environ, "SOURCE_DATE_EPOCH": str(MOMENT), "KEYREG": os.path.abspath(program),
+    environment = {**os.environ, "SOURCE_DATE_EPOCH": str(MOMENT), "KEYREG": os.path.abspath(PROGRAM),
                    **place.environment}
     output_of(["./package"], cwd=folder, env=environment,
               preexec_fn=lambda: place.cores and os.sched_setaffinity(0, place.cores))
@@ -67,18 +65,14 @@ def packaged(base: pathlib.Path, place: Place, program: str) -> pathlib.Path:
 
 
 def main() -> None:
-    programs = sys.argv[1:] or [PROGRAM, PROGRAM]
-    faults = list(difference(*map(pathlib.Path, programs)))
     with fresh_folder() as base:
-        first, second = (packaged(base, place, program) for place, program in zip(PLACES, programs, strict=True))
+        first, second = (packaged(base, place) for place in PLACES)
         names = {path.name for folder in (first, second) for path in folder.iterdir()}
-        for name in sorted(names):
-            faults += difference(first / name, second / name)
+        faults = [fault for name in sorted(names) for fault in difference(first / name, second / name)]
         summed = {line.split()[1] for line in (first / "SHA256SUMS").read_text().splitlines()}
         if summed != names - {"SHA256SUMS"}:
             faults.append(f"SHA256SUMS names {sorted(summed)} of {sorted(names)}")
-    of = "of two builds" if sys.argv[1:] else "of one program"
-    verdict(f"{len(names)} files made twice, {of}: {len(faults)} faults", faults)
+    verdict(f"{len(names)} files made twice: {len(faults)} faults", faults)
 
 
 main()

@@ -6,11 +6,8 @@ from typing import Any
 
 # Debian's package is of the system's Python; another one finds it here.
 sys.path.append("/usr/lib/python3/dist-packages")
-try:
-    from selenium import webdriver
-    from selenium.webdriver.chrome.service import Service
-except ImportError:
-    sys.exit("FAILED: selenium is not here: apt-get install chromium chromium-driver python3-selenium nginx-light")
+from selenium import webdriver
+from selenium.webdriver.chrome.service import Service
 
 
 def chromium(*words: str) -> webdriver.Chrome:

@@ -8,7 +8,6 @@ clock, within the time of the run, stands in a document as 1795541234. Spaces at
 """
 import difflib
 import os
-import pathlib
 import re
 import shutil
 import subprocess
