@@ -19,8 +19,7 @@ from serving import head, received
 HOSTILE = [
     '<img src=x onerror="document.title=1">', "\"'><script>alert(1)</script>", "</td></table><b>bold</b>",
     "&lt;i&gt;&amp;", "\u202egpj.exe", "a\u0085b\u2028c\u2029d", "\u2066isolate\u2069 \u200bzero", "x" * 200,
-    "\u00fc" * 100, "${1+1} {{2}} `3`", "javascript:alert(1)", "\U000e0041tag \ufeffmark", "ب" * 60,
-    "' style='position:fixed",
+    "\u00fc" * 100, "${1+1} {{2}} `3`", "\U000e0041tag \ufeffmark", "ب" * 60, "' style='position:fixed",
 ]
 # What no text of anybody may become.
 NO_SUCH = "img, iframe, object, embed, style, b, i, form[action], script:not([src='desk.js'])"
@@ -223,7 +222,7 @@ def other_beside(reader: Reader, key: int) -> None:
             reader.seen("#kept button").click()
         expect(f"not as {reader.user}" in reader.says("sends as another user", "#other"), reader.text("#other"))
         expect("Not answered yet" in reader.text("#kept"), "the request is not kept")
-        sent = [row[:3:2] for row in reader.desk.requests()[len(before):]]
+        sent = [(caller, text) for caller, _, text, _ in reader.desk.requests()[len(before):]]
         expect(sent == [(reader.user, command)] * bool(todo), f"in the other's time accepted was {sent}")
         reader.desk.line.todo = []
         goes_on_as(reader, "office")
@@ -241,7 +240,6 @@ def other_beside(reader: Reader, key: int) -> None:
 
 def signs_out(reader: Reader) -> None:
     """The browser forgets the password, and another user's leads on to the desk."""
-    reader.log_in(reader.user)
     token = base64.b64encode(f"{reader.user}:{PASSWORDS[reader.user]}".encode()).decode()
     with socket.create_connection(("127.0.0.1", reader.desk.line.server_port)) as connection:
         connection.sendall(head(f"GET /sign-out?user={reader.user} HTTP/1.1", f"Host: {HOST}",

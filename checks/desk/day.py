@@ -1,17 +1,15 @@
 """A day of the desk: every command by those whom the rules let give it, what is refused, and what is found. What the
 page has to say comes from docs/SPECIFICATION.md and from office/register_rules.py."""
-import calendar
 import time
 
 from parts import By, Reader
 from registers import STATES
-from register_rules import ACTIVE, ALL, STILL, Register, request_of
+from register_rules import ACTIVE, ALL, STILL, Register, moment_of, request_of
 from script import expect
 
 
 def second(text: str) -> int:
-    """The second of a text in UTC."""
-    return calendar.timegm(time.strptime(text, "%Y-%m-%dT%H:%M:%S"))
+    return moment_of(f"{text}Z")
 
 
 def day(days: int) -> str:

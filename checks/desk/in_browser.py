@@ -5,9 +5,8 @@ said.
     checks/desk/in_browser.py [--least] [--rows N] [PART..]
 
 keyreg is served behind nginx with office/units/nginx-keyreg.conf, and a browser for each user goes through a day by
-forms and lists (day.py), by the keyboard alone (typed.py), and by tables (tables.py). What may break breaks
-(breaks.py), and what is typed stays (typed.py). Each page is looked at by Chromium's accessibility tree, for contrast,
-by Tab, at several widths, light, dark and printed (looks.py).
+forms and lists (day.py), what breaks (breaks.py), what is typed (typed.py) and tables (tables.py). Each page is looked
+at by Chromium's accessibility tree, for contrast, by Tab, at several widths, light, dark and printed (looks.py).
 
 After it each request of which a page said that it was accepted is in the register under the number that the page
 showed, and no other is; and by office/replay.py all else in the register follows from them. The console has nothing but
@@ -55,7 +54,7 @@ class Office:
         return self.readers[-1]
 
     def compared(self) -> int:
-        """Compares the register with what the pages said; how many requests it has."""
+        """Compares the register with what the pages and their consoles said; how many requests it has."""
         output_of([sys.executable, "-B", OFFICE / "replay.py", self.desk.copy()])
         kept = {row[:2]: row[2] for row in self.desk.requests()}
         said = [request for reader in self.readers for request in reader.said]
@@ -67,6 +66,7 @@ class Office:
         shown = collections.Counter((caller, command) for caller, _, command in said)
         expect(accepted == shown,
                f"the register has besides {accepted - shown}, and the pages said besides {shown - accepted}")
+        self.quiet()
         return len(kept)
 
     def quiet(self) -> None:
@@ -84,7 +84,6 @@ def least(here: Office) -> str:
     """The smallest form."""
     day.destroyed(*map(here.reader, ("ann", "bob", "cat")))
     count = here.compared()
-    here.quiet()
     return f"a key is registered, approved by two and destroyed in {count} requests, as the pages said"
 
 
@@ -105,7 +104,6 @@ def whole(here: Office, folder: pathlib.Path, parts: Sequence[str], rows: int) -
     if "looks" in parts:
         print(looks.all_pages(ann, bob, cat, folder))
     count = here.compared()
-    here.quiet()
     return f"{count} requests of {len(here.readers)} pages are the register's, as the pages said; the console is empty"
 
 

@@ -24,13 +24,7 @@ from serving import PATIENCE, begins_to_listen, free_port
 
 USER, PURPOSE = "ann", "a key of another browser"
 # The name of the desk leads to this machine, and a password may stand in an address.
-PREFERENCES = {
-    "browser.shell.checkDefaultBrowser": False,
-    "datareporting.policy.dataSubmissionEnabled": False,
-    "network.dns.localDomains": HOST,
-    "network.http.phishy-userpass-length": 255,
-    "toolkit.telemetry.reportingpolicy.firstRun": False,
-}
+PREFERENCES = {"network.dns.localDomains": HOST, "network.http.phishy-userpass-length": 255}
 
 
 class Firefox:
@@ -85,9 +79,8 @@ class Firefox:
             time.sleep(0.05)
 
 
-def registered(firefox: Firefox, address: str) -> None:
+def registered(firefox: Firefox) -> None:
     """A key is registered by the form of the desk."""
-    firefox.call("Navigate", url=address)
     firefox.execute("window.faults = []; for (const name of ['error', 'unhandledrejection'])"
                     "addEventListener(name, (event) => faults.push(event.message ?? String(event.reason)))")
     firefox.wait("0 of 0 keys")
@@ -112,7 +105,9 @@ def main() -> None:
         folder.chmod(0o755)
         desk = Desk(folder)
         stack.callback(desk.close)
-        registered(Firefox(folder, stack), f"http://{USER}:{PASSWORDS[USER]}@{HOST}:{desk.line.server_port}/")
+        firefox = Firefox(folder, stack)
+        firefox.call("Navigate", url=f"http://{USER}:{PASSWORDS[USER]}@{HOST}:{desk.line.server_port}/")
+        registered(firefox)
         rows = [(caller, command) for caller, _, command, _ in desk.requests()]
         wanted = [(USER, f"register data-encryption {USER} 1801470600 - - {PURPOSE}")]
         expect(rows == wanted, f"the register has {rows}")

@@ -14,7 +14,7 @@ import struct
 import sys
 import threading
 import time
-from typing import Any, Callable, Iterable, Optional, Sequence
+from typing import Any, Callable, Optional, Sequence
 
 from places import OFFICE
 from browser import chromium
@@ -100,9 +100,9 @@ class Line(http.server.ThreadingHTTPServer):
 class Desk:
     """keyreg over a file, nginx with the office's file before it, and the list of the desk."""
 
-    def __init__(self, folder: File, lines: Iterable[str] = ()) -> None:
+    def __init__(self, folder: File) -> None:
         self.file, self.port = os.path.join(folder, "office.keyreg"), free_port()
-        new_register(self.file, lines)
+        new_register(self.file)
         self.start()
         self.guard = Guard(self.port, PASSWORDS)
         self.line = Line(self.guard.port)
@@ -111,10 +111,9 @@ class Desk:
     def start(self) -> None:
         self.served = Served(file=self.file, port=self.port)
 
-    def make_list(self, file: Optional[File] = None) -> str:
-        """Makes the list anew, of the register or of another file."""
+    def make_list(self) -> None:
         place = os.path.join(self.guard.list_folder, "list.json")
-        return output_of([sys.executable, "-B", OFFICE / "list.py", file or self.file, place])
+        output_of([sys.executable, "-B", OFFICE / "list.py", self.file, place])
 
     def copy(self) -> str:
         """A copy of the register and its log, while nothing is sent."""
@@ -136,11 +135,11 @@ class Reader:
     """A browser of a user of the desk. What the page says of accepted requests is written down in `said`: the user, the
     number if it was shown, and the command."""
 
-    def __init__(self, desk: Desk, user: str, zone: str = ZONE) -> None:
+    def __init__(self, desk: Desk, user: str) -> None:
         self.desk, self.user = desk, user
         self.said: list[tuple[str, Optional[int], str]] = []
         self.place = f"http://{HOST}:{desk.line.server_port}/"
-        os.environ["TZ"] = zone
+        os.environ["TZ"] = ZONE
         self.driver = chromium(f"--host-resolver-rules=MAP {HOST} 127.0.0.1, MAP * ~NOTFOUND")
         # The password is given once, as a person types it; then the page is opened by its own address.
         self.log_in(user)
