@@ -1,7 +1,6 @@
 """A table is taken once: its rows are judged, sent, stopped and gone on with; rows that are keys already are known; all
 rows and reasons are reached; and a long table is sent as fast at its end as at its beginning."""
 import csv
-import os
 import pathlib
 import re
 import time
@@ -162,9 +161,10 @@ def long_table(reader: Reader, folder: pathlib.Path, count: int) -> str:
     reader.said += [(reader.user, None, f"register data-encryption ann {second(day(-5))} - - {purpose}")
                     for purpose in purposes]
     put_away(reader)
-    reader.desk.make_list()
-    size = os.path.getsize(os.path.join(reader.desk.guard.list_folder, "list.json"))
-    expect(size <= 400 * count, f"a list of {count} keys has {size} bytes")
+    plain, packed = reader.with_list().execute(
+        "const given = performance.getEntriesByType('resource').find((one) => one.name.endsWith('list.json'));"
+        "return [given.decodedBodySize, given.encodedBodySize];")
+    expect(plain <= 400 * count and packed <= 80 * count, f"a list of {count} keys: {plain} bytes, {packed} packed")
     return f"{count} rows were sent at {rates[0]:.0f} a second at first and {rates[-1]:.0f} at the end"
 
 
