@@ -1,51 +1,54 @@
-"""What breaks between the desk and the register: connections, answers, pages and keyreg itself. Each request acts once,
-and the page says what is so. Beside it two pages at one key, texts that are meant to disturb, and a list that is not
-what it was."""
+"""What breaks between the desk and the register: connections, answers, pages, keyreg itself, and who sends. Each
+request acts once, for its own user, and the page says what is so. Beside it two pages at one key, texts that are meant
+to disturb, and a list that is not what it was."""
+import base64
 import json
 import os
 import pathlib
 import re
+import socket
 import time
+from typing import Optional
 
 from day import register
-from parts import Reader
+from nginx import HOST
+from parts import PASSWORDS, Reader
 from script import expect
+from serving import head, received
 
 HOSTILE = [
     '<img src=x onerror="document.title=1">', "\"'><script>alert(1)</script>", "</td></table><b>bold</b>",
-    "&lt;i&gt;&amp;",
-    "\u202egpj.exe", "a\u0085b\u2028c\u2029d", "\u2066isolate\u2069 \u200bzero", "x" * 200, "\u00fc" * 100,
-    "${1+1} {{2}} `3`",
-    "javascript:alert(1)", "\U000e0041tag \ufeffmark", "ب" * 60, "' style='position:fixed",
+    "&lt;i&gt;&amp;", "\u202egpj.exe", "a\u0085b\u2028c\u2029d", "\u2066isolate\u2069 \u200bzero", "x" * 200,
+    "\u00fc" * 100, "${1+1} {{2}} `3`", "\U000e0041tag \ufeffmark", "ب" * 60, "' style='position:fixed",
 ]
 # What no text of anybody may become.
 NO_SUCH = "img, iframe, object, embed, style, b, i, form[action], script:not([src='desk.js'])"
+# What may come between a request and its answer, and several of them after one another.
+TURNS = (["cut"], ["500"], ["503"], ["502"], ["cut", "503", "cut", "lose"], ["reset"], ["lose"])
 
 
 def waits(reader: Reader, *words: str) -> str:
     """The page says that a request waits, and how it is sent. Gives its number."""
-    for word in ("Not answered yet", *words):
-        reader.says(word, "#kept")
-    return re.search(r"number (\d+)", reader.text("#kept"))[1]
+    def number() -> Optional[re.Match]:
+        text = reader.text("#kept")
+        return all(word in text for word in ("Not answered yet", *words)) and re.search(r"number (\d+)", text)
+
+    return reader.wait(number, f"a request does not wait with {words}")[1]
 
 
 def sent_again(reader: Reader, key: int) -> None:
-    """Each thing that may come between a request and its answer, and several of them after one another."""
+    """Each thing that may come between them."""
     line = reader.desk.line
-    turns = (["cut"], ["500"], ["503"], ["refuse"], ["cut", "503", "cut", "lose"], ["reset"], ["lose"])
-    for place, todo in enumerate(turns):
-        name = f"after-{place}"
-        reader.key(key)
-        before = len(line.posts)
-        line.todo = list(todo)
-        reader.submit("add-custodian", [("Custodian", name)])
+    for place, todo in enumerate(TURNS):
+        name, before, line.todo = f"after-{place}", len(line.posts), list(todo)
+        reader.key(key).submit("add-custodian", [("Custodian", name)])
         # After a reset the browser may have sent it again before the page knows of it.
         if todo[0] not in ("reset", "lose"):
             why = "connection broke" if todo[0] == "cut" else "does not tell whether it acted"
             waits(reader, why, "sent again under its number")
         reader.accepted(f"add-custodian {key} {name}")
         sent, number = line.posts[before:], str(reader.said[-1][1])
-        expect(not line.todo and len(sent) >= len(todo) + 1 and set(sent) == {number},
+        expect(not line.todo and len(sent) > len(todo) and set(sent) == {number},
                f"{todo}: sent under {sent}, and the page says {number}")
         expect(not reader.text("#kept"), f"{todo}: the page says that it waits still")
         expect(name in reader.text("dl.facts"), f"{todo}: the key is not shown with {name}")
@@ -56,14 +59,13 @@ def over_reload(reader: Reader, key: int) -> None:
     """A request waits, and the page is loaded anew: it is sent again under its number. Another user's is not sent."""
     line = reader.desk.line
     for what in ("cut", "reset", "lose", "503"):
-        reader.key(key)
         line.todo, before = [what] * 50, len(line.posts)
-        reader.submit("add-custodian", [("Custodian", "reload")])
+        reader.key(key).submit("add-custodian", [("Custodian", "reload")])
         number = waits(reader)
         reader.forget()
         # Nothing else is sent meanwhile.
         reader.seen("button.advance").click()
-        expect("Not sent" in reader.answer()[1], "something else is sent meanwhile")
+        reader.refused("Not sent")
         reader.driver.refresh()
         waits(reader)
         line.todo = []
@@ -76,7 +78,7 @@ def over_reload(reader: Reader, key: int) -> None:
     time.sleep(0.5)
     expect(len(line.posts) == before, "another user's request is sent")
     reader.press("Give it up")
-    expect(reader.answer()[1].startswith("Given up"), "it is not given up")
+    reader.refused("Given up")
 
 
 def keep(reader: Reader, number: int, caller: str, command: dict) -> None:
@@ -89,29 +91,25 @@ def keep(reader: Reader, number: int, caller: str, command: dict) -> None:
 def killed(reader: Reader, key: int) -> None:
     """keyreg is killed before a request comes, and right after one acted; it is started again meanwhile."""
     desk = reader.desk
-    reader.key(key)
-    desk.kill()
-    reader.submit("set-quorum", [("Approvals needed", "4")])
-    number = waits(reader, "status 502")
-    desk.start()
-    reader.accepted(f"set-quorum {key} 4", number)
-    reader.key(key)
-    desk.line.todo = ["cut"]
-    reader.submit("set-quorum", [("Approvals needed", "5")])
-    reader.wait(lambda: not desk.line.todo, "it is not sent")
-    desk.kill()
-    number = waits(reader)
-    desk.start()
-    reader.accepted(f"set-quorum {key} 5", number)
+    for need, words in (("4", "status 502"), ("5", "connection broke")):
+        reader.key(key)
+        if need == "4":
+            desk.served.close()
+        else:
+            desk.line.todo = ["cut"]
+        reader.submit("set-quorum", [("Approvals needed", need)])
+        reader.wait(lambda: not desk.line.todo, "it is not sent")
+        desk.served.close()
+        number = waits(reader, words)
+        desk.start()
+        reader.accepted(f"set-quorum {key} {need}", number)
     expect("5 that its destruction needs" in reader.text(), reader.text())
 
 
 def refused_after_a_cut(reader: Reader, key: int) -> None:
     """A refusal whose answer is lost is shown as a refusal, and one of a number that was used as what it is."""
-    line = reader.desk.line
-    reader.key(key)
-    line.todo = ["cut"]
-    reader.submit("add-custodian", [("Custodian", reader.user)])
+    reader.desk.line.todo = ["cut"]
+    reader.key(key).submit("add-custodian", [("Custodian", reader.user)])
     waits(reader)
     reader.refused("OwnerCustodian", "none of its custodians")
     used = max(number for _, number, _ in reader.said if number)
@@ -121,16 +119,17 @@ def refused_after_a_cut(reader: Reader, key: int) -> None:
 
 def two_pages(reader: Reader, other: Reader, key: int) -> None:
     """Two pages at one key: the second gets the refusal in words, and the key as it stands now."""
-    reader.key(key)
-    other.key(key)
-    form = other.form("set")
-    reader.does(f"assign {key} bob", [("New owner", "bob")])
+    form = other.key(key).form("set")
+    reader.key(key).does(f"assign {key} bob", [("New owner", "bob")])
     expect(form.is_displayed(), "the other page is not as it was")
     foretold = other.submit("set", edits=[("keep", ""), ("keep", ""), ("clear", "")])
     expect("Would be accepted" in foretold, foretold)
     other.refused("NotOwner", "Only the owner", f"key {key} stands as it is in the register")
     expect("bob" in other.text("dl.facts"), f"the key is not shown as it stands: {other.text('dl.facts')}")
     expect(not other.find("details[data-kind='set']"), "dates may still be set")
+
+
+# ---- texts and lists
 
 
 def is_text(reader: Reader, text: str) -> None:
@@ -149,14 +148,7 @@ def is_text(reader: Reader, text: str) -> None:
 def hostile_texts(reader: Reader) -> None:
     """Purposes that are markup, quotes, marks of direction or long words."""
     for text in HOSTILE:
-        reader.anew("register")
-        form = reader.form("register")
-        reader.fill(form, "Owner", reader.user)
-        entry = form.find_element("css selector", "input[name='purpose']")
-        reader.put(entry, text)
-        reader.forget()
-        form.find_element("css selector", "button.send").click()
-        reader.accepted(f"register data-encryption {reader.user} - - - {text}")
+        register(reader, "data-encryption", reader.user, text)
         is_text(reader, text)
     reader.open(f"find?owner={reader.user}")
     for text in HOSTILE:
@@ -164,38 +156,105 @@ def hostile_texts(reader: Reader) -> None:
     expect(reader.driver.title.startswith("Find"), f"the title is {reader.driver.title}")
 
 
-def hostile_list(reader: Reader) -> None:
-    """A list that no register gives, with markup for names: it is shown as texts all the same."""
-    place = pathlib.Path(reader.desk.guard.list_folder, "list.json")
-    given = json.loads(place.read_text(encoding="utf-8"))
-    owner = '<img src=x onerror="document.title=2"><script>alert(2)</script>'
-    given["names"] = [owner if name == "cat" else name for name in given["names"]]
-    given["names"][given["keys"]["owner"][0]] = owner
-    given["keys"]["purpose"][0] = owner
-    place.write_text(json.dumps(given), encoding="utf-8")
-    os.utime(place, (time.time() + 5, time.time() + 5))
-    reader.forget_all()
-    reader.open("find")
-    is_text(reader, owner)
+def other_lists(reader: Reader, key: int) -> None:
+    """A list that no register gives, with markup for names, is shown as texts all the same. Where the list is of too
+    many keys, or gone, keys are asked for by their numbers, and the page says so."""
     reader.desk.make_list()
-    reader.forget_all()
-
-
-def without_a_list(reader: Reader, key: int) -> None:
-    """Where the list is gone, or is of too many keys, keys are asked for by their numbers, and the page says so."""
     place = pathlib.Path(reader.desk.guard.list_folder, "list.json")
-    kept = place.read_bytes()
-    place.unlink()
-    reader.forget_all()
-    reader.open("find")
-    reader.says("The list of keys is not there")
+    given = json.loads(place.read_text("utf-8"))
+    markup = '<img src=x onerror="document.title=2"><script>alert(2)</script>'
+    given["names"] = [markup] * len(given["names"])
+    for text, words in ((json.dumps(given), markup), (json.dumps({**given, "keys": None, "count": 200000}),
+                        "200000 keys, too many for the list"), ("", "The list of keys is not there")):
+        if text:
+            place.write_text(text, encoding="utf-8")
+            os.utime(place, (time.time() + 5, time.time() + 5))
+        else:
+            place.unlink()
+        reader.reload(forgets=True)
+        reader.open("find").says(words)
+        if words == markup:
+            is_text(reader, markup)
     reader.key(key)
-    place.write_text(json.dumps({**json.loads(kept), "keys": None, "count": 200000}), encoding="utf-8")
-    reader.reload()
+    reader.desk.make_list()
+    reader.reload(forgets=True)
+
+
+# ---- who sends: a browser has one password for all its pages
+
+
+def logs_in_beside(reader: Reader, user: str, is_seen: bool = False) -> None:
+    """Another page of the same browser is given another user's password. `is_seen` is whether the first page knows that
+    it was left meanwhile; else it does not ask by itself who sends."""
+    first = reader.driver.current_window_handle
+    if not is_seen:
+        reader.execute("const stop = (event) => event.stopImmediatePropagation();"
+                       "document.addEventListener('visibilitychange', stop, true);"
+                       "for (let timer = setTimeout(() => {}); timer > 0; timer--) clearTimeout(timer);")
+    reader.driver.switch_to.new_window("tab")
+    reader.log_in(user)
+    expect(reader.text("body") == user, f"the other page is of {reader.text('body')!r}")
+    reader.driver.close()
+    reader.driver.switch_to.window(first)
+
+
+def goes_on_as(reader: Reader, user: str) -> None:
+    """The page, which says for whom it sends no more, is loaded anew, as whoever sends now."""
+    reader.says("sends as another user", "#other")
+    reader.seen("#other button").click()
+    reader.wait(lambda: f"You: {user}" in reader.text("#who") and reader.find("main[data-page]"),
+                f"the page is not {user}'s: {reader.text('#who')}")
+
+
+def other_beside(reader: Reader, key: int) -> None:
+    """A request acts, and its answer is lost, or it is not sent yet, when the other user logs in beside: it acts once,
+    for its own user. No further page is shown meanwhile."""
+    for todo, name in (([], "beside"), (["cut", "503", "503"], "between")):
+        reader.key(key)
+        command, before = f"add-custodian {key} {name}", reader.desk.requests()
+        if not todo:
+            logs_in_beside(reader, "office")
+        reader.desk.line.todo = [*todo]
+        reader.submit("add-custodian", [("Custodian", name)])
+        if todo:
+            waits(reader)
+            logs_in_beside(reader, "office")
+            reader.seen("#kept button").click()
+        expect(f"not as {reader.user}" in reader.says("sends as another user", "#other"), reader.text("#other"))
+        expect("Not answered yet" in reader.text("#kept"), "the request is not kept")
+        sent = [(caller, text) for caller, _, text, _ in reader.desk.requests()[len(before):]]
+        expect(sent == [(reader.user, command)] * bool(todo), f"in the other's time accepted was {sent}")
+        reader.desk.line.todo = []
+        goes_on_as(reader, "office")
+        expect(f"It is of the user {reader.user}" in reader.text("#kept"), "whose request waits is not said")
+        logs_in_beside(reader, reader.user, is_seen=True)
+        goes_on_as(reader, reader.user)
+        reader.accepted(command)
     reader.open("find")
-    reader.says("200000 keys, too many for the list")
-    place.write_bytes(kept)
-    reader.reload()
+    logs_in_beside(reader, "office")
+    reader.execute("location.hash = 'waits'")
+    goes_on_as(reader, "office")
+    logs_in_beside(reader, reader.user, is_seen=True)
+    goes_on_as(reader, reader.user)
+
+
+def signs_out(reader: Reader) -> None:
+    """The browser forgets the password, and another user's leads on to the desk."""
+    token = base64.b64encode(f"{reader.user}:{PASSWORDS[reader.user]}".encode()).decode()
+    with socket.create_connection(("127.0.0.1", reader.desk.line.server_port)) as connection:
+        connection.sendall(head(f"GET /sign-out?user={reader.user} HTTP/1.1", f"Host: {HOST}",
+                                f"Authorization: Basic {token}", "Connection: close"))
+        answer = received(connection).decode()
+    expect(answer.startswith("HTTP/1.1 401 ") and "You are signed out" in answer, f"signing out is answered {answer}")
+    reader.open("find").press("Sign out", "#who a")
+    # The browser asks for another password over an empty page, which is left unanswered here.
+    reader.wait(lambda: "You:" not in reader.text("body"), "the page stands as it was")
+    reader.driver.get(f"{reader.place}me")
+    expect(reader.user not in reader.text("body"), "the browser still knows the password")
+    reader.log_in("office", f"sign-out?user={reader.user}")
+    reader.says("You: office", "#who")
+    reader.log_in(reader.user)
+    reader.open("find")
 
 
 def all_breaks(ann: Reader, bob: Reader, second: Reader) -> None:
@@ -205,8 +264,8 @@ def all_breaks(ann: Reader, bob: Reader, second: Reader) -> None:
     over_reload(ann, key)
     refused_after_a_cut(ann, key)
     killed(ann, key)
+    other_beside(ann, key)
     two_pages(ann, second, key)
     hostile_texts(bob)
-    ann.desk.make_list()
-    hostile_list(bob)
-    without_a_list(bob, key)
+    other_lists(bob, key)
+    signs_out(ann)

@@ -5,6 +5,7 @@ The browsers stand in another time zone than UTC, half hours from it, so that a 
 seen.
 """
 import contextlib
+import http.server
 import json
 import os
 import re
@@ -13,7 +14,7 @@ import struct
 import sys
 import threading
 import time
-from typing import Any, Callable, Iterable, Optional, Sequence
+from typing import Any, Callable, Optional, Sequence
 
 from places import OFFICE
 from browser import chromium
@@ -21,115 +22,87 @@ from nginx import HOST, Guard
 from registers import File, copy_files, database, new_register
 from script import expect, output_of
 from selenium.common.exceptions import StaleElementReferenceException, WebDriverException
-from selenium.webdriver.common.action_chains import ActionChains
 from selenium.webdriver.common.by import By
 from selenium.webdriver.common.keys import Keys
 from selenium.webdriver.support.select import Select
-from serving import Served, free_port, received
+from serving import Served, free_port, head, received
 
-LIST = OFFICE / "list.py"
 ZONE = "America/St_Johns"
 PASSWORDS = {"ann": "word-a", "bob": "word-b", "cat": "word-c", "dan": "word-d", "eve": "word-e", "office": "word-o"}
+# What comes in the place of an answer.
+ANSWERS = {"500": b'{"end":31,"name":"Store"}', "503": b'{"end":30,"name":"Memory"}', "502": b"<html>busy</html>"}
 
 
-class Line:
-    """The line between the browsers and nginx. It passes all on, until it is told what to do with the next POSTs:
+class Relay(http.server.BaseHTTPRequestHandler):
+    """Passes a request of a browser on to nginx, and the answer back, over a connection that stays."""
+    protocol_version = "HTTP/1.1"
+
+    def do_GET(self) -> None:
+        line, what = self.server, ""
+        body = self.rfile.read(int(self.headers["Content-Length"] or 0))
+        if self.command == "POST":
+            time.sleep(line.delay)
+            line.posts.append(self.headers["Request-Number"])
+            what = line.todo.pop(0) if line.todo else ""
+        line.keys_asked += self.path.startswith("/keys/")
+        answer = b"" if what == "lose" else self.answer(body)
+        if what in ANSWERS:
+            answer = head(f"HTTP/1.1 {what} -", f"Content-Length: {len(ANSWERS[what])}") + ANSWERS[what]
+        elif what:
+            answer = answer[:-9] if what == "cut" else b""
+        self.wfile.write(answer)
+        if what and what not in ANSWERS:
+            # So that the head is read before a reset, as of a network that breaks, takes it away.
+            time.sleep(0.1)
+            self.connection.setsockopt(socket.SOL_SOCKET, socket.SO_LINGER, struct.pack("ii", 1, 0))
+            self.connection.close()
+            self.close_connection = True
+
+    do_POST = do_GET
+
+    def answer(self, body: bytes) -> bytes:
+        """What nginx answers, on a connection that ends with it."""
+        del self.headers["Connection"]
+        fields = [f"{name}: {value}" for name, value in self.headers.items()]
+        with socket.create_connection(("127.0.0.1", self.server.to)) as nginx:
+            nginx.sendall(head(self.requestline, *fields, "Connection: close") + body)
+            return received(nginx).replace(b"\r\nConnection: close", b"", 1)
+
+    def log_message(self, *_: object) -> None:
+        pass
+
+
+class Line(http.server.ThreadingHTTPServer):
+    """The line between the browsers and nginx. It passes all on, until `todo` says what to do with the next POSTs:
 
         cut     the request goes on, and the browser's connection is broken within the answer
         reset   the request goes on, and the connection is broken before the first byte of the answer: on a connection
                 that it used before a browser may send such a request again by itself
         lose    the connection is broken before the request goes on
-        500, 503  the request goes on, and the browser gets this status in the place of the answer
-        refuse  the same with an answer of a page that is no register's
+        a status of ANSWERS  the request goes on, and the browser gets this in the place of the answer
 
-    `delay` is how many seconds it keeps each POST.
+    `delay` is how many seconds it keeps each POST, `posts` the numbers of the requests that came, and `keys_asked` how
+    often a key or its usage was asked for.
     """
-    delay = 0.0
-    BODIES = {"500": b'{"end":31,"name":"Store"}', "503": b'{"end":30,"name":"Memory"}', "refuse": b"<html>busy</html>"}
+    request_queue_size = 64
 
     def __init__(self, port: int) -> None:
-        self.to, self.open = port, True
+        super().__init__(("127.0.0.1", 0), Relay)
+        self.to, self.delay, self.keys_asked = port, 0.0, 0
         self.todo: list[str] = []
-        # The numbers of the requests that came.
         self.posts: list[str] = []
-        # How often a key or its usage was asked for.
-        self.keys_asked = 0
-        self.server = socket.create_server(("127.0.0.1", 0), backlog=64)
-        self.port = self.server.getsockname()[1]
-        threading.Thread(target=self.take, daemon=True).start()
+        threading.Thread(target=self.serve_forever, daemon=True).start()
 
-    def take(self) -> None:
-        with contextlib.suppress(OSError):
-            while self.open:
-                threading.Thread(target=self.serve, args=(self.server.accept()[0],), daemon=True).start()
-
-    def serve(self, browser: socket.socket) -> None:
-        with contextlib.suppress(OSError), browser, socket.create_connection(("127.0.0.1", self.to)) as other:
-            # As nginx has it: the second part of an answer does not wait until the first is acknowledged.
-            for end in (browser, other):
-                end.setsockopt(socket.IPPROTO_TCP, socket.TCP_NODELAY, 1)
-            threading.Thread(target=self.answers, args=(other, browser), daemon=True).start()
-            while given := browser.recv(1 << 20):
-                if given.startswith(b"POST /requests"):
-                    given = self.whole(browser, given)
-                    time.sleep(self.delay)
-                    self.posts.append(re.search(rb"(?i)request-number: *(\d+)", given)[1].decode())
-                    if self.todo and not self.post(self.todo.pop(0), given, browser):
-                        return
-                self.keys_asked += given.startswith(b"GET /keys/")
-                other.sendall(given)
-
-    @staticmethod
-    def whole(browser: socket.socket, given: bytes) -> bytes:
-        """The whole of a request whose first bytes came."""
-        while True:
-            head, _, body = given.partition(b"\r\n\r\n")
-            length = re.search(rb"(?i)content-length: *(\d+)", head)
-            if length and len(body) >= int(length[1]):
-                return given
-            given += browser.recv(1 << 16)
-
-    def answers(self, other: socket.socket, browser: socket.socket) -> None:
-        with contextlib.suppress(OSError):
-            while given := other.recv(1 << 20):
-                browser.sendall(given)
-            browser.shutdown(socket.SHUT_WR)
-
-    def post(self, what: str, given: bytes, browser: socket.socket) -> bool:
-        """Does this with a request; whether the browser's connection goes on."""
-        answer = b""
-        if what != "lose":
-            # On a line of its own, which ends with the answer.
-            with socket.create_connection(("127.0.0.1", self.to)) as own:
-                own.sendall(re.sub(rb"(?i)\r\nconnection: [^\r]*", b"\r\nConnection: close", given, count=1))
-                answer = received(own)
-        if what in self.BODIES:
-            body = self.BODIES[what]
-            status = "502" if what == "refuse" else what
-            browser.sendall(f"HTTP/1.1 {status} -\r\nContent-Length: {len(body)}\r\nConnection: close\r\n\r\n".encode()
-                            + body)
-            browser.shutdown(socket.SHUT_WR)
-            return False
-        if what == "cut":
-            browser.sendall(answer[:-9])
-            # So that the head is read before the reset takes it away.
-            time.sleep(0.1)
-        # A reset, as of a network that breaks.
-        browser.setsockopt(socket.SOL_SOCKET, socket.SO_LINGER, struct.pack("ii", 1, 0))
-        browser.close()
-        return False
-
-    def close(self) -> None:
-        self.open = False
-        self.server.close()
+    def handle_error(self, *_: object) -> None:
+        """Browsers leave when they like."""
 
 
 class Desk:
     """keyreg over a file, nginx with the office's file before it, and the list of the desk."""
 
-    def __init__(self, folder: File, lines: Iterable[str] = ()) -> None:
+    def __init__(self, folder: File) -> None:
         self.file, self.port = os.path.join(folder, "office.keyreg"), free_port()
-        new_register(self.file, lines)
+        new_register(self.file)
         self.start()
         self.guard = Guard(self.port, PASSWORDS)
         self.line = Line(self.guard.port)
@@ -138,26 +111,23 @@ class Desk:
     def start(self) -> None:
         self.served = Served(file=self.file, port=self.port)
 
-    def kill(self) -> None:
-        self.served.close()
-
-    def make_list(self, file: Optional[File] = None) -> str:
-        """Makes the list anew, of the register or of another file."""
+    def make_list(self) -> None:
         place = os.path.join(self.guard.list_folder, "list.json")
-        return output_of([sys.executable, "-B", LIST, file or self.file, place])
+        output_of([sys.executable, "-B", OFFICE / "list.py", self.file, place])
 
     def copy(self) -> str:
         """A copy of the register and its log, while nothing is sent."""
         return str(copy_files(self.file, f"{self.file}-copy-{time.monotonic_ns()}"))
 
-    def requests(self) -> list[tuple[str, int, str]]:
-        """The caller, the number and the command of each accepted request, in their order."""
+    def requests(self) -> list[tuple[str, int, str, int]]:
+        """The caller, the number, the command and the moment of each accepted request, in their order."""
         with database(self.copy()) as connection:
-            return connection.execute("SELECT caller, number, command FROM request ORDER BY rowid").fetchall()
+            return connection.execute("SELECT caller, number, command, moment FROM request ORDER BY rowid").fetchall()
 
     def close(self) -> None:
-        self.kill()
-        self.line.close()
+        self.served.close()
+        self.line.shutdown()
+        self.line.server_close()
         self.guard.__exit__()
 
 
@@ -165,12 +135,12 @@ class Reader:
     """A browser of a user of the desk. What the page says of accepted requests is written down in `said`: the user, the
     number if it was shown, and the command."""
 
-    def __init__(self, desk: Desk, user: str, zone: str = ZONE, is_logged: bool = True) -> None:
-        self.desk, self.user, self.is_logged = desk, user, is_logged
+    def __init__(self, desk: Desk, user: str) -> None:
+        self.desk, self.user = desk, user
         self.said: list[tuple[str, Optional[int], str]] = []
-        self.place = f"http://{HOST}:{desk.line.port}/"
-        os.environ["TZ"] = zone
-        self.driver = chromium(f"--host-resolver-rules=MAP {HOST} 127.0.0.1, MAP * ~NOTFOUND", is_logged=is_logged)
+        self.place = f"http://{HOST}:{desk.line.server_port}/"
+        os.environ["TZ"] = ZONE
+        self.driver = chromium(f"--host-resolver-rules=MAP {HOST} 127.0.0.1, MAP * ~NOTFOUND")
         # The password is given once, as a person types it; then the page is opened by its own address.
         self.log_in(user)
         self.logs()
@@ -178,7 +148,7 @@ class Reader:
 
     def log_in(self, user: str, path: str = "me") -> None:
         """Gives a user's password, and opens a page of nginx's own."""
-        self.driver.get(f"http://{user}:{PASSWORDS[user]}@{HOST}:{self.desk.line.port}/{path}")
+        self.driver.get(f"{self.place.replace('//', f'//{user}:{PASSWORDS[user]}@')}{path}")
 
     # ---- looking
 
@@ -187,10 +157,8 @@ class Reader:
 
     def seen(self, selector: str, holds: Callable[[Any], bool] = lambda element: True) -> Any:
         """The first element that is seen there and suits, as soon as one is."""
-        def first() -> Any:
-            return next((element for element in self.find(selector) if element.is_displayed() and holds(element)), None)
-
-        return self.wait(first, f"{selector} is not seen")
+        return self.wait(lambda: next((element for element in self.find(selector)
+                                       if element.is_displayed() and holds(element)), None), f"{selector} is not seen")
 
     def wait(self, is_so: Callable[[], Any], fault: str, patience: float = 20) -> Any:
         late = time.monotonic() + patience
@@ -229,27 +197,25 @@ class Reader:
 
     def anew(self, page: str) -> "Reader":
         """The same, from another page."""
-        self.open("register" if page.startswith("find") else "find")
-        return self.open(page)
+        return self.open("register" if page.startswith("find") else "find").open(page)
 
     def key(self, number: int) -> "Reader":
         """The page of a key, as the register gives it."""
-        self.anew(f"key/{number}")
-        self.says("As the register told it")
+        self.anew(f"key/{number}").says("As the register told it")
         return self
 
-    def reload(self) -> None:
+    def reload(self, forgets: bool = False) -> None:
+        """The page anew, where it forgets as in a new window."""
+        if forgets:
+            self.execute("sessionStorage.clear()")
         self.driver.refresh()
         self.wait(lambda: self.find("main[data-page]"), "the page does not come again")
 
-    def forget_all(self) -> None:
-        """The page as in a new window."""
-        self.execute("sessionStorage.clear()")
+    def with_list(self, page: str = "find") -> "Reader":
+        """A page that has the newest list."""
+        self.desk.make_list()
         self.reload()
-
-    def downloads_to(self, folder: File) -> None:
-        behaviour = {"behavior": "allow", "downloadPath": str(folder)}
-        self.driver.execute_cdp_cmd("Browser.setDownloadBehavior", behaviour)
+        return self.open(page)
 
     # ---- doing
 
@@ -259,17 +225,14 @@ class Reader:
 
     def fill(self, form: Any, label: str, value: str) -> None:
         """Writes into the field with this label. A date is its text in UTC, as a calendar gives it."""
-        fields = [field for field in form.find_elements(By.CSS_SELECTOR, ".field")
-                  if field.find_element(By.TAG_NAME, "label").text == label]
-        expect(fields, f"{self.user}: no field {label!r}")
-        entry = fields[0].find_element(By.CSS_SELECTOR, "input, select")
+        entry = next((field.find_element(By.CSS_SELECTOR, "input, select")
+                      for field in form.find_elements(By.CSS_SELECTOR, ".field")
+                      if field.find_element(By.TAG_NAME, "label").text == label), None)
+        expect(entry, f"{self.user}: no field {label!r}")
         if entry.tag_name == "select":
             Select(entry).select_by_value(value)
-        elif entry.get_attribute("type") in ("datetime-local", "number"):
-            self.put(entry, value)
         else:
-            entry.clear()
-            entry.send_keys(value)
+            self.put(entry, value)
 
     def put(self, entry: Any, value: str) -> None:
         """A value as a calendar gives it."""
@@ -289,14 +252,12 @@ class Reader:
         form = self.form(kind)
         for label, value in fields:
             self.fill(form, label, value)
-        for place, (how, value) in enumerate(edits):
-            row = form.find_elements(By.CSS_SELECTOR, ".edit")[place]
+        for (how, value), row in zip(edits, form.find_elements(By.CSS_SELECTOR, ".edit")):
             Select(row.find_element(By.TAG_NAME, "select")).select_by_value(how)
             if how == "set":
                 self.put(row.find_element(By.TAG_NAME, "input"), value)
-        for sure in form.find_elements(By.CSS_SELECTOR, ".sure input"):
-            if not sure.is_selected():
-                sure.click()
+        for sure in form.find_elements(By.CSS_SELECTOR, ".sure input:not(:checked)"):
+            sure.click()
         json.loads(form.find_element(By.CSS_SELECTOR, ".sentence").text)
         foretold = form.find_element(By.CSS_SELECTOR, ".foretold").text
         self.forget()
@@ -307,34 +268,26 @@ class Reader:
         """Takes the last answer away, so that the next one is seen to be new."""
         self.execute("document.getElementById('said').replaceChildren()")
 
-    def answer(self, command: str = "") -> tuple[bool, str]:
-        """What the page says of the request that was sent: whether it was accepted, and all its words. `command` is the
-        text of the request as the register keeps it, which is written down where the page says that it was accepted."""
+    def answer(self, is_wanted: bool, *wanted: str) -> str:
+        """What the page says of the request that was sent has to be that it is accepted, or not, with these words."""
         self.wait(lambda: self.find("#said .answer"), "there is no answer", 40)
         words = self.text("#said .answer")
-        is_accepted = bool(self.find("#said .answer .accepted"))
-        is_refused = bool(self.find("#said .answer .refused"))
-        expect(is_accepted != is_refused, f"{self.user}: an answer of both kinds: {words}")
-        has_focus = self.execute("return document.activeElement.className") == "answer"
-        expect(has_focus, f"{self.user}: the focus is not at the answer")
-        begin = "Accepted." if is_accepted else ("Refused", "Not sent", "Given up")
-        expect(words.startswith(begin), f"{self.user}: {words}")
-        if is_accepted:
-            number = int(re.search(r"request number was (\d+)", words)[1])
-            self.said.append((self.user, number, command))
-        return is_accepted, words
+        kinds = [kind for kind in ("accepted", "refused") if self.find(f"#said .answer .{kind}")]
+        begin = "Accepted." if is_wanted else ("Refused", "Not sent", "Given up")
+        expect(kinds == ["accepted" if is_wanted else "refused"] and words.startswith(begin)
+               and all(word in words for word in wanted), f"{self.user}: not {begin} with {wanted}: {kinds} {words}")
+        expect(self.execute("return document.activeElement.className") == "answer",
+               f"{self.user}: the focus is not at the answer")
+        return words
 
     def accepted(self, command: str, *wanted: str) -> str:
-        """The answer has to be that the request is accepted, with these words."""
-        is_accepted, words = self.answer(command)
-        expect(is_accepted and all(word in words for word in wanted), f"{self.user}, {command}, not {wanted}: {words}")
+        """The answer has to be that this request, as the register keeps it, is accepted. It is written down."""
+        words = self.answer(True, *wanted)
+        self.said.append((self.user, int(re.search(r"request number was (\d+)", words)[1]), command))
         return words
 
     def refused(self, name: str, *wanted: str) -> None:
-        """The answer has to be this refusal, with these words."""
-        is_accepted, words = self.answer()
-        expect(not is_accepted and all(word in words for word in (name, *wanted)),
-               f"{self.user}: not {name} with {wanted}: {words}")
+        self.answer(False, name, *wanted)
 
     def does(self, command: str, fields: Sequence[tuple[str, str]] = (), edits: Sequence[tuple[str, str]] = ()) -> str:
         """A request that has to be accepted, and that the page foretells so."""
@@ -348,16 +301,11 @@ class Reader:
             self.does(f"add-custodian {key} {name}", [("Custodian", name)])
 
     def logs(self) -> tuple[list[str], list[str]]:
-        """What the console says, and each address that was asked for; nothing where that is not written down."""
-        if not self.is_logged:
-            return [], []
+        """What the console says, and each address that was asked for."""
         console = [entry["message"] for entry in self.driver.get_log("browser")]
         messages = [json.loads(entry["message"])["message"] for entry in self.driver.get_log("performance")]
         return console, [message["params"]["request"]["url"] for message in messages
                          if message["method"] == "Network.requestWillBeSent"]
 
-    def close(self) -> None:
-        self.driver.quit()
 
-
-__all__ = ["ActionChains", "By", "Desk", "Keys", "Line", "PASSWORDS", "Reader", "WebDriverException"]
+__all__ = ["By", "Desk", "Keys", "PASSWORDS", "Reader", "WebDriverException"]

@@ -1,76 +1,112 @@
-"""A table is taken once: rows that are keys already are known, right after they were registered too; all rows and
-reasons are reached; a long table is sent as fast at its end as at its beginning and leaves the window's store room; and
-a page with a table half sent asks before it is left."""
+"""A table is taken once: its rows are judged, sent, stopped and gone on with; rows that are keys already are known; all
+rows and reasons are reached; and a long table is sent as fast at its end as at its beginning."""
 import csv
+import pathlib
+import re
 import time
+from typing import Callable
 
-from day import HEAD, chosen, day, given_back, put_away, second
-from parts import Reader
-from registers import File
+from day import day, second
+from parts import By, Reader
+from registers import IMPORT_COLUMNS
 from script import expect
 
+HEAD = ",".join(IMPORT_COLUMNS)
 SORTS = ("would be accepted", "refused", "of another form", "there already", "repeated", "changed by a spreadsheet")
 
 
-def judged(reader, rows, *counts):
-    """So many rows are shown, and so many of each sort."""
-    sorts = ", ".join(f"{count} {sort}" for count, sort in zip((*counts, 0), SORTS))
+def chosen(reader: Reader, folder: pathlib.Path, *rows: str, words: str = "judged before", head: str = HEAD) -> None:
+    """A table's file is chosen on its page, which then has these words."""
+    (folder / "keys.csv").write_text("\n".join([head, *rows, ""]), encoding="utf-8")
+    reader.anew("table").seen("input[type='file']").send_keys(str(folder / "keys.csv"))
+    reader.says(words, patience=60)
+
+
+def judged(reader: Reader, *counts: int) -> None:
+    """So many rows of each sort are shown."""
+    rows, sorts = sum(counts), ", ".join(f"{count} {sort}" for count, sort in zip(counts, SORTS))
     reader.says(f"{rows} row{'s' * (rows != 1)}, judged before they are sent: {sorts}", patience=60)
 
 
-def sent(reader, rows):
-    """Sends what is marked, and waits until it is answered."""
-    reader.press(f"Send {rows} row{'s' * (rows != 1)}")
-    reader.says(f"{rows} of {rows} rows answered", ".progress", 300)
-    reader.says("Put the table away", ".buttons")
+def put_away(reader: Reader) -> None:
+    reader.press("Put the table away")
+    reader.seen("input[type='file']")
+
+# Rows that the page does not send by itself, the last but one of them for its dates alone.
+BAD = ["master,ann,2026-02-01,,,a day without its time", "Master,ann,,,,no such type", "master,a b,,,,no name",
+       'master,<img src=x onerror="document.title=1">,,,,markup in an owner', "master,ann,,,," + "x" * 1000,
+       "master,ann,,,,#NAME?", "master,ann,2027-01-01T00:00:00Z,2026-01-01T00:00:00Z,,in another order",
+       "master,ann,,,"]
+REASONS = ["it is row 1 again", "changed by a spreadsheet", "refused", *["of another form"] * 6]
+# Whether the page asks before it is left.
+LEAVES = """const event = new Event("beforeunload", {cancelable: true});
+dispatchEvent(event);
+return event.defaultPrevented;"""
 
 
-def both_of_spreadsheets(reader, folder):
-    """A byte order mark and semicolons."""
-    row = "master,ann,,,,a table of a spreadsheet\n"
-    for name, given in (("mark", "\ufeff" + HEAD + row), ("semicolons", "\ufeff" + (HEAD + row).replace(",", ";"))):
-        chosen(reader, folder, given.replace("\n", "\r\n"))
-        judged(reader, 1, 1, 0, 0, 0, 0)
-        expect("a table of a spreadsheet" in reader.text("table.rows"), f"{name}: {reader.text('table.rows')}")
-        put_away(reader)
-
-
-def taken_twice(reader, folder):
-    """The same file a second time: at once, after a reload, and with a newer list. Its rows leave dates out."""
-    rows = [f"data-encryption,ann,{day(-5)}Z,,,taken twice {place}" for place in range(12)]
-    text = HEAD + "\n".join([*rows, "master,ann,,,,taken twice without dates", rows[0]]) + "\n"
-    chosen(reader, folder, text)
-    judged(reader, 14, 13, 0, 0, 0, 1)
-    sent(reader, 13)
-    reader.said += [(reader.user, None, f"register data-encryption ann {second(day(-5))} - - taken twice {place}")
-                    for place in range(12)]
-    reader.said.append((reader.user, None, "register master ann - - - taken twice without dates"))
+def taken_in(reader: Reader, folder: pathlib.Path, good: int = 40) -> None:
+    """A table is judged row by row, sent, stopped, gone on with after a reload, and its other rows are given back. The
+    page asks before it is left where the table is half sent. The same file is known then."""
+    chosen(reader, folder, head="a,b", words="header row is a,b")
+    rows = [f'authentication,ann,2026-01-31T23:30:00Z,,,"row {place}, ""quoted"""' for place in range(good)]
+    rows = [*rows[:3], *BAD[:4], "", *rows[3:], *BAD[4:], rows[0]]
+    chosen(reader, folder, *rows)
+    judged(reader, good, 1, 6, 0, 1, 1)
+    # A row that the page would not send is sent all the same where the reader wants it.
+    order = next(row for row in reader.find("table.rows tbody tr") if "another order" in row.text)
+    order.find_element(By.TAG_NAME, "input").click()
+    expect(not reader.execute(LEAVES), "the page asks before a row is sent")
+    reader.desk.line.delay = 0.2
+    reader.press(f"Send {good + 1} rows")
+    reader.wait(lambda: not reader.text(".progress .count").startswith("0 "), "no row is answered")
+    reader.press("Stop")
+    reader.says("Go on", ".buttons")
+    reader.desk.line.delay = 0.0
+    count = len(reader.find("table.rows tr.accepted"))
+    expect(0 < count < good and reader.execute(LEAVES), f"{count} rows are sent, or the page does not ask")
+    reader.reload()
+    reader.press("Go on")
+    reader.says(f"{good + 1} of {good + 1} rows answered: {good} accepted, 1 refused", patience=60)
+    expect(not reader.execute(LEAVES), "the page asks when all is sent")
+    accepted = len(reader.find("table.rows tr.accepted"))
+    expect(accepted == good, f"{accepted} rows are shown as accepted, and {good} should be")
+    activation = second("2026-01-31T23:30:00")
+    reader.said += [(reader.user, None, f'register authentication ann {activation} - - row {place}, "quoted"')
+                    for place in range(good)]
+    back = folder / "not-registered-keys.csv"
+    reader.driver.execute_cdp_cmd("Browser.setDownloadBehavior", {"behavior": "allow", "downloadPath": str(folder)})
+    reader.seen("a.button").click()
+    reader.wait(lambda: back.exists() and back.stat().st_size, "nothing is given back")
+    time.sleep(0.3)
+    head, *given = csv.reader(back.read_text("utf-8").splitlines())
+    wanted = [row + [""] * (6 - len(row)) for row in csv.reader([*BAD, rows[0]])]
+    expect(",".join(head) == f"{HEAD},reason" and sorted(row[:6] for row in given) == sorted(wanted),
+           f"given back were {head}, {given}")
+    reasons = [re.split("[:,]", row[6])[0] for row in given]
+    expect(sorted(reasons) == sorted(REASONS), f"the reasons are {reasons}")
     put_away(reader)
-    for turn in ("at once", "after a reload", "with a newer list"):
-        if turn == "with a newer list":
-            reader.desk.make_list()
-        if turn != "at once":
-            reader.reload()
-        chosen(reader, folder, text)
-        judged(reader, 14, 0, 0, 0, 14, 0)
-        expect(not reader.find(".rows input:checked"), f"{turn}: a row that is a key is marked to be sent")
+    for begin in (lambda: None, reader.reload, reader.with_list):
+        begin()
+        chosen(reader, folder, *rows)
+        judged(reader, 0, 1, 6, good + 1, 0, 1)
+        expect(not reader.find(".rows input:checked"), "a row that is a key is marked to be sent")
         put_away(reader)
 
 
-def rows_shown(reader, which, holds):
+def rows_shown(reader: Reader, which: str, holds: Callable[[list[str]], bool]) -> None:
     """Shows the rows of one sort alone, whose numbers are as they should be."""
     reader.fill(reader.seen("main"), "Rows shown", which)
     reader.wait(lambda: holds([row.text for row in reader.find("table.rows tbody th")]), f"not the rows {which}")
 
 
-def all_reached(reader, folder):
+def all_reached(reader: Reader, folder: pathlib.Path) -> None:
     """Of 300 rows the 250th, which is refused, and the 260th, which is mistyped, come first; all others by more; and
-    each that is not registered is given back with its reason."""
+    those of one sort are sent, or not, together."""
     rows = [f"master,ann,,,,row {place}" for place in range(1, 301)]
     rows[249] = f"master,ann,{day(9)}Z,{day(5)}Z,,row 250"
     rows[259] = "Master,ann,,,,row 260"
-    chosen(reader, folder, HEAD + "\n".join(rows) + "\n")
-    judged(reader, 300, 298, 1, 1, 0, 0)
+    chosen(reader, folder, *rows)
+    judged(reader, 298, 1, 1, 0, 0, 0)
     first = [row.text for row in reader.find("table.rows tbody th")]
     expect(first[:2] == ["250", "260"] and len(first) == 200, f"the first rows are {first[:5]} of {len(first)}")
     reader.seen("button.more").click()
@@ -83,73 +119,34 @@ def all_reached(reader, folder):
     reader.press("Send these 1")
     rows_shown(reader, "good", lambda rows: len(rows) == 200)
     reader.press("Leave these out")
-    sent(reader, 1)
-    reasons = {row["purpose"]: row["reason"] for row in csv.DictReader(given_back(reader, folder).splitlines())}
-    expect(len(reasons) == 300, f"given back were {len(reasons)} rows")
-    for purpose, words in (("row 250", "DateOrder: The dates have to be in order"), ("row 260", "none of the seven"),
-                           ("row 1", "not sent")):
-        expect(words in reasons[purpose], f"the reason of {purpose} is {reasons[purpose]!r}")
+    reader.press("Send 1 row")
+    reader.says("1 of 1 rows answered", ".progress", 60)
     put_away(reader)
 
 
-LEAVES = """const event = new Event("beforeunload", {cancelable: true});
-dispatchEvent(event);
-return event.defaultPrevented;"""
 FILLS = """let text = "x".repeat(1 << 20);
 for (let place = 0; text.length; place++) {
   try { sessionStorage.setItem(`full.${place}`, text); } catch { text = text.slice(0, text.length / 2 | 0); }
 }"""
-EMPTIES = """for (const name of Object.keys(sessionStorage).filter((name) => name.startsWith("full."))) {
-  sessionStorage.removeItem(name);
-}"""
 
 
-def asks_before(reader, folder):
-    """A page is left without asking; with a table half sent it asks."""
-    expect(not reader.execute(LEAVES), "the page asks before anything is sent")
-    chosen(reader, folder, HEAD + "".join(f"master,ann,,,,half sent {place}\n" for place in range(120)))
-    judged(reader, 120, 120, 0, 0, 0, 0)
-    expect(not reader.execute(LEAVES), "the page asks before a row is sent")
-    reader.desk.line.delay = 0.2
-    reader.seen(".buttons button.send").click()
-    reader.wait(lambda: not reader.text(".progress .count").startswith("0 "), "no row is answered")
-    reader.press("Stop")
-    reader.says("Go on", ".buttons")
-    reader.desk.line.delay = 0.0
-    accepted = int(reader.text(".progress .count").split(" ")[0])
-    expect(0 < accepted < 120 and reader.execute(LEAVES), f"{accepted} of 120 rows are sent, and the page does not ask")
-    reader.press("Go on")
-    reader.says("120 of 120 rows answered", ".progress", 200)
-    reader.said += [(reader.user, None, f"register master ann - - - half sent {place}") for place in range(120)]
-    reader.wait(lambda: not reader.execute(LEAVES), "the page asks when all is sent")
-    put_away(reader)
-
-
-def full_store(reader, folder):
-    """A full store of the window is said, of a form and of a table, and nothing is sent."""
+def full_store(reader: Reader, folder: pathlib.Path) -> None:
+    """A full store of the window is said, and nothing is sent."""
     before = len(reader.desk.line.posts)
-    chosen(reader, folder, HEAD + "master,ann,,,,into a full store\n")
-    judged(reader, 1, 1, 0, 0, 0, 0)
+    chosen(reader, folder, "master,ann,,,,into a full store")
     reader.execute(FILLS)
     reader.forget()
     reader.seen(".buttons button.send").click()
     reader.says("store for this window is full", "#said")
-    reader.open("register")
-    reader.submit("register", [("Type", "master"), ("Owner", "ann"), ("Purpose", "into a full store")])
-    reader.says("store for this window is full", "#said")
     expect(len(reader.desk.line.posts) == before, "a request was sent without its number being kept")
-    reader.execute(EMPTIES)
-    reader.open("table")
-    put_away(reader)
+    reader.reload(forgets=True)
 
 
-def long_table(reader, folder, count):
-    """Rows a second at the beginning and at the end of a long table, and the letters that it takes in the store. Each
-    row is one request."""
+def long_table(reader: Reader, folder: pathlib.Path, count: int) -> str:
+    """Rows a second at the beginning and at the end of a long table. Each row is one request."""
     purposes = [f"disks of the long table {place} in hall {place % 97}" for place in range(count)]
-    rows = [f"data-encryption,ann,{day(-5)}Z,,,{purpose}" for purpose in purposes]
-    chosen(reader, folder, HEAD + "\n".join(rows) + "\n")
-    judged(reader, count, count, 0, 0, 0, 0)
+    chosen(reader, folder, *(f"data-encryption,ann,{day(-5)}Z,,,{purpose}" for purpose in purposes))
+    judged(reader, count, 0, 0, 0, 0, 0)
     line, rates = reader.desk.line, []
     before, keys_asked = len(line.posts), line.keys_asked
     reader.seen(".buttons button.send").click()
@@ -160,22 +157,20 @@ def long_table(reader, folder, count):
     reader.says(f"{count} of {count} rows answered: {count} accepted", ".progress", 60)
     exchanges = len(line.posts) - before + line.keys_asked - keys_asked
     expect(exchanges == count, f"{count} rows took {exchanges} exchanges")
-    letters = reader.execute("return Object.values(sessionStorage).reduce((sum, text) => sum + text.length, 0)")
-    expect(letters < 150 * count, f"the store has {letters} letters of a table of {count} rows")
     expect(rates[-1] >= rates[0] / 2, f"rows a second by quarters: {rates}")
     reader.said += [(reader.user, None, f"register data-encryption ann {second(day(-5))} - - {purpose}")
                     for purpose in purposes]
     put_away(reader)
-    return (f"{count} rows were sent at {rates[0]:.0f} a second at first and {rates[-1]:.0f} at the end; "
-            f"the store has {letters} letters")
+    plain, packed = reader.with_list().execute(
+        "const given = performance.getEntriesByType('resource').find((one) => one.name.endsWith('list.json'));"
+        "return [given.decodedBodySize, given.encodedBodySize];")
+    expect(plain <= 400 * count and packed <= 80 * count, f"a list of {count} keys: {plain} bytes, {packed} packed")
+    return f"{count} rows were sent at {rates[0]:.0f} a second at first and {rates[-1]:.0f} at the end"
 
 
-def all_taken(reader: Reader, other: Reader, folder: File, count: int) -> str:
-    """All of it, the long table by another browser; what is said of that."""
-    reader.downloads_to(folder)
-    both_of_spreadsheets(reader, folder)
-    taken_twice(reader, folder)
+def all_taken(reader: Reader, folder: pathlib.Path, count: int) -> str:
+    """All of it; what is said of the long table."""
+    taken_in(reader, folder)
     all_reached(reader, folder)
-    asks_before(reader, folder)
     full_store(reader, folder)
-    return long_table(other, folder, count)
+    return long_table(reader, folder, count)

@@ -7,33 +7,30 @@ own, which shows the line, the choices and nothing else.
 It needs Debian's tmux and the shells (`apt-get install tmux zsh fish`), and reads the files under packaging/.
 checks/package/installed.py asks the same of the files that a package put in a root, by the shells of that root.
 """
+import contextlib
 import os
 import pathlib
 import shlex
 import shutil
 import subprocess
 import sys
-import tempfile
 import time
-from typing import Callable, Iterable, Optional, Sequence
+from typing import Callable, Iterator, Sequence
 
 sys.path.insert(1, str(pathlib.Path(__file__).resolve().parents[1] / "shared"))
 from places import TOP
-from script import expect, fresh_folder, verdict
+from script import fresh_folder, options, verdict
 
 PACKAGING = TOP / "packaging"
-PROMPT, WIDTH, HEIGHT, PATIENCE = "now> ", 120, 40, 8
-COMMANDS = ("init", "run", "import", "export", "report", "serve")
+PROMPT, PATIENCE = "now> ", 8
 # What is typed, each before one Tab, and the line that is to stand there.
 COMPLETED = (
     ("keyreg im", "keyreg import "),
     ("keyreg rep", "keyreg report "),
     ("keyreg run --fi", "keyreg run --file"),
-    ("keyreg import --mom", "keyreg import --moment"),
     ("keyreg import --file x --fir", "keyreg import --file x --first"),
     ("keyreg serve --file x --po", "keyreg serve --file x --port"),
     ("keyreg report --da", "keyreg report --days"),
-    ("keyreg export --he", "keyreg export --help"),
     ("keyreg run --file off", "keyreg run --file office.keyreg"),
     ("keyreg run --file=off", "keyreg run --file=office.keyreg"),
     ("keyreg report --days 3 --file=off", "keyreg report --days 3 --file=office.keyreg"),
@@ -42,66 +39,60 @@ COMPLETED = (
     ("keyreg run --file=two", "keyreg run --file=two\\ words.keyreg"),
     ("keyreg run --file=~/ho", "keyreg run --file=~/home.keyreg"),
 )
-# What is typed before the Tabs, and the choices that are to stand on the screen.
-CHOICES = (("keyreg ", COMMANDS), ("keyreg import --", ("--file", "--moment", "--caller", "--first", "--help")),
-           ("keyreg serve --", ("--file", "--port", "--exchanges", "--help")))
-# How a shell begins without anybody's files, and what it is told first.
-BEGUN = {
-    "bash": (["bash", "--noprofile", "--norc", "-i"],
-             "PS1='{prompt}'; bind 'set page-completions off'; source {bash}; clear"),
-    "zsh": (["zsh", "-f", "-i"],
-            "PS1='{prompt}'; fpath=({zsh} $fpath); autoload -Uz compinit; compinit -u -D; clear"),
-    "fish": (["fish", "--private", "-i"],
-             "function fish_prompt; echo -n '{prompt}'; end; function fish_right_prompt; end; source {fish}; clear"),
+# What is typed before two Tabs, and the choices that are to stand on the screen.
+CHOICES = (("keyreg ", "init run import export report serve"),
+           ("keyreg import --", "--file --moment --caller --first --help"),
+           ("keyreg serve --", "--file --port --exchanges --help"))
+# How a shell begins without anybody's files, what it is told first, and how it is told of the files of completion,
+# where they do not lie in the places of a package.
+SHELLS = {
+    "bash": ("bash --noprofile --norc -i", f"PS1='{PROMPT}'; bind 'set page-completions off'; {{}}; clear",
+             ". {}/keyreg.bash"),
+    "zsh": ("zsh -f -i", f"PS1='{PROMPT}'; {{}}; autoload -Uz compinit; compinit -u -D; clear", "fpath=({} $fpath)"),
+    "fish": ("fish --private -i", f"function fish_prompt; echo -n '{PROMPT}'; end; function fish_right_prompt; end; "
+             "{}; clear", "source {}/keyreg.fish"),
 }
 
 
 class Terminal:
-    """A program that was begun in a terminal of its own, by tmux. It ends with the `with`."""
+    """A shell in a terminal of tmux."""
 
-    def __init__(self, words: Sequence[str], folder: pathlib.Path) -> None:
-        self.held = tempfile.TemporaryDirectory()
-        self.socket = str(pathlib.Path(self.held.name) / "tmux")
+    def __init__(self, folder: pathlib.Path) -> None:
         others = {name: value for name, value in os.environ.items() if name not in ("TMUX", "TMUX_PANE")}
-        self.environment = {**others, "LC_ALL": "C.UTF-8", "TERM": "screen"}
-        begun = shlex.join(map(str, words))
-        self.tmux("-f", "/dev/null", "new-session", "-d", "-x", WIDTH, "-y", HEIGHT, "-c", folder, begun)
-
-    def __enter__(self) -> "Terminal":
-        return self
-
-    def __exit__(self, *_: object) -> None:
-        self.tmux("kill-server")
-        self.held.cleanup()
+        self.socket, self.environment = folder / "tmux", {**others, "LC_ALL": "C.UTF-8", "TERM": "screen"}
 
     def tmux(self, *words: object) -> str:
-        words = ["tmux", "-S", self.socket, *map(str, words)]
-        return subprocess.run(words, env=self.environment, capture_output=True, text=True, check=False).stdout
-
-    def keys(self, *names: str) -> None:
-        """Keys by tmux's names, as Tab and C-u; `text` is typed as it is."""
-        self.tmux("send-keys", *names)
-
-    def text(self, typed: str) -> None:
-        self.tmux("send-keys", "-l", typed)
-
-    def screen(self) -> list[str]:
-        """The lines that stand on the screen, without those below the last one."""
-        return self.tmux("capture-pane", "-p").rstrip("\n").split("\n")
+        return subprocess.run(["tmux", "-S", self.socket, *map(str, words)], env=self.environment, capture_output=True,
+                              text=True, check=False).stdout
 
     def until(self, holds: Callable[[list[str]], bool]) -> list[str]:
-        """The screen as soon as `holds` of it, or as it stands when patience ends."""
+        """The lines on the screen, without those below the last one, as soon as they are so, or when patience ends."""
         late = time.monotonic() + PATIENCE
-        while not holds(lines := self.screen()) and time.monotonic() < late:
+        while not holds(lines := self.tmux("capture-pane", "-p").rstrip("\n").split("\n")) and time.monotonic() < late:
             time.sleep(0.05)
         return lines
 
+    def typed(self, text: str, *keys: str) -> None:
+        self.tmux("send-keys", "-l", text)
+        for key in keys:
+            self.tmux("send-keys", key)
 
-def places(folder: pathlib.Path) -> dict[str, pathlib.Path]:
-    """Where the files of completion are, as a package would have them."""
-    (folder / "zsh").mkdir()
-    shutil.copy(PACKAGING / "keyreg.zsh", folder / "zsh" / "_keyreg")
-    return {"bash": PACKAGING / "keyreg.bash", "zsh": folder / "zsh", "fish": PACKAGING / "keyreg.fish"}
+    def clear(self) -> None:
+        self.typed("", "C-u", "C-l")
+        self.until(lambda lines: lines == [PROMPT.rstrip()])
+
+
+@contextlib.contextmanager
+def begun(words: Sequence[str], first: str, folder: pathlib.Path) -> Iterator[Terminal]:
+    """A shell that waits at its prompt, after it was told something first."""
+    with fresh_folder() as held:
+        terminal = Terminal(held)
+        terminal.tmux("-f", "/dev/null", "new-session", "-d", "-x", 120, "-y", 40, "-c", folder, shlex.join(words))
+        terminal.until(lambda lines: any(line.strip() for line in lines))
+        terminal.typed(first, "Enter")
+        terminal.until(lambda lines: lines == [PROMPT.rstrip()])
+        yield terminal
+        terminal.tmux("kill-server")
 
 
 def furnish(folder: pathlib.Path) -> None:
@@ -111,71 +102,48 @@ def furnish(folder: pathlib.Path) -> None:
         (folder / name).write_text("")
 
 
-def begun(shell: str, words: Sequence[str], first: str, folder: pathlib.Path) -> Terminal:
-    """A shell's terminal that waits at its prompt."""
-    terminal = Terminal([*words, *BEGUN[shell][0]], folder)
-    terminal.until(lambda lines: any(line.strip() for line in lines))
-    terminal.text(first + "\n")
-    terminal.until(lambda lines: lines == [PROMPT.rstrip()])
-    return terminal
-
-
-def line_of(lines: Iterable[str]) -> str:
+def line_of(lines: Sequence[str]) -> str:
     """The line that is typed at, without what a shell proposes behind it."""
-    typed = [line for line in lines if line.startswith(PROMPT)]
-    return typed[-1][len(PROMPT):].rstrip() if typed else ""
+    return next((line[len(PROMPT):].rstrip() for line in reversed(lines) if line.startswith(PROMPT)), "")
 
 
-def completed(terminal: Terminal, typed: str, wanted: str) -> Optional[str]:
-    """What a Tab made of the typed text, where it is not the wanted line or where more than the line is shown."""
-    terminal.text(typed)
-    terminal.until(lambda lines: line_of(lines).startswith(typed.rstrip()))
-    terminal.keys("Tab")
-    # zsh writes the `=` that an option takes.
-    right = {wanted.rstrip(), wanted.rstrip() + "="} if wanted.split()[-1].startswith("--") else {wanted.rstrip()}
-    lines = terminal.until(lambda lines: line_of(lines) in right and len(lines) == 1)
-    cleared(terminal)
-    return None if line_of(lines) in right and len(lines) == 1 else f"`{typed}` and Tab: {lines}, not {wanted!r}"
+def missing_in(lines: Sequence[str], choices: str) -> set[str]:
+    """The choices that do not stand on the screen."""
+    shown = " ".join(line for line in lines if not line.startswith(PROMPT))
+    return set(choices.split()) - set(shown.replace(",", " ").split())
 
 
-def offered(terminal: Terminal, typed: str, wanted: Iterable[str]) -> Optional[str]:
-    """Which choices two Tabs do not show."""
-    def missing(lines: Iterable[str]) -> list[str]:
-        shown = {word for line in lines if not line.startswith(PROMPT) for word in line.replace(",", " ").split()}
-        return [word for word in wanted if word not in shown]
-
-    terminal.text(typed)
-    terminal.keys("Tab")
-    terminal.keys("Tab")
-    lines = terminal.until(lambda lines: not missing(lines))
-    cleared(terminal)
-    return f"`{typed}` and two Tabs do not show {missing(lines)}: {lines}" if missing(lines) else None
-
-
-def cleared(terminal: Terminal) -> None:
-    terminal.keys("C-u")
-    terminal.keys("C-l")
-    terminal.until(lambda lines: lines == [PROMPT.rstrip()])
-
-
-def faults_of(shell: str, words: Sequence[str], first: str, folder: pathlib.Path) -> list[str]:
-    """What a shell, begun by these words in the folder, to which this is typed first, does not complete."""
-    with begun(shell, words, first.replace("{prompt}", PROMPT), folder) as terminal:
-        faults = [completed(terminal, typed, wanted) for typed, wanted in COMPLETED]
-        faults += [offered(terminal, typed, wanted) for typed, wanted in CHOICES]
-    return [f"{shell}: {fault}" for fault in faults if fault]
+def faults_of(shell: str, words: Sequence[str], folder: pathlib.Path, files: str) -> Iterator[str]:
+    """What a shell, begun behind these words in the folder, and told of the files by others, does not complete."""
+    begin, first, _ = SHELLS[shell]
+    with begun([*words, *begin.split()], first.format(files), folder) as terminal:
+        for text, wanted in COMPLETED:
+            terminal.typed(text)
+            terminal.until(lambda lines, text=text: line_of(lines).startswith(text))
+            terminal.typed("", "Tab")
+            # zsh writes the `=` that an option takes.
+            right = {wanted.rstrip(), wanted.rstrip() + "=" * wanted.split()[-1].startswith("--")}
+            lines = terminal.until(lambda lines, right=right: line_of(lines) in right and len(lines) == 1)
+            if line_of(lines) not in right or len(lines) != 1:
+                yield f"{shell}: `{text}` and Tab: {lines}, not {wanted!r}"
+            terminal.clear()
+        for text, choices in CHOICES:
+            terminal.typed(text, "Tab", "Tab")
+            lines = terminal.until(lambda lines, choices=choices: not missing_in(lines, choices))
+            if missing := missing_in(lines, choices):
+                yield f"{shell}: `{text}` and two Tabs do not show {missing}: {lines}"
+            terminal.clear()
 
 
 def main() -> None:
-    shells, faults = sys.argv[1:] or list(BEGUN), list[str]()
-    missing = [name for name in ("tmux", *shells) if not shutil.which(name)]
-    expect(not missing and set(shells) <= set(BEGUN), f"not here: {missing}; the shells are {', '.join(BEGUN)}")
+    shells, faults = options(__doc__, list(SHELLS)).parts, list[str]()
     with fresh_folder() as folder:
-        files = places(folder)
+        shutil.copytree(PACKAGING, folder / "files")
+        (folder / "files/keyreg.zsh").rename(folder / "files/_keyreg")
         furnish(folder)
         clean = ["env", "-i", f"HOME={folder}/home", "PATH=/usr/bin:/bin", "TERM=screen", "LC_ALL=C.UTF-8"]
         for shell in shells:
-            faults += faults_of(shell, clean, BEGUN[shell][1].format(prompt=PROMPT, **files), folder)
+            faults += faults_of(shell, clean, folder, SHELLS[shell][2].format(folder / "files"))
     verdict(f"{', '.join(shells)}: {len(COMPLETED) + len(CHOICES)} completions each, {len(faults)} faults", faults)
 
 

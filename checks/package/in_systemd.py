@@ -20,11 +20,10 @@ from typing import Sequence
 
 sys.path.insert(1, str(pathlib.Path(__file__).resolve().parents[1] / "shared"))
 from places import TOP
-from roots import MIRROR, blocks_of, made_package, make_base
-from script import expect, fresh_folder, options, output_of, verdict
+from roots import MIRROR, blocks_of, call, made_package, make_base
+from script import fresh_folder, options, output_of, verdict
 
 MORE = ("systemd", "systemd-sysv", "dbus", "python3", "sqlite3", "curl", "nginx-light")
-PARTS = ("units", "accidents")
 PAGE = "usr/share/doc/keyreg/docs/OPERATING.md"
 UNIT = """[Unit]
 Description=What is tried
@@ -42,11 +41,11 @@ def furnish(root: pathlib.Path, parts: Sequence[str]) -> None:
     shutil.copy(made_package(), root / "keyreg.deb")
     output_of(["chroot", root, "dpkg", "--install", "/keyreg.deb"])
     shutil.copy(TOP / "checks" / "package" / "in_systemd.sh", root / "tried.sh")
+    (root / "tried.log").touch()
     for heading, blocks in blocks_of(root / PAGE).items():
+        (root / "blocks" / heading).mkdir(parents=True)
         for place, lines in enumerate(blocks, 1):
-            target = root / "blocks" / heading / f"{place}.sh"
-            target.parent.mkdir(parents=True, exist_ok=True)
-            target.write_text("\n".join([*lines, ""]))
+            (root / "blocks" / heading / f"{place}.sh").write_text("\n".join([*lines, ""]))
     units = root / "etc/systemd/system"
     (units / "tried.service").write_text(UNIT.replace("@PARTS@", " ".join(parts)))
     (units / "multi-user.target.wants").mkdir(parents=True, exist_ok=True)
@@ -54,25 +53,21 @@ def furnish(root: pathlib.Path, parts: Sequence[str]) -> None:
 
 
 def main() -> None:
-    given = options(__doc__, PARTS, base="", mirror=MIRROR)
-    expect(shutil.which("debootstrap") and shutil.which("systemd-nspawn"),
-           "not here: apt-get install debootstrap systemd-container")
+    given = options(__doc__, ("units", "accidents"), base="", mirror=MIRROR)
     with fresh_folder() as folder:
         root = folder / "root"
         make_base(root, given.base, given.mirror, MORE)
         furnish(root, given.parts)
-        booted = subprocess.run(
-            ["systemd-nspawn", f"--directory={root}", "--boot", "--private-network", "--register=no", "--keep-unit",
-             "--quiet"],
-            stdin=subprocess.DEVNULL, stdout=subprocess.PIPE, stderr=subprocess.STDOUT, timeout=SECONDS, check=False)
-        log = (root / "tried.log").read_text() if (root / "tried.log").exists() else ""
-    print(log, end="")
+        booted = call("timeout", SECONDS, "systemd-nspawn", f"--directory={root}", "--boot", "--private-network",
+                      "--register=no", "--keep-unit", "--quiet", stdin=subprocess.DEVNULL, errors="replace")
+        log = (root / "tried.log").read_text()
     lines = [line for line in log.splitlines() if line.startswith(("ok ", "FAILED "))]
-    # What failed stands in the log.
     faults = sum(line.startswith("FAILED ") for line in lines)
+    print(log, end="")
     if not log.endswith("end\n"):
-        print(f"systemd ended early: {booted.stdout.decode(errors='replace')[-1500:]}")
+        print(f"systemd ended early: {(booted.stdout + booted.stderr)[-1500:]}")
         faults += 1
+    # What failed stands in the log.
     verdict(f"{len(lines)} things tried in a systemd that booted: {faults} failed", faults)
 
 

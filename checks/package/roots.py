@@ -3,7 +3,7 @@ import pathlib
 import re
 import subprocess
 import sys
-from typing import Any, Optional, Sequence
+from typing import Any, Sequence
 
 from places import TOP
 from script import output_of
@@ -12,9 +12,8 @@ PACKAGES = TOP / "packages"
 MIRROR = "http://deb.debian.org/debian"
 
 
-def call(*words: Any, given: Optional[str] = None, **more: Any) -> subprocess.CompletedProcess:
-    words = tuple(map(str, words))
-    return subprocess.run(words, input=given, capture_output=True, text=True, check=False, **more)
+def call(*words: Any, **more: Any) -> subprocess.CompletedProcess:
+    return subprocess.run([*map(str, words)], capture_output=True, text=True, check=False, **more)
 
 
 def made_package() -> pathlib.Path:
@@ -25,9 +24,8 @@ def made_package() -> pathlib.Path:
 
 def make_base(root: pathlib.Path, base: str, mirror: str, more: Sequence[str]) -> None:
     """Debian's base with more packages in a root: a copy of a folder, or what debootstrap fetches."""
-    root.mkdir()
     if base:
-        output_of(["cp", "-a", f"{base}/.", root])
+        output_of(["cp", "-a", base, root])
     else:
         print("fetching Debian's base", file=sys.stderr)
         output_of(["debootstrap", "--variant=minbase", f"--include={','.join(more)}", "bookworm", root, mirror])
@@ -41,20 +39,17 @@ def anchor_of(heading: str) -> str:
 def blocks_of(page: pathlib.Path) -> dict[str, list[list[str]]]:
     """The blocks of commands of a page, fenced as `sh` or indented, by the names of their headings' links."""
     by_heading: dict[str, list[list[str]]] = {}
-    heading, block, fence, before = "", list[str](), None, ""
+    heading, block, fence, before = "", list[str](), "", ""
     for line in [*page.read_text("utf-8").split("\n"), ""]:
-        if line.startswith("```"):
-            if fence == "sh":
-                by_heading[heading].append(block)
-            fence, block = (line[3:], []) if fence is None else (None, [])
-        elif fence is not None:
+        is_indented = not fence and line.startswith("    ") and (block or not before)
+        if fence and not line.startswith("```"):
             block.append(line)
-        elif line.startswith("    ") and (block or not before):
+        elif is_indented:
             block.append(line[4:])
         else:
-            if block:
+            if block and fence in ("", "sh"):
                 by_heading[heading].append(block)
-            block = []
+            block, fence = [], line[3:] or "none" if line.startswith("```") and not fence else ""
             if line.startswith("#"):
                 heading = anchor_of(line)
                 by_heading[heading] = []

@@ -6,22 +6,17 @@ from typing import Any
 
 # Debian's package is of the system's Python; another one finds it here.
 sys.path.append("/usr/lib/python3/dist-packages")
-try:
-    from selenium import webdriver
-    from selenium.webdriver.chrome.service import Service
-except ImportError:
-    sys.exit("FAILED: selenium is not here: apt-get install chromium chromium-driver python3-selenium nginx-light")
+from selenium import webdriver
+from selenium.webdriver.chrome.service import Service
 
 
-def chromium(*words: str, is_logged: bool = True) -> webdriver.Chrome:
-    """A browser that is begun with these words besides. It writes down what the console says and what is asked for: of
-    an exchange that takes longer than the exchange."""
+def chromium(*words: str) -> webdriver.Chrome:
+    """A browser that is begun with these words besides. It writes down what the console says and what is asked for."""
     options = webdriver.ChromeOptions()
     for word in ("--headless=new", "--no-sandbox", "--disable-dev-shm-usage", "--disable-gpu", "--lang=en-US",
                  "--window-size=1000,1400", *words):
         options.add_argument(word)
-    if is_logged:
-        options.set_capability("goog:loggingPrefs", {"browser": "ALL", "performance": "ALL"})
+    options.set_capability("goog:loggingPrefs", {"browser": "ALL", "performance": "ALL"})
     return webdriver.Chrome(service=Service("/usr/bin/chromedriver"), options=options)
 
 

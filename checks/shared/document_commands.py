@@ -8,7 +8,6 @@ clock, within the time of the run, stands in a document as 1795541234. Spaces at
 """
 import difflib
 import os
-import pathlib
 import re
 import shutil
 import subprocess
@@ -38,21 +37,6 @@ def fences_of(text: str) -> list[Fence]:
             for fence in re.finditer(r"(?ms)^```([^\n]*)\n(.*?)^```[^\n]*$", text)]
 
 
-def blocks(text: str) -> list[tuple[int, str, str]]:
-    """The commands and the outputs of a document, each with the number of its first line."""
-    fences = fences_of(text)
-    return [(fence.number, fence.text, "" if output.language else output.text)
-            for fence, output in zip(fences, [*fences[1:], Fence(0, "none", "")]) if fence.language == "sh"]
-
-
-def furnish(folder: pathlib.Path) -> None:
-    for name in ("office", "samples"):
-        shutil.copytree(TOP / name, folder / name)
-    (folder / "checks" / "sqlite").mkdir(parents=True)
-    shutil.copy(VERSION_1, folder / "checks" / "sqlite")
-    (folder / "keyreg").symlink_to(os.path.abspath(PROGRAM))
-
-
 def printed(commands: str, folder: str, shell: Sequence[str] = ("bash", "-c")) -> str:
     """What the commands print on both outputs, moments of the clock as documents have them."""
     begun, port = int(time.time()), str(free_port())
@@ -68,10 +52,6 @@ def printed(commands: str, folder: str, shell: Sequence[str] = ("bash", "-c")) -
                   text.replace(port, PORT))
 
 
-def plain(text: str) -> list[str]:
-    return [line.rstrip() for line in text.rstrip("\n").split("\n")]
-
-
 def first_look() -> Faults:
     """What is wrong with README's first commands, which alone are `bash`: in a copy of the sources, where nothing was
     proved, they print the first output that stands there, within so many seconds, which are given too."""
@@ -84,10 +64,9 @@ def first_look() -> Faults:
         done = subprocess.run(["bash", "-c", commands.text], cwd=folder / "copy", capture_output=True,
                               stdin=subprocess.DEVNULL, text=True, check=False)
         seconds = round(time.monotonic() - begun)
-    if done.returncode == 0 and done.stdout.startswith(wanted) and seconds <= LOOK_SECONDS:
-        return [], seconds
-    fault = f"after {seconds} seconds status {done.returncode}: {done.stdout[-300:]}"
-    return [f"README.md:{commands.number}: {fault}"], seconds
+    is_well = done.returncode == 0 and done.stdout.startswith(wanted) and seconds <= LOOK_SECONDS
+    fault = f"README.md:{commands.number}: after {seconds} seconds status {done.returncode}: {done.stdout[-300:]}"
+    return [fault] * (not is_well), seconds
 
 
 def wrong_outputs(documents: Sequence[str]) -> Faults:
@@ -95,17 +74,24 @@ def wrong_outputs(documents: Sequence[str]) -> Faults:
     if not os.access(PROGRAM, os.X_OK):
         return [f"{documents[0]}: no program at {PROGRAM}: ./keyreg </dev/null builds it"], 0
     with fresh_folder() as folder:
-        furnish(folder)
+        for name in ("office", "samples"):
+            shutil.copytree(TOP / name, folder / name)
+        (folder / "checks/sqlite").mkdir(parents=True)
+        shutil.copy(VERSION_1, folder / "checks/sqlite")
+        (folder / "keyreg").symlink_to(os.path.abspath(PROGRAM))
         return compared({document: read(document) for document in documents}, str(folder))
 
 
 def compared(texts: dict[str, str], folder: str, shell: Sequence[str] = ("bash", "-c")) -> Faults:
     """The same of texts by their names, run by a shell in a folder that has what they use."""
-    faults = []
-    all_blocks = [(document, *block) for document, text in texts.items() for block in blocks(text)]
-    for document, number, commands, output in all_blocks:
-        lines = difflib.unified_diff(plain(output), plain(printed(commands, folder, shell)), lineterm="", n=0)
-        differences = [line for line in lines if not line.startswith(("---", "+++", "@@"))]
-        if differences:
-            faults.append(f"{document}:{number}: another output: " + " / ".join(differences[:4]))
-    return faults, len(all_blocks)
+    faults, count = [], 0
+    for document, text in texts.items():
+        fences = fences_of(text)
+        for fence, output in zip(fences, [*fences[1:], Fence(0, "none", "")]):
+            if fence.language == "sh":
+                outputs = ("" if output.language else output.text, printed(fence.text, folder, shell))
+                wanted, told = ([line.rstrip() for line in text.rstrip("\n").split("\n")] for text in outputs)
+                differences = list(difflib.unified_diff(wanted, told, lineterm="", n=0))[3:7]
+                faults += [f"{document}:{fence.number}: another output: {' / '.join(differences)}"] * bool(differences)
+                count += 1
+    return faults, count

@@ -22,57 +22,47 @@ fastcgi_temp_path {folder}/f; uwsgi_temp_path {folder}/u; scgi_temp_path {folder
 """
 
 
-def program() -> str:
-    """Debian's nginx, which stands where not everybody's PATH leads."""
-    path = shutil.which("nginx") or shutil.which("nginx", path="/usr/sbin")
-    expect(path, "nginx is not installed: apt-get install nginx-light")
-    return path
-
-
-def certified(folder: str) -> None:
-    """A certificate for the host and its key, in the folder."""
-    words = ["openssl", "req", "-x509", "-newkey", "rsa:2048", "-nodes", "-days", "2", "-subj", f"/CN={HOST}",
-             "-addext", f"subjectAltName=DNS:{HOST}", "-keyout", f"{folder}/key.pem", "-out",
-             f"{folder}/certificate.pem"]
-    output_of(words)
-
-
-def by_tls(text: str, folder: str) -> str:
-    """The file after the edit that its head names."""
-    edit = re.search(r"(?m)^# +(sed -i .*) /etc/nginx/conf\.d/keyreg\.conf$", text)
+def by_tls(text: str, folder: pathlib.Path) -> str:
+    """The file after the edit that its head names, with a certificate for the host and its key in the folder."""
+    output_of(["openssl", "req", "-x509", "-newkey", "rsa:2048", "-nodes", "-days", "2", "-subj", f"/CN={HOST}",
+               "-addext", f"subjectAltName=DNS:{HOST}", "-keyout", folder / "key.pem", "-out",
+               folder / "certificate.pem"])
+    edit = re.search(r"(?m)^# +(sed) -i (.*) /etc/nginx/conf\.d/keyreg\.conf$", text)
     expect(edit, f"{CONF.name} names no edit for TLS")
-    place = pathlib.Path(folder, "edited.conf")
-    place.write_text(text, encoding="ascii")
-    subprocess.run(["sh", "-c", f'{edit[1]} "$0"', place], check=True)
-    return place.read_text(encoding="ascii")
+    return output_of(["sh", "-c", " ".join(edit.groups())], input=text)
 
 
 class Guard:
     """nginx with the example's file, on ports of its own. The desk's list is handed out of the folder's `list`."""
 
     def __init__(self, register_port: int, words: Optional[Mapping[str, str]] = None, tls: bool = False) -> None:
-        self.port, self.folder, self.tls = free_port(), tempfile.TemporaryDirectory(), tls
-        folder = self.folder.name
+        self.port, self.held, self.tls = free_port(), tempfile.TemporaryDirectory(), tls
+        self.folder = folder = pathlib.Path(self.held.name)
         # nginx reads the list and the desk as another user.
-        os.chmod(folder, 0o755)
+        folder.chmod(0o755)
         self.list_folder = os.path.join(folder, "list")
         os.mkdir(self.list_folder)
-        text, listens_at = CONF.read_text(encoding="ascii"), [("127.0.0.1:8421", f"127.0.0.1:{self.port}")]
+        text, changes = CONF.read_text(encoding="ascii"), {
+            "8420": str(register_port), "/etc/nginx/keyreg.users": f"{folder}/users",
+            "/usr/local/share/keyreg/desk": str(DESK), "/var/lib/keyreg-list": self.list_folder}
         if tls:
-            certified(folder)
             text = by_tls(text, folder)
-            listens_at = [("listen 443", f"listen 127.0.0.1:{self.port}"),
-                          ("/etc/ssl/certs/keyreg.pem", f"{folder}/certificate.pem"),
-                          ("/etc/ssl/private/keyreg.pem", f"{folder}/key.pem")]
-        for old, new in (*listens_at, ("8420", str(register_port)), ("/etc/nginx/keyreg.users", f"{folder}/users"),
-                         ("/usr/local/share/keyreg/desk", str(DESK)), ("/var/lib/keyreg-list", self.list_folder)):
+            changes |= {"listen 443": f"listen 127.0.0.1:{self.port}",
+                        "/etc/ssl/certs/keyreg.pem": f"{folder}/certificate.pem",
+                        "/etc/ssl/private/keyreg.pem": f"{folder}/key.pem"}
+        else:
+            changes["127.0.0.1:8421"] = f"127.0.0.1:{self.port}"
+        for old, new in changes.items():
             expect(old in text, f"no {old} in {CONF.name}")
             text = text.replace(old, new)
         users = "".join(f"{name}:{{PLAIN}}{word}\n" for name, word in (words or USERS).items())
         main = MAIN.format(folder=folder, user="user root;" if os.geteuid() == 0 else "")
         for name, given in (("keyreg.conf", text), ("users", users), ("nginx.conf", main)):
-            pathlib.Path(folder, name).write_text(given, encoding="ascii")
-        self.process = subprocess.Popen([program(), "-p", folder, "-c", f"{folder}/nginx.conf"], stderr=subprocess.PIPE)
+            (folder / name).write_text(given, encoding="ascii")
+        # It stands where not everybody's PATH leads.
+        program = shutil.which("nginx", path=f"{os.environ['PATH']}:/usr/sbin")
+        expect(program, "nginx is not installed: apt-get install nginx-light")
+        self.process = subprocess.Popen([program, "-p", folder, "-c", folder / "nginx.conf"], stderr=subprocess.PIPE)
         if not begins_to_listen(self.process, self.port):
             self.process.terminate()
             expect(False, f"nginx does not listen: {self.process.stderr.read()}")
@@ -82,7 +72,7 @@ class Guard:
         connection = socket.create_connection(("127.0.0.1", self.port), timeout=PATIENCE)
         if not self.tls:
             return connection
-        context = ssl.create_default_context(cafile=f"{self.folder.name}/certificate.pem")
+        context = ssl.create_default_context(cafile=self.folder / "certificate.pem")
         context.check_hostname = name == HOST
         return context.wrap_socket(connection, server_hostname=name)
 
@@ -93,4 +83,4 @@ class Guard:
         self.process.terminate()
         self.process.wait()
         self.process.stderr.close()
-        self.folder.cleanup()
+        self.held.cleanup()

@@ -1,12 +1,13 @@
 """What the checks over files share: runs of the program, and the tables of docs/SPECIFICATION.md."""
 import contextlib
 import os
+import re
 import shutil
 import sqlite3
 import subprocess
 from typing import Any, Iterable, Iterator, Optional, Sequence, Union
 
-from places import PROGRAM
+from places import PROGRAM, VERSION_1
 import register_rules
 from script import expect
 from worked_rows import worked_rows
@@ -32,32 +33,13 @@ EXPORT_COLUMNS = {
 EXPORT_DATES = ("activation", "protect_stop", "deactivation", "initial", "destroyed", "compromised", "occurrence")
 IMPORT_COLUMNS = ("type", "owner", "activation", "protect_stop", "deactivation", "purpose")
 
-# The tables that version 1 had, and those that version 2 added.
-FIRST_TABLES = """
-CREATE TABLE meta (id INTEGER PRIMARY KEY, version INTEGER NOT NULL, latest INTEGER NOT NULL,
-    key_count INTEGER NOT NULL) STRICT;
-CREATE TABLE keys (number INTEGER PRIMARY KEY, kind INTEGER NOT NULL, owner TEXT NOT NULL, purpose TEXT NOT NULL,
-    state INTEGER NOT NULL, initial INTEGER NOT NULL, activation INTEGER NOT NULL, protect_stop INTEGER NOT NULL,
-    deactivation INTEGER NOT NULL, destroyed INTEGER NOT NULL, compromised INTEGER NOT NULL,
-    occurrence INTEGER NOT NULL) STRICT;
-CREATE TABLE custodian (key_no INTEGER NOT NULL REFERENCES keys(number), name TEXT NOT NULL,
-    PRIMARY KEY (key_no, name)) STRICT;
-CREATE TABLE approval (key_no INTEGER NOT NULL, name TEXT NOT NULL, PRIMARY KEY (key_no, name),
-    FOREIGN KEY (key_no, name) REFERENCES custodian(key_no, name) ON DELETE CASCADE) STRICT;
-CREATE TABLE request (caller TEXT NOT NULL, number INTEGER NOT NULL, command TEXT NOT NULL,
-    key_no INTEGER NOT NULL, state INTEGER NOT NULL, moment INTEGER NOT NULL,
-    PRIMARY KEY (caller, number)) STRICT;
-"""
+# What makes the tables that version 1 had, and the indexes of keys beside their primary key, which a new register has
+# and an older one has not; and the tables that version 2 added.
+MADE = re.findall(r"CREATE .*\n", VERSION_1.read_text(encoding="utf-8"))
+FIRST_TABLES, INDEXES = ("".join(text for text in MADE if f"CREATE {kind}" in text) for kind in ("TABLE", "INDEX"))
 TABLES = FIRST_TABLES + """
 CREATE TABLE period (kind INTEGER PRIMARY KEY, originator INTEGER NOT NULL, recipient INTEGER NOT NULL) STRICT;
 CREATE TABLE quorum (key_no INTEGER PRIMARY KEY REFERENCES keys(number), need INTEGER NOT NULL) STRICT;
-"""
-
-# The indexes of keys beside their primary key, which a new register has and an older one has not.
-INDEXES = """
-CREATE INDEX keys_by_activation ON keys (state, activation);
-CREATE INDEX keys_by_deactivation ON keys (state, deactivation);
-CREATE INDEX keys_by_protect_stop ON keys (state, protect_stop, number);
 """
 
 # A worked row: each line with its reply.

@@ -35,14 +35,9 @@ def field(text: str) -> str:
 def export_text(register: Register) -> str:
     lines = [",".join(EXPORT_COLUMNS)]
     for number, key in register.keys.items():
-        cells = {
-            "number": str(number), "type": key.kind, "owner": key.owner, "activation": moment_text(key.activation),
-            "protect_stop": moment_text(key.stop), "deactivation": moment_text(key.end),
-            "state": STATES[key.state(register.latest)], "initial": moment_text(key.initial),
-            "destroyed": moment_text(key.destroyed), "compromised": moment_text(key.compromised),
-            "occurrence": moment_text(key.occurrence), "purpose": key.purpose,
-        }
-        lines.append(",".join(field(cells[column]) for column in EXPORT_COLUMNS))
+        dates = map(moment_text, (key.initial, key.destroyed, key.compromised, key.occurrence))
+        lines.append(",".join([str(number), key.kind, key.owner, *map(moment_text, (key.activation, key.stop, key.end)),
+                               STATES[key.state(register.latest)], *dates, field(key.purpose)]))
     return "".join(f"{line}\n" for line in lines)
 
 
@@ -62,7 +57,5 @@ def report_text(register: Register, days: int) -> str:
 
 def import_table(rows: list[tuple]) -> str:
     """The table of an import: of each row its type, owner, the three dates and the purpose."""
-    lines = [",".join(IMPORT_COLUMNS)]
-    for kind, owner, *dates, purpose in rows:
-        lines.append(",".join(map(field, (kind, owner, *map(moment_text, dates), purpose))))
-    return "".join(f"{line}\n" for line in lines)
+    lines = [",".join([kind, owner, *map(moment_text, dates), field(purpose)]) for kind, owner, *dates, purpose in rows]
+    return "".join(f"{line}\n" for line in [",".join(IMPORT_COLUMNS), *lines])

@@ -2,6 +2,8 @@
 
 It needs Linux: that the port listens is read from /proc, since a connection made to try it would be served.
 """
+import contextlib
+import itertools
 import os
 import random
 import resource
@@ -27,13 +29,10 @@ PORTS, SHARES = range(10_000, 32_000), 8
 
 def free_port() -> int:
     ports = PORTS[os.getpid() % SHARES::SHARES]
-    for place in range(random.randrange(len(ports)), 2 * len(ports)):
-        with socket.socket() as chosen:
-            try:
-                chosen.bind(("127.0.0.1", ports[place % len(ports)]))
-                return chosen.getsockname()[1]
-            except OSError:
-                pass
+    for port in random.sample(ports, len(ports)):
+        with socket.socket() as chosen, contextlib.suppress(OSError):
+            chosen.bind(("127.0.0.1", port))
+            return port
     return expect(False, "no port is free")
 
 
@@ -41,12 +40,8 @@ def listens(port: int) -> bool:
     """Whether a socket on 127.0.0.1 listens at the port. Those that listen stand before all others."""
     with open("/proc/net/tcp", encoding="ascii") as sockets:
         next(sockets)
-        for row in map(str.split, sockets):
-            if row[3] != LISTEN:
-                return False
-            if row[1] == f"0100007F:{port:04X}":
-                return True
-    return False
+        rows = itertools.takewhile(lambda row: row[3] == LISTEN, map(str.split, sockets))
+        return any(row[1] == f"0100007F:{port:04X}" for row in rows)
 
 
 def begins_to_listen(process: subprocess.Popen, port: int) -> bool:
@@ -61,11 +56,9 @@ def received(connection: socket.socket) -> bytes:
     """All that comes up to the end. A reset ends it too: the program closes a connection whose last bytes it did not
     read."""
     pieces = []
-    try:
+    with contextlib.suppress(ConnectionResetError):
         while piece := connection.recv(65536):
             pieces.append(piece)
-    except ConnectionResetError:
-        pass
     return b"".join(pieces)
 
 
@@ -95,21 +88,19 @@ class Served:
             why = f": status {self.process.returncode}, {self.process.stderr.read()}" if self.has_ended() else ""
             expect(False, f"serve does not listen at port {self.port}{why}")
 
-    def connected(self, patience: float = PATIENCE) -> socket.socket:
-        return socket.create_connection(("127.0.0.1", self.port), timeout=patience)
+    def connected(self) -> socket.socket:
+        return socket.create_connection(("127.0.0.1", self.port), timeout=PATIENCE)
 
     def raw(self, request: bytes, ends: bool = True, pieces: Optional[int] = None) -> bytes:
         """The reply to these bytes, sent at once or in pieces of so many; then the input ends, where it does."""
+        step = pieces or max(len(request), 1)
         with self.connected() as connection:
             connection.setsockopt(socket.IPPROTO_TCP, socket.TCP_NODELAY, 1)
-            step = pieces or max(len(request), 1)
-            try:
+            with contextlib.suppress(OSError):
                 for place in range(0, len(request), step):
                     connection.sendall(request[place:place + step])
                 if ends:
                     connection.shutdown(socket.SHUT_WR)
-            except OSError:
-                pass
             return received(connection)
 
     def has_ended(self) -> bool:
@@ -119,11 +110,10 @@ class Served:
         """Waits for the program's own end: what is another one than that with this status and these bytes on standard
         error, or None."""
         try:
-            output, written = self.process.communicate(timeout=PATIENCE)
+            end = (*self.process.communicate(timeout=PATIENCE), self.process.returncode)
         except subprocess.TimeoutExpired:
             return "serve did not end"
-        end, wanted = (self.process.returncode, output, written), (status, b"", error)
-        return None if end == wanted else f"serve ended with {end}, not {wanted}"
+        return None if end == (b"", error, status) else f"serve ended with {end}, not {(b'', error, status)}"
 
     def kill(self) -> None:
         self.process.kill()

@@ -58,7 +58,7 @@ KINDS = (
     Kind("Add a command", r"\b(Activate|Assign|AddCustodian|Approve)\b", {
         "they stand for their shapes": "*/Within/Fields.antt",
         "their refusals": "*/CustodyRefusal.antt crates/register_core/src/decision.rt",
-        "any command would do": "docs/COSTS.md checks/desk/keyboard.py",
+        "any command would do": "docs/COSTS.md",
     }),
     Kind("Add a shape of fields", r"\bTypeAndPeriod\b|type_and_period|\bDateEdits\b", {
         "the kinds that have it": "*/command_fields.rt",

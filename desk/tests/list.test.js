@@ -60,3 +60,18 @@ test("a key that a row registered is known until the list has it", () => {
   assert.equal(keyAt(2, NOW).owner, "bob");
   assert.deepEqual(registeredKeys(), []);
 });
+
+test("100,000 keys are taken and searched in little more than ten times what a tenth takes", () => {
+  const seconds = (count) => {
+    const keys = Array.from({length: count}, (_, place) => ({...KEY, owner: `team-${place % 200}`,
+      purpose: `disks ${place}, hall ${place % 97}`, custodians: ["bob", `officer-${place % 30}`], approvals: ["bob"],
+      ...(place % 2 && {activation: NOW, protect_stop: NOW + (place % 2000) * DAY, deactivation: NOW + 2400 * DAY})}));
+    const given = listOf(keys), begun = performance.now();
+    take(given);
+    const numbers = [{}, {text: "hall 9"}, {owner: "team-7"}, {days: 100}, {state: "Active"}, {waits: true}].map(found);
+    assert.ok(numbers.every((some) => some.length > 0) && waiting("officer-6", NOW).begun.length > 0);
+    return (performance.now() - begun) / 1000;
+  };
+  const [, few, all] = [10_000, 10_000, 100_000].map(seconds);
+  assert.ok(all < 40 * few + 1, `10,000 keys took ${few} s, 100,000 took ${all}`);
+});

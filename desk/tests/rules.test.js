@@ -1,7 +1,7 @@
 // What the desk decides of one key, by cases that were worked out by hand from docs/SPECIFICATION.md.
 import assert from "node:assert/strict";
 import {test} from "node:test";
-import {isOverdue, mayHaveMade, spansOf} from "../rules.js";
+import {isOverdue, judged, mayHaveMade, spansOf} from "../rules.js";
 import {momentOf, textFault} from "../words.js";
 import {cases} from "./shared.js";
 
@@ -52,3 +52,29 @@ test("what is wrong with a text is named: which letter, or how many", () => {
     assert.equal(textFault(member, text), "");
   }
 });
+
+const GOOD = {kind: "register", type: "master", owner: "bob", activation: null, protect_stop: null, deactivation: null,
+  purpose: "x"};
+const LAST = 253402300799;
+// Bodies that are no command, each for one member, and what is just within the ranges.
+const WRONG = [
+  ...Object.entries({type: ["master2", "toString"], owner: ["", "a b", "x".repeat(65), "ü", "bob\n"],
+    activation: [-1, LAST + 1, 1.5, "keep", "1"],
+    purpose: ["", " x", "x ", "ü".repeat(101), "a\tb", "a\x7f", "a\n"]})
+    .flatMap(([member, values]) => values.map((value) => ({...GOOD, [member]: value}))),
+  {kind: "set-quorum", key: 1, need: 1}, {kind: "set-quorum", key: 1, need: 6}, {kind: "activate", key: 0},
+  {kind: "activate", key: 4294967296}, {kind: "nothing"}, {kind: "revoke", key: 1, reason: 1, occurrence: 5},
+  {kind: "revoke", key: 1, reason: 8, occurrence: null},
+  {kind: "set-period", type: "master", originator: 0, recipient: 0},
+  {kind: "set-period", type: "master", originator: 1, recipient: 1201},
+];
+const RIGHT = [{owner: "x".repeat(64)}, {activation: LAST, protect_stop: LAST, deactivation: LAST},
+  {purpose: "ü".repeat(100)}, {purpose: "a\u2028b"}, {purpose: "\u00a0x"}, {purpose: "\u202ex"}]
+  .map((change) => ({...GOOD, ...change}));
+
+for (const [place, command] of [...WRONG, ...RIGHT].entries()) {
+  test(`a body ${place < WRONG.length ? "of another form" : "within the ranges"}: ${JSON.stringify(command)}`, () => {
+    const {refused} = judged(command, {caller: "ann", moment: 9, latest: 0, key: null, periods: {}, count: 0});
+    assert.equal(refused === 1, place < WRONG.length);
+  });
+}
