@@ -36,7 +36,7 @@ from datetime import datetime
 
 # What is read from beside this file leaves none there.
 sys.dont_write_bytecode = True
-from register_rules import GREATEST_NUMBER, MOMENT_TEXT, NAME, NO_PURPOSE, PERIODS, Refused, fitted, moment_of
+from register_rules import GREATEST_NUMBER, LAST, MOMENT_TEXT, NAME, NO_PURPOSE, PERIODS, Refused, fitted, moment_of
 from replay import Unreadable, opened
 
 COLUMNS = "type owner activation protect_stop deactivation purpose".split()
@@ -133,6 +133,13 @@ def rows_of(path, columns):
     return [dict(zip(header, record)) if len(record) == len(header) else None for record in records[1:]]
 
 
+def is_moment(text):
+    """Whether the text has the form of a moment, and there is such a day and second, within the range of moments."""
+    with contextlib.suppress(ValueError):
+        return bool(MOMENT_TEXT.fullmatch(text)) and 0 <= moment_of(text) <= LAST
+    return False
+
+
 def refusals(row):
     """Why the register would refuse the row for its form."""
     if row is None:
@@ -143,8 +150,8 @@ def refusals(row):
     if not NAME.fullmatch(row["owner"]):
         yield f"owner is {row['owner']!r}, which is no name"
     for column in DATES:
-        if row[column] and not MOMENT_TEXT.fullmatch(row[column]):
-            yield f"{column} is {row[column]!r}, and not YYYY-MM-DDTHH:MM:SSZ"
+        if row[column] and not is_moment(row[column]):
+            yield f"{column} is {row[column]!r}, and no moment in the form YYYY-MM-DDTHH:MM:SSZ"
     purpose = row["purpose"]
     if not 1 <= len(purpose.encode()) <= 200 or purpose != purpose.strip(" ") or NO_PURPOSE.search(purpose):
         yield f"purpose is {purpose[:60]!r}, which is empty, too long, or has a space at an end or a control character"

@@ -45,7 +45,8 @@ RECORDED = [
 # What an import refuses for its form, and what is said of it.
 REFUSED = [
     ({"type": "Master"}, "none of the seven"), ({"owner": "two words"}, "no name"), ({"owner": "Müller"}, "no name"),
-    ({"protect_stop": "2027-01-05"}, "YYYY"), ({"purpose": " x"}, "space"), ({"purpose": ""}, "empty"),
+    ({"protect_stop": "2027-01-05"}, "YYYY"), ({"protect_stop": "2027-02-30T00:00:00Z"}, "no moment"),
+    ({"protect_stop": "1969-12-31T23:59:59Z"}, "no moment"), ({"purpose": " x"}, "space"), ({"purpose": ""}, "empty"),
     ({"purpose": "a\tb"}, "control"), ({"purpose": "ü" * 101}, "too long"),
 ]
 KEY = {"type": "master", "owner": "ann", "activation": "", "protect_stop": "", "deactivation": "", "purpose": "root"}
