@@ -3,8 +3,9 @@
 
     checks/sources/theorem.py [--count]
 
-Writes the pages, or with --count only counts what they have. The theorem is the contract of ROOT. What a definition says in plain words is the comment above it in
-the source; the pages' own words are in *_head.md beside this file. documents.py holds the pages to the sources.
+Writes the pages, or with --count only counts what they have. The theorem is the contract of ROOT. What a definition
+says in plain words is the comment above it in the source; the pages' own words are in *_head.md beside this file.
+documents.py holds the pages to the sources.
 """
 import difflib
 import functools
