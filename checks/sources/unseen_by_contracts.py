@@ -56,19 +56,45 @@ MARKED = {
 # The most lines of the body of a turn, and of what it calls.
 TURNS, MOST_LINES = "crates/streams/src/watched/turns.rt", 14
 
-# In how many places a crate makes an end, an error or a refusal that says that memory gave out. One that is handed on
+# In how many places a file makes an end, an error or a refusal that says that memory gave out. One that is handed on
 # under another name counts, one that is looked at does not: a value counts, and no pattern of a match, nor of an
 # `if let`, nor a type.
 TOLD = {
-    "disk_files": 1, "http_messages": 5, "key_rows": 3, "keyreg": 1, "memory_disk": 1, "register_desk": 4,
-    "register_http": 1, "register_program": 3, "register_report": 3, "register_store": 3, "row_checks": 1,
+    "disk_files/src/disk_files.rt": 1,
+    "http_messages/src/asking.rt": 3,
+    "http_messages/src/route.rt": 2,
+    "key_rows/src/export.rt": 3,
+    "keyreg/src/main.rt": 1,
+    "memory_disk/src/lib.rt": 1,
+    "register_desk/src/end.rt": 2,
+    "register_desk/src/memory.rt": 1,
+    "register_desk/src/opening.rt": 1,
+    "register_http/src/exchanging.rt": 1,
+    "register_program/src/faults.rt": 3,
+    "register_report/src/importing.rt": 2,
+    "register_report/src/table_writing.rt": 1,
+    "register_store/src/error.rt": 3,
+    "row_checks/src/reading.rt": 1,
 }
 MEMORY = re.compile(r"\b(?:End|OpenRefusal|AskFault|StoreError|CheckError|RowsError)::Memory\b"
                     r"(?!\)*\s*(?:=>|=[^=]|\|)|\.fmt)|(?<![<,:] )(?<!<)\bAllocError\b(?!>)")
 # In how many places it tells so that a call of the database was refused.
 REFUSED = {
-    "disk_files": 2, "register_desk": 11, "register_program": 1, "register_report": 1, "register_store": 8,
-    "row_checks": 4,
+    "disk_files/src/disk_files.rt": 2,
+    "register_desk/src/desk.rt": 1,
+    "register_desk/src/desk/applying.rt": 2,
+    "register_desk/src/desk/listing.rt": 2,
+    "register_desk/src/desk/look_ups.rt": 2,
+    "register_desk/src/end.rt": 1,
+    "register_desk/src/memory.rt": 1,
+    "register_desk/src/opening.rt": 1,
+    "register_desk/src/rows.rt": 1,
+    "register_program/src/faults.rt": 1,
+    "register_report/src/table_writing.rt": 1,
+    "register_store/src/counted.rt": 3,
+    "register_store/src/error.rt": 4,
+    "register_store/src/stored_key.rt": 1,
+    "row_checks/src/reading.rt": 4,
 }
 REFUSAL = re.compile(r"\b(?:(?:End|OpenRefusal)::Store|StoreError::NoRegister"
                      r"|(?:StoreError|CheckError|CreateError|RowsError)::Database|(?<!\w)Error::SqliteFailure)\b"
@@ -139,11 +165,11 @@ def place_faults() -> Iterator[str]:
     yield from (f"{path} asks for room: {line.strip()}" for path, line in lines if ROOM.search(line))
     for what, word, wanted in (("want of memory", MEMORY, TOLD), ("a refused call", REFUSAL, REFUSED)):
         told = [(path, line.strip()) for path, line in lines for _ in word.findall(line)]
-        counts = collections.Counter(path.split("/")[1] for path, _ in told)
-        for crate in sorted({*counts, *wanted}):
-            if counts[crate] != wanted.get(crate, 0):
-                yield f"{crate} tells {what} in {counts[crate]} places, and not in {wanted.get(crate, 0)}:"
-                yield from (f"    {path}: {line}" for path, line in told if path.split("/")[1] == crate)
+        counts = collections.Counter(path.removeprefix("crates/") for path, _ in told)
+        for file in sorted({*counts, *wanted}):
+            if counts[file] != wanted.get(file, 0):
+                yield f"{file} tells {what} in {counts[file]} places, and not in {wanted.get(file, 0)}:"
+                yield from (f"    {line}" for path, line in told if path == f"crates/{file}")
 
 
 def call_faults() -> Iterator[str]:
