@@ -98,23 +98,36 @@ def words_of_code() -> set[str]:
     return set().union(*(re.findall(r"\w+", text) for text in texts))
 
 
+def clause_lists(segment: str) -> Iterator[tuple[list[str], list[str]]]:
+    """The functions and the clauses of each list in one part of a cell, where it names clauses."""
+    segment = re.sub(r",? (?:their |its )?parts? .*? of (?:its|their) clauses?", "", segment)
+    before, *lists = re.split(r",? clause(s?) ", re.sub(r" of (?:their|its|`\w+`)", "", segment))
+    names = NAME.findall(before)
+    for is_many, listed_names in zip(lists[::2], map(NAME.findall, lists[1::2])):
+        count = len(listed_names) if is_many else 1
+        yield names, listed_names[:count]
+        names = listed_names[count:]
+
+
+def has_clause(name: str, clause: str, owner: str, names: list[str]) -> bool:
+    """Whether the function has the clause, or another of the list does, whose name it bears."""
+    bearers = [other for other in names if other.split("::")[-1].startswith(clause.removesuffix("s"))]
+    return bool(bearers) and name not in bearers or any(
+        clause in function.clauses for function in functions_named(name, owner))
+
+
 def clause_faults(cell: str) -> Iterator[str]:
-    """The functions of a cell that are not there, and the clauses beside them that none of them has."""
+    """The functions of a cell that are not there, and their clauses that they have not."""
     owner = ""
     for segment in ASIDE.sub("", cell).split(";"):
-        before, *after = segment.split(" clause")
-        names = [name for name in NAME.findall(before) if after and name not in stands_on()]
-        having = list[Function]()
-        for name in names:
-            owner = name.split("::")[0] if "::" in name else owner
-            having += functions_named(name, owner)
-            if not functions_named(name, owner):
-                yield f"no function `{name}`"
-        for name in NAME.findall(" ".join(after)) if names else ():
-            if not any(name in function.clauses for function in having):
-                having += functions_named(name, owner)
-                if name not in stands_on() and not functions_named(name, owner):
-                    yield f"none of {', '.join(names)} has a clause `{name}`"
+        for names, clauses in clause_lists(segment):
+            for name in names:
+                owner = name.split("::")[0] if "::" in name else owner
+                if not functions_named(name, owner):
+                    yield f"no function `{name}`"
+                    continue
+                yield from (f"`{name}` has no clause `{clause}`" for clause in clauses
+                            if not has_clause(name, clause, owner, names))
 
 
 def unknown_names(line: str) -> Iterator[str]:
