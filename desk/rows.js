@@ -32,7 +32,7 @@ function formFaults(row) {
   SETTABLE.forEach((name, place) => {
     const date = row[place + 2];
     if (date !== "" && (!WHOLE.test(date) || momentOf(date) === null)) {
-      faults.push([name, `${name} is ${plain(date)}, and not YYYY-MM-DDTHH:MM:SSZ`]);
+      faults.push([name, `${name} is ${plain(date)}, and no moment in the form YYYY-MM-DDTHH:MM:SSZ`]);
     }
   });
   faults.push(["purpose", textOf("purpose", purpose)]);

@@ -36,7 +36,7 @@ from datetime import datetime
 
 # What is read from beside this file leaves none there.
 sys.dont_write_bytecode = True
-from register_rules import GREATEST_NUMBER, LAST, MOMENT_TEXT, NAME, NO_PURPOSE, PERIODS, Refused, fitted, moment_of
+from register_rules import GREATEST_NUMBER, NAME, NO_PURPOSE, PERIODS, Refused, fitted, moment_of
 from replay import Unreadable, opened
 
 COLUMNS = "type owner activation protect_stop deactivation purpose".split()
@@ -134,9 +134,8 @@ def rows_of(path, columns):
 
 
 def is_moment(text):
-    """Whether the text has the form of a moment, and there is such a day and second, within the range of moments."""
     with contextlib.suppress(ValueError):
-        return bool(MOMENT_TEXT.fullmatch(text)) and 0 <= moment_of(text) <= LAST
+        return moment_of(text) >= 0
     return False
 
 

@@ -56,8 +56,11 @@ def text_of(moment: float) -> str:
 
 
 def moment_of(text: str) -> int:
-    """The moment of such a text; ValueError where it has no such day or second."""
-    return (datetime.strptime(text, MOMENT_FORM) - EPOCH) // timedelta(seconds=1)
+    """The moment of such a text; ValueError where it is of another form, or has no such day, second or moment."""
+    moment = (datetime.strptime(text, MOMENT_FORM) - EPOCH) // timedelta(seconds=1)
+    if not MOMENT_TEXT.fullmatch(text) or not 0 <= moment <= LAST:
+        raise ValueError(text)
+    return moment
 
 
 def plus_months(moment: Optional[int], months: int) -> Optional[int]:
