@@ -5,9 +5,10 @@
     checks/sources/wrong_bodies.py --texts
 
 Puts the edits of crates/*/more-must-fail, or of the crates that are named, into a copy of the repository, in the place
-of those that the gate tries, and lets `rt must-fail` try them there: a check of each crate, and some 10 to 60 seconds
-for each edit. What `rt` prints is passed on, but that an edit is refused. With --texts it tries none: it names those
-whose old text is gone or stands twice, as `rt fmt` does of those in must-fail, and those of a name that stands there.
+of those that the gate tries, and lets `rt ci` try them there: a proof of each crate, kept ones of those below, and some
+10 to 60 seconds for each edit. What `rt` says is passed on, but that an edit is refused. With --texts it tries none: it
+names those whose old text is gone or stands twice, as `rt fmt` does of those in must-fail, and those of a name that
+stands there.
 """
 import collections
 import pathlib
@@ -42,20 +43,21 @@ def text_faults(crate: str, edit: pathlib.Path) -> Iterator[str]:
 
 def refused(crates: list[str]) -> int:
     """How many edits `rt` says are refused, in a copy of the repository with those of these crates where `rt` looks
-    for them; all other lines are passed on."""
+    for them; what else it says is passed on."""
     count = 0
     with fresh_folder() as copy:
         leaving = shutil.ignore_patterns("out", "packages", "__pycache__", ".git")
         shutil.copytree(TOP, copy, ignore=leaving, dirs_exist_ok=True)
+        for folder in copy.glob("crates/*/must-fail"):
+            shutil.rmtree(folder)
         for crate in crates:
-            shutil.rmtree(copy / "crates" / crate / "must-fail", ignore_errors=True)
             (copy / "crates" / crate / FOLDER).rename(copy / "crates" / crate / "must-fail")
-        with subprocess.Popen(["rt", "must-fail", *crates], cwd=copy, stdout=subprocess.PIPE, stderr=subprocess.STDOUT,
+        with subprocess.Popen(["rt", "ci", *crates], cwd=copy, stdout=subprocess.PIPE, stderr=subprocess.STDOUT,
                               text=True, errors="replace", stdin=subprocess.DEVNULL) as child:
             for line in child.stdout:
                 is_refused = bool(REFUSED.match(line))
                 count += is_refused
-                print(line * (not is_refused), end="", flush=True)
+                print(line * (line.startswith("rt:") and not is_refused), end="", flush=True)
     return count
 
 

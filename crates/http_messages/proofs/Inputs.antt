@@ -13,7 +13,7 @@ use Rattle.http_messages.specs.Head.{prefix, max_head_length, max_headers, HasMa
 use Rattle.http_messages.specs.Head.{HasLargeHead, BreaksOff}
 use Rattle.http_messages.specs.HeadSearch.{FindsBad, FindsLarge, FindsHead}
 use Rattle.http_messages.specs.declared.asked.AskFault.{AskFault}
-use Rattle.http_messages.specs.Asked.{Asks, AsksFor, AsksAfter, whole_head}
+use Rattle.http_messages.specs.Asked.{AsksSome, AsksFor, AsksAfter, whole_head}
 use Rattle.http_messages.specs.{declared.asked.Asked.Asked, declared.asking.Asking.Asking}
 use Rattle.http_messages.proofs.Answering.{left_is, left_at_end}
 
@@ -123,5 +123,5 @@ whole_asked old new input bytes shown headers spans r known took short room foun
 
 -- what is asked where nothing is read after the head
 pub unread_asks : (input : List ℕ) (a : Asked) (o : Asking) → o ≡ record { read = 0; asked = Ok (Some a) }
-    → Asks input a → IfOk o.asked (AsksFor input)
+    → AsksSome input a → IfOk o.asked (AsksFor input)
 unread_asks input a o e asks = subst (λ (o : Asking). IfOk o.asked (AsksFor input)) (sym e) asks

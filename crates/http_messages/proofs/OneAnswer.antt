@@ -11,7 +11,7 @@ use Rattle.http_messages.specs.declared.route.Route.TheVariants.{Requests, Show,
 use Rattle.http_messages.specs.declared.asked.Asked.TheVariants.{Reject, Apply}
 use Rattle.http_messages.specs.declared.asked.Rejection.TheVariants.{MethodNotAllowed}
 use Rattle.http_messages.specs.Route.{IsRoute, IsRouteOf, route_text, method_of, routes}
-use Rattle.http_messages.specs.Asked.{Announces, IsFrom, Asks, AsksAfter, AsksPost, AsksBody, bad_head, large_head}
+use Rattle.http_messages.specs.Asked.{Announces, IsFrom, AsksSome, AsksAfter, AsksPost, AsksBody, bad_head, large_head}
 use Rattle.http_messages.specs.Asked.{whole_head, no_host, no_path, no_method, show, usage, post, encoded, no_length}
 use Rattle.http_messages.specs.Asked.{bad_length, large_body, no_sender, sent, cut_short, no_command, command, lines_of}
 use Rattle.http_messages.specs.{declared.route.Route.Route, declared.asked.Asked.Asked, HeadLaws.IsLeftOpen}
@@ -188,7 +188,7 @@ module _ (h : RequestHead) (rest : List ℕ) where
       let same = same_route h.target Requests (Usage k) o u in absurd (cc)
   same_after a b (post z p o i e) (post x q u v w) = same_post (lines_of h) rest a b e w
 
-pub one_answer : (input : List ℕ) (a b : Asked) → Asks input a → Asks input b
+pub one_answer : (input : List ℕ) (a b : Asked) → AsksSome input a → AsksSome input b
     → (a ≡ b) ⊎ IsLeftOpen input
 one_answer input a b (bad_head p) (bad_head q) = inl refl
 one_answer input a b (bad_head p) (large_head q) = inr (record { bad = p; large = q })

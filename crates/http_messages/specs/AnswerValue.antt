@@ -24,8 +24,8 @@ reply_data reply =
     ∷ (codes "state", state_data reply.state) ∷ []))
 
 -- the member with the name of a refusal
-abbrev pub name_member : Refusal → List ℕ × Data
-name_member refusal = (codes "name", string (refusal_name refusal))
+abbrev pub refusal_name_member : Refusal → List ℕ × Data
+refusal_name_member refusal = (codes "name", string (refusal_name refusal))
 
 -- the member with its number
 abbrev pub refused_member : Refusal → List ℕ × Data
@@ -35,18 +35,19 @@ refused_member refusal = (codes "refused", number_data (refusal_number refusal))
 abbrev pub refusal_data : Refusal → Data
 refusal_data (MomentBehind latest) =
     let refusal = MomentBehind latest in
-    object (members_of ((codes "latest", number_data latest) ∷ name_member refusal ∷ refused_member refusal ∷ []))
+    object (members_of ((codes "latest", number_data latest) ∷ refusal_name_member refusal ∷ refused_member refusal ∷ []))
 refusal_data (WrongState state) =
     let refusal = WrongState state in
-    object (members_of (name_member refusal ∷ refused_member refusal ∷ (codes "state", string (state_text state)) ∷ []))
+    object (members_of (refusal_name_member refusal ∷ refused_member refusal
+    ∷ (codes "state", string (state_text state)) ∷ []))
 refusal_data (PeriodTooLong limit) =
     let refusal = PeriodTooLong limit in
-    object (members_of ((codes "limit", number_data limit) ∷ name_member refusal ∷ refused_member refusal ∷ []))
+    object (members_of ((codes "limit", number_data limit) ∷ refusal_name_member refusal ∷ refused_member refusal ∷ []))
 refusal_data (ApprovalsMissing have need) =
     let refusal = ApprovalsMissing have need in
-    object (members_of ((codes "have", number_data have) ∷ name_member refusal
+    object (members_of ((codes "have", number_data have) ∷ refusal_name_member refusal
     ∷ (codes "need", number_data need) ∷ refused_member refusal ∷ []))
-refusal_data refusal = object (members_of (name_member refusal ∷ refused_member refusal ∷ []))
+refusal_data refusal = object (members_of (refusal_name_member refusal ∷ refused_member refusal ∷ []))
 
 -- what a key may be used for
 abbrev pub usage_data : Usage → Data

@@ -84,12 +84,12 @@ pub data AsksAfter (h : RequestHead) (rest : List ℕ) : Asked → Type 0 where
       → h.method ≡ codes "POST" → AsksPost (lines_of h) rest a → AsksAfter h rest a
 
 -- an input that is not empty, by what its head is: none that is taken, one too large, or a whole one
-pub data Asks (input : List ℕ) : Asked → Type 0 where
-  bad_head : HasBadHead input → Asks input (Reject BadRequest)
-  large_head : HasLargeHead input → Asks input (Reject TooLarge)
-  whole_head : (h : RequestHead) (rest : List ℕ) (a : Asked) → HasHead input h rest → AsksAfter h rest a → Asks input a
+pub data AsksSome (input : List ℕ) : Asked → Type 0 where
+  bad_head : HasBadHead input → AsksSome input (Reject BadRequest)
+  large_head : HasLargeHead input → AsksSome input (Reject TooLarge)
+  whole_head : (h : RequestHead) (rest : List ℕ) (a : Asked) → HasHead input h rest → AsksAfter h rest a → AsksSome input a
 
 -- what a whole input asks for, or nothing where it is empty
 abbrev pub AsksFor : List ℕ → Option Asked → Type 0
 AsksFor input None = input ≡ []
-AsksFor input (Some a) = Asks input a
+AsksFor input (Some a) = AsksSome input a

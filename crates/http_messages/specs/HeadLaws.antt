@@ -2,7 +2,7 @@
 use Rattle.std.specs.Prelude.{◌≡◌, ℕ, ◌⊎◌, List}
 use Rattle.httparse.specs.Grammar.{RequestHead, EndsInTarget}
 use Rattle.http_messages.specs.Head.{prefix, HasHead, HasBadHead, HasLargeHead, HasManyLines}
-use Rattle.http_messages.specs.{declared.asked.Asked.Asked, Asked.Asks}
+use Rattle.http_messages.specs.{declared.asked.Asked.Asked, Asked.AsksSome}
 
 -- An input has one whole head at most, and where it has one its head is neither bad nor too large. A head is both only
 -- where the bytes that are looked at end within the target, or have too many header lines.
@@ -21,4 +21,4 @@ pub record IsLeftOpen (input : List ℕ) : Type 0 where
 
 -- two answers to one input are the same, but in that place
 abbrev pub GivesOneAnswer : Type 0
-GivesOneAnswer = (input : List ℕ) (a b : Asked) → Asks input a → Asks input b → (a ≡ b) ⊎ IsLeftOpen input
+GivesOneAnswer = (input : List ℕ) (a b : Asked) → AsksSome input a → AsksSome input b → (a ≡ b) ⊎ IsLeftOpen input

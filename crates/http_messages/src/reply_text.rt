@@ -6,7 +6,7 @@ ghost use Rattle.register_core.specs.Answer.{outcome};
 ghost use Rattle.http_messages.specs.AnswerText.{json_reply, key_reply, outcome_reply};
 ghost use Rattle.http_messages.specs.AnswerText.{refusal_status, usage_reply};
 ghost use Rattle.http_messages.specs.AnswerValue.{state_data, reply_data, refusal_data, usage_data};
-ghost use Rattle.http_messages.specs.AnswerValue.{names_data, key_data, name_member};
+ghost use Rattle.http_messages.specs.AnswerValue.{names_data, key_data, refusal_name_member};
 ghost use Rattle.http_messages.specs.AnswerValue.{refused_member};
 ghost use Rattle.http_messages.specs.Within.AnswerValue.{date_members};
 ghost use Rattle.http_messages.specs.CommandValue.{date_data, members_of};
@@ -156,7 +156,7 @@ fn put_refusal_details(
     refusal: &Refusal,
 ) -> Result<(), AllocError>
     requires { members_view members.old.entries
-        ≡ members_of (name_member refusal.now ∷ refused_member refusal.now ∷ []) }
+        ≡ members_of (refusal_name_member refusal.now ∷ refused_member refusal.now ∷ []) }
     ensures { OnOk result (object (members_view members.new.entries) ≡ refusal_data refusal.now) }
 {
     match *refusal {

@@ -35,7 +35,15 @@ owner_after before _ = before
 
 -- no date is set before a key is registered
 abbrev pub unset_dates : Dates
-unset_dates = record { initial = 0; activation = None; protect_stop = None; deactivation = None; destroy = None; compromise = None; compromise_occurrence = None }
+unset_dates = record {
+  initial = 0;
+  activation = None;
+  protect_stop = None;
+  deactivation = None;
+  destroy = None;
+  compromise = None;
+  compromise_occurrence = None;
+}
 
 -- the dates of the key as it stands; where there is none, no date is set
 abbrev pub dates_before : Option Held → Dates

@@ -250,7 +250,8 @@ module _ {S : Type 0} (g : store.Ghosts S) where
       → LooksUp {T = T} g most old mid (Err error) → end ≡ end_of_error error → new ≡ left_at end mid
       → Asks {T = T} g most old new (Err end)
   asks_ended {T} most old mid new error end whole looks is left = record {
-    ends = ends_so {T = T} most old mid new (Err end) left (subst IsOfStore (sym is) (end_of_store error)) whole looks.mark;
+    ends = ends_so {T = T} most old mid new (Err end) left (subst IsOfStore (sym is) (end_of_store error)) whole
+        looks.mark;
     reads = subst (ChangesNothing g old) (sym left)
         (subst (λ (e : End). ChangesNothing g old (left_at e mid)) (sym is) looks.reads);
     steps = steps_so {T = T} most old mid new (Err end) left looks.steps;

@@ -113,8 +113,8 @@ numbers_differ n [] = λ i j d less within. absurd (omega arith)
 numbers_differ n (k ∷ keys) =
     let rows = map row_of (enumerate_from (n + 1) keys) in
     AllPairs-cons (λ (r s : KeyRow). r.number ≢ s.number) (row_of (n, k)) rows
-    (All-weaker (λ (r : KeyRow). n + 1 ≤ r.number) (λ (r : KeyRow). n ≢ r.number) (λ r le same. absurd (omega (arith, le, same)))
-    rows (from_number (n + 1) keys)) (numbers_differ (n + 1) keys)
+    (All-weaker (λ (r : KeyRow). n + 1 ≤ r.number) (λ (r : KeyRow). n ≢ r.number)
+    (λ r le same. absurd (omega (arith, le, same))) rows (from_number (n + 1) keys)) (numbers_differ (n + 1) keys)
 
 pub own_numbers_of : (t : Tables) → HaveOwnNumbers (rows_of t)
 own_numbers_of t = numbers_differ 1 t.keys

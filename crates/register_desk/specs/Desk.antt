@@ -135,8 +135,8 @@ pub record ChangesNothing {S : Type 0} (g : Ghosts S) (old new : Desk S g) : Typ
   pub rows : (t : Tables) → Sees g t old → Sees g t new
   pub survives : Survives (seen g old.connection) (seen g new.connection) (λ _. ⊥)
 
--- A call that asks: it changes nothing, an answer leaves a whole desk and an end what it says, and the database takes at
--- most so many steps for it where the desk stands for a history.
+-- A call that asks: it changes nothing, an answer leaves a whole desk and an end what it says, and the database takes
+-- at most so many steps for it where the desk stands for a history.
 pub record Asks {S T : Type 0} (g : Ghosts S) (most : ℕ) (old new : Desk S g) (result : Result T End) : Type 0 where
   pub ends : Ends old new result
   pub reads : ChangesNothing g old new

@@ -154,8 +154,8 @@ pub record RefusesCreation {S : Type 0} (g : Ghosts S) (old : Connection S) (uno
   pub leaves_there : refusal_in unopened ≡ NotARegister → LeavesCommitted (state g old) (state_in g unopened)
   pub leaves_made : LeavesMade (state g old) (state_in g unopened)
 
--- Why an opening was refused, and what it leaves. The register of a history that is lawful in its version is not refused
--- for its tables.
+-- Why an opening was refused, and what it leaves. The register of a history that is lawful in its version is not
+-- refused for its tables.
 pub record RefusesOpening {S : Type 0} (g : Ghosts S) (old : Connection S) (unopened : Unopened S) : Type 0 where
   pub idle : (connection_in unopened).in_transaction ≡ false
   pub reason : HasCleanDisk (state_in g unopened)

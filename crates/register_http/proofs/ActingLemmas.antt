@@ -142,8 +142,8 @@ module _ {S : Type 0} (g : Ghosts S) where
 
     -- the request was applied, and answered
     pub went_applied : (h' : List Request → List Request)
-        → ((h : List Request) → history_after_asked h moment asked ≡ h' h) → (IsClean g new → IsClean g old) → IsWhole old × IsWhole new
-        → ((h : List Request) → StandsFor g old h → IsClean g new → StandsFor g new (h' h)) → Went
+        → ((h : List Request) → history_after_asked h moment asked ≡ h' h) → (IsClean g new → IsClean g old)
+        → IsWhole old × IsWhole new → ((h : List Request) → StandsFor g old h → IsClean g new → StandsFor g new (h' h)) → Went
     went_applied h' is clean both stands = record {
       clean = clean;
       goes_on = both_whole old new both.0 both.1;
@@ -230,8 +230,8 @@ pub rejected_text : (r k : Rejection) (made : Result (String Global) AllocError)
 rejected_text r k made text e = subst (λ x. IfOk made (IsTextOf (reply_of x))) (rejection_is r k e) text
 
 -- what is found of a key is told
-pub found_text : {T : Type 0} (reply : T → HttpReply) (o p : Option T) (made : Result (String Global) AllocError) → o ≡ p
-    → IfOk made (IsTextOf (found_reply reply o)) → IfOk made (IsTextOf (found_reply reply p))
+pub found_text : {T : Type 0} (reply : T → HttpReply) (o p : Option T) (made : Result (String Global) AllocError)
+    → o ≡ p → IfOk made (IsTextOf (found_reply reply o)) → IfOk made (IsTextOf (found_reply reply p))
 found_text reply o p made e text = subst (λ x. IfOk made (IsTextOf (found_reply reply x))) e text
 
 -- what was asked, by another name of it

@@ -265,8 +265,8 @@ module _ {S : Type 0} (g : Ghosts S) (moment : ℕ) (kept now : Desk S g) where
       (serves : ServesAsked g moment asked kept now v w o) where
     -- what is left of the reader, by what came of asking
     pub leaves_reader : {R : Type 0} (remaining : R → Option (List ℕ)) (old reset new : Watched R) (n : ℕ)
-        → reset ≡ record old { turns = 0; idle = 0 } → o.read ≡ n → HasRead (remaining reset.inner) (remaining new.inner) n
-        → (reset.failed ≡ false → new.failed ≡ true → asked ≡ Err fault.ReadFault) → old.failed ≡ false
+        → reset ≡ record old { turns = 0; idle = 0 } → o.read ≡ n
+        → HasRead (remaining reset.inner) (remaining new.inner) n → (reset.failed ≡ false → new.failed ≡ true → asked ≡ Err fault.ReadFault) → old.failed ≡ false
         → IfErr asked (λ f. f ≡ fault.ReadFault → IsFaulted new.failed max_exchange_reads new.turns)
         → new.turns ≤ max_exchange_reads → LeavesHttpReader remaining old new o
     leaves_reader remaining old reset new n is counted read tells sound faulted bounded = record {

@@ -204,7 +204,8 @@ module _ {S U : Type 0} (g : Ghosts S) (may_leave : S → Image → Type 0) (may
     was_none : (input : Option (List ℕ)) (job : Job) (done : Done S U)
         → Fits input job done no_life → ∥ HoldsHistory h left ∥₁ → WasOne input job done
     was_none input job done is some =
-        ∥∥₁_map some (λ it. (no_life, record { in_range = tt; applied = (omega arith, omega arith, omega arith); is = is }, it))
+        ∥∥₁_map some
+        (λ it. (no_life, record { in_range = tt; applied = (omega arith, omega arith, omega arith); is = is }, it))
 
     -- where it opened the register and applied nothing
     opened_none : (came : Result (FileLife S) (Refused S U))

@@ -45,7 +45,8 @@ pub fault_leaves : {S : Type 0} (g : Ghosts S) (h : List Request) (items : List 
     → RunsOver g h items rest outcome.end outcome.replies old new now → outcome.end ≡ Ended WriteFault
     → LeavesEither g (history h (take (outcome.replies + 1) items)) (history h (take (outcome.replies + 1) items)) now
 fault_leaves g h items rest outcome old new kept now whole leaves clean over is =
-    leaves_alone g _ now (over.in_part is).stands (leaves.whole whole (λ store. absurd (let both = sym is ∙ store in cc))) clean
+    leaves_alone g _ now (over.in_part is).stands
+    (leaves.whole whole (λ store. absurd (let both = sym is ∙ store in cc))) clean
 
 module _ {S : Type 0} (g : Ghosts S) (may_leave : Image → Type 0) (outcome : Outcome) (old new : Option (List ℕ))
     (kept now : Desk S g) where

@@ -9,8 +9,8 @@ use Rattle.register_desk.specs.{OpenRefusal.RefusesNoTable, Register.KeepsHistor
 use Rattle.register_program.specs.declared.refused.RefusedFiles.TheVariants.{Failed, Shut}
 use Rattle.register_program.specs.{declared.refused.Refused.Refused, declared.refused.RefusedFiles.RefusedFiles}
 
--- The desk is that of this history: it knows its latest moment and how many keys it made, and as long as it is whole its
--- connection keeps the history's tables.
+-- The desk is that of this history: it knows its latest moment and how many keys it made, and as long as it is whole
+-- its connection keeps the history's tables.
 pub record IsDeskOf {S : Type 0} (g : Ghosts S) (h : List Request) (desk : Desk S g) : Type 0 where
   pub latest_is : desk.latest ≡ latest h
   pub keys_are : desk.keys ≡ count h

@@ -4,7 +4,7 @@ use Rattle.register_requests.specs.declared.command_fields.Fields.TheVariants.{N
 use Rattle.register_requests.specs.declared.command_fields.Fields.TheVariants.{KeyAndNeed, TypeAndPeriod, Registration}
 use Rattle.register_requests.specs.declared.command_fields.Fields.TheVariants.{DateEdits, Revocation}
 use Rattle.register_requests.specs.CommandKind.{command_kind_text, command_shape, kind_of}
-use Rattle.register_requests.specs.Request.{IsCommand, arguments_text, command_text}
+use Rattle.register_requests.specs.Request.{IsCommand, argument_texts, command_text, spaced}
 use Rattle.register_requests.specs.Fields.{command_with, fields_of, shape_of}
 use Rattle.register_requests.specs.{declared.command_fields.CommandKind.CommandKind, declared.request.Command.Command}
 use Rattle.register_requests.specs.{declared.command_fields.Fields.Fields, Within.Fields.command_of}
@@ -40,7 +40,8 @@ pub same_command : (p q : Command) → kind_of p ≡ kind_of q → fields_of p �
 same_command p q kinds fields = grind arith
 
 -- its word, and what stands after it
-pub text_is : (c : Command) → command_text c ≡ command_kind_text (kind_of c) ++ arguments_text (command_of (fields_of c))
+pub text_is : (c : Command) → command_text c
+    ≡ command_kind_text (kind_of c) ++ spaced (argument_texts (command_of (fields_of c)))
 text_is c = grind arith
 
 -- what is said of its ranges is said of its fields'

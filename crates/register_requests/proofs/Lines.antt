@@ -1,5 +1,5 @@
 -- Fields of a command, commands and requests: no bytes are the text of two, and it is decided of which they are.
-use Rattle.std.proofs.Common.{◌≡◌, ℕ, nat_le, ◌≤◌, Bool, true, false, List, [], ◌∷◌, ◌++◌, length, drop, append_assoc}
+use Rattle.std.proofs.Common.{◌≡◌, ℕ, nat_le, ◌≤◌, Bool, true, false, List, [], ◌∷◌, ◌++◌, length, drop}
 use Rattle.std.proofs.Common.{Option, Some, None, refl, sym, ap, subst, ◌∙◌, arith, inl, inr, ◌&&◌, ◌↔◌, IsSome, IfSome}
 use Rattle.std.proofs.lemmas.Bool.{and_parts, leb-true, leb-false}
 use Rattle.std.proofs.lemmas.List.{append-nil}
@@ -13,7 +13,7 @@ use Rattle.register_requests.specs.declared.command_fields.Fields.TheVariants.{D
 use Rattle.register_requests.specs.CommandKind.{command_kind_text, command_shape, kind_of}
 use Rattle.register_requests.specs.Fields.{command_with, fields_of, shape_of}
 use Rattle.register_requests.specs.Request.{IsDate, IsEdit, IsKeyNumber, IsLineOf, IsItem, IsRequest, IsReadAs}
-use Rattle.register_requests.specs.Request.{arguments_text, command_text, date_text, edit_text, request_text}
+use Rattle.register_requests.specs.Request.{argument_texts, command_text, date_text, edit_text, request_text, spaced}
 use Rattle.register_requests.specs.Within.FieldText.{Writes, IsAny, itself, IsShort, reason_text, period_text}
 use Rattle.register_requests.specs.Within.FieldText.{HasNoSpace, AreSplit, AreFieldsOf, after_word}
 use Rattle.register_requests.specs.{declared.request.Edit.Edit, declared.request.Request.Request}
@@ -32,34 +32,9 @@ use Rattle.register_requests.proofs.FieldTexts.{key_types, reasons, command_kind
 
 -- ---- texts, as fields with what stands after them
 
+-- What `spaced` makes of some texts is a space, and then these `before` one another and the last before nothing.
 abbrev before : List ℕ → List ℕ → List ℕ
 before field rest = field ++ (32 ∷ rest)
-
--- a field with a space before it
-abbrev spaced : List ℕ → List ℕ
-spaced field = 32 ∷ field
-
-joined_register : (k o a p d u : List ℕ)
-    → codes " " ++ k ++ codes " " ++ o ++ codes " " ++ a ++ codes " " ++ p ++ codes " " ++ d ++ codes " " ++ u
-    ≡ spaced (before k (before o (before a (before p (before d u)))))
-joined_register k o a p d u = simp append_assoc
-
-joined_edits : (k a p d : List ℕ) → codes " " ++ k ++ codes " " ++ a ++ codes " " ++ p ++ codes " " ++ d
-    ≡ spaced (before k (before a (before p d)))
-joined_edits k a p d = simp append_assoc
-
-joined_revoke : (k r o : List ℕ) → codes " " ++ k ++ codes " " ++ r ++ codes " " ++ o ≡ spaced (before k (before r o))
-joined_revoke k r o = simp append_assoc
-
-joined_named : (k n : List ℕ) → codes " " ++ k ++ codes " " ++ n ≡ spaced (before k n)
-joined_named k n = simp append_assoc
-
-joined_pair : (k n : List ℕ) → k ++ codes " " ++ n ≡ before k n
-joined_pair k n = simp append_assoc
-
-joined_request : (m c n d : List ℕ) → m ++ codes " " ++ c ++ codes " " ++ n ++ codes " " ++ d
-    ≡ before m (before c (before n d))
-joined_request m c n d = simp append_assoc
 
 -- the text of a value, a space, and after it the text of another
 module _ {A B : Type 0} {P : A → Type 0} {text : A → List ℕ} {IsSecond : List ℕ → B → Type 0} where
@@ -100,16 +75,19 @@ period_or_not (a, b) = by (nat_le 1 a && nat_le a max_months && nat_le b max_mon
 
 period_there : (bytes : List ℕ) (x : ℕ × ℕ) → Only IsShorts IsInPeriod bytes x
     → Writes IsPeriod period_text bytes (of_months x.0 x.1)
-period_there bytes x is = (is.1, grind (arith, spelled, joined_pair))
+period_there bytes x is = (is.1, grind (arith, spelled, append-nil))
 
 period_back : (bytes : List ℕ) (p : Period) → Writes IsPeriod period_text bytes p
     → (x : ℕ × ℕ) × Only IsShorts IsInPeriod bytes x × (p ≡ of_months x.0 x.1)
 period_back bytes p is =
-    let same = is.1 ∙ joined_pair (decimal p.originator) (decimal p.recipient) in
-    let split : IsShorts (before (decimal p.originator) (decimal p.recipient)) (p.originator, p.recipient) =
-    wrote shorts p.originator _ (omega (arith, is.0.originator)) (omega (arith, is.0.recipient), refl) in (
-      (p.originator, p.recipient),
-      (subst (λ (b : List ℕ). IsShorts b (p.originator, p.recipient)) (sym same) split, is.0),
+    let x : ℕ × ℕ = (p.originator, p.recipient) in (
+      x,
+      (
+        subst (λ (b : List ℕ). IsShorts b x) (sym is.1)
+            (wrote shorts p.originator _ (omega (arith, is.0.originator))
+            (omega (arith, is.0.recipient), append-nil (decimal p.recipient))),
+        is.0,
+      ),
       refl,
     )
 
@@ -137,37 +115,35 @@ periods = made_exact period (only_exact _ _ shorts_exact period_or_not)
 abbrev AreAfter : Shape → List ℕ → Fields → Type 0
 AreAfter shape bytes fields = AreFieldsOf shape (codes " " ++ bytes) fields
 
--- the bytes are those that the text of the fields has after its space
-there_after : (rest fields bytes : List ℕ) → spaced bytes ≡ fields → fields ≡ spaced rest → rest ≡ bytes
-there_after rest fields bytes e f = cc
+-- a text after a space is the bytes that stand after one
+there_after : (bytes text : List ℕ) → codes " " ++ bytes ≡ codes " " ++ text → text ≡ bytes
+there_after bytes text e = cc
 
 -- a key's number alone
 key_back : (bytes : List ℕ) (f : Fields) → AreAfter shapes.Key bytes f
     → (key : ℕ) × Writes IsKeyNumber decimal bytes key × (f ≡ Key key)
-key_back bytes (Key key) is = (key, (is.in_range, cc), refl)
+key_back bytes (Key key) is = (key, (is.in_range, sym (there_after bytes _ is.text) ∙ append-nil (decimal key)), refl)
 key_back bytes f is = absurd (let other = is.shape_is in cc)
 
 pub key_alone : Makes (Writes IsKeyNumber decimal) Key (AreAfter shapes.Key)
-key_alone = record { there = λ bytes key is. grind arith; back = key_back }
+key_alone = record { there = λ bytes key is. grind (arith, append-nil); back = key_back }
 
 -- a key's number and a name
 abbrev IsNamed : List ℕ → ℕ × List ℕ → Type 0
 IsNamed = AreSplit (Writes IsKeyNumber decimal) (Writes IsName itself)
 
-named : (bytes : List ℕ) (key : ℕ) (name : List ℕ) → IsKeyNumber key → IsName name
-    → codes " " ++ bytes ≡ codes " " ++ decimal key ++ codes " " ++ name → IsNamed bytes (key, name)
-named bytes key name in_range is e =
-    subst (λ (b : List ℕ). IsNamed b (key, name)) (there_after _ _ bytes e (joined_named (decimal key) name))
-    (wrote key_numbers key _ in_range (is, refl))
-
 name_back : (bytes : List ℕ) (f : Fields) → AreAfter shapes.KeyAndName bytes f
     → (x : ℕ × List ℕ) × IsNamed bytes x × (f ≡ KeyAndName x.0 x.1)
-name_back bytes (KeyAndName key name) is =
-    ((key, name), named bytes key name is.in_range.0 is.in_range.1 is.text, refl)
+name_back bytes (KeyAndName key name) is = (
+  (key, name),
+  subst (λ (b : List ℕ). IsNamed b (key, name)) (there_after bytes _ is.text)
+      (wrote key_numbers key _ is.in_range.0 (is.in_range.1, append-nil name)),
+  refl,
+)
 name_back bytes f is = absurd (let other = is.shape_is in cc)
 
 pub key_and_name : Makes IsNamed (λ x. KeyAndName x.0 x.1) (AreAfter shapes.KeyAndName)
-key_and_name = record { there = λ bytes x is. grind (arith, spelled, joined_named); back = name_back }
+key_and_name = record { there = λ bytes x is. grind (arith, spelled, append-nil); back = name_back }
 
 -- a key's number, and how many approvals its destruction needs
 abbrev IsNeeding : List ℕ → ℕ × ℕ → Type 0
@@ -177,15 +153,14 @@ need_back : (bytes : List ℕ) (f : Fields) → AreAfter shapes.KeyAndNeed bytes
     → (x : ℕ × ℕ) × IsNeeding bytes x × (f ≡ KeyAndNeed x.0 x.1)
 need_back bytes (KeyAndNeed key need) is = (
   (key, need),
-  subst (λ (b : List ℕ). IsNeeding b (key, need))
-      (there_after _ _ bytes is.text (joined_named (decimal key) (decimal need)))
-      (wrote key_numbers key _ is.in_range.0 (is.in_range.1, refl)),
+  subst (λ (b : List ℕ). IsNeeding b (key, need)) (there_after bytes _ is.text)
+      (wrote key_numbers key _ is.in_range.0 (is.in_range.1, append-nil (decimal need))),
   refl,
 )
 need_back bytes f is = absurd (let other = is.shape_is in cc)
 
 pub key_and_need : Makes IsNeeding (λ x. KeyAndNeed x.0 x.1) (AreAfter shapes.KeyAndNeed)
-key_and_need = record { there = λ bytes x is. grind (arith, spelled, joined_named); back = need_back }
+key_and_need = record { there = λ bytes x is. grind (arith, spelled, append-nil); back = need_back }
 
 -- a type, and its period
 abbrev IsTyped : List ℕ → KeyType × Period → Type 0
@@ -193,19 +168,16 @@ IsTyped = AreSplit (Writes IsAny key_type_text) (Writes IsPeriod period_text)
 
 type_back : (bytes : List ℕ) (f : Fields) → AreAfter shapes.TypeAndPeriod bytes f
     → (x : KeyType × Period) × IsTyped bytes x × (f ≡ TypeAndPeriod x.0 x.1)
-type_back bytes (TypeAndPeriod kind p) is =
-    let months = joined_pair (decimal p.originator) (decimal p.recipient) in (
-      (kind, p),
-      subst (λ (b : List ℕ). IsTyped b (kind, p))
-          (there_after _ _ bytes is.text
-          (joined_revoke (key_type_text kind) (decimal p.originator) (decimal p.recipient)))
-          (wrote key_types kind _ tt (is.in_range, sym months)),
-      refl,
-    )
+type_back bytes (TypeAndPeriod kind p) is = (
+  (kind, p),
+  subst (λ (b : List ℕ). IsTyped b (kind, p)) (there_after bytes _ is.text)
+      (wrote key_types kind _ tt (is.in_range, refl)),
+  refl,
+)
 type_back bytes f is = absurd (let other = is.shape_is in cc)
 
 pub type_and_period : Makes IsTyped (λ x. TypeAndPeriod x.0 x.1) (AreAfter shapes.TypeAndPeriod)
-type_and_period = record { there = λ bytes x is. grind (arith, spelled, joined_revoke); back = type_back }
+type_and_period = record { there = λ bytes x is. grind (arith, spelled); back = type_back }
 
 -- the fields of a registration
 abbrev Registered : Type 0
@@ -232,18 +204,16 @@ register_back bytes (Registration new) is =
       (new.owner, (new.activation, (new.protect_stop, (new.deactivation, new.purpose)))),
     ) in (
       x,
-      subst (λ (b : List ℕ). IsRegistered b x)
-          (there_after _ _ bytes is.text
-          (joined_register (key_type_text new.kind) new.owner (date_text new.activation) (date_text new.protect_stop)
-          (date_text new.deactivation) new.purpose))
+      subst (λ (b : List ℕ). IsRegistered b x) (there_after bytes _ is.text)
           (wrote key_types new.kind _ tt (wrote names new.owner _ owner (wrote dates new.activation _ activation
-          (wrote dates new.protect_stop _ protect_stop (wrote dates new.deactivation _ deactivation (purpose, refl)))))),
+          (wrote dates new.protect_stop _ protect_stop (wrote dates new.deactivation _ deactivation
+          (purpose, append-nil new.purpose)))))),
       refl,
     )
 register_back bytes f is = absurd (let other = is.shape_is in cc)
 
 pub registration : Makes IsRegistered registered (AreAfter shapes.Registration)
-registration = record { there = λ bytes x is. grind (arith, spelled, joined_register); back = register_back }
+registration = record { there = λ bytes x is. grind (arith, spelled, append-nil); back = register_back }
 
 -- the fields of a change of dates
 abbrev Edited : Type 0
@@ -262,16 +232,15 @@ edits_back : (bytes : List ℕ) (f : Fields) → AreAfter shapes.DateEdits bytes
 edits_back bytes (DateEdits key a p d) is =
     let in_range = is.in_range in (
       (key, (a, (p, d))),
-      subst (λ (b : List ℕ). IsEdited b (key, (a, (p, d))))
-          (there_after _ _ bytes is.text (joined_edits (decimal key) (edit_text a) (edit_text p) (edit_text d)))
+      subst (λ (b : List ℕ). IsEdited b (key, (a, (p, d)))) (there_after bytes _ is.text)
           (wrote key_numbers key _ in_range.0 (wrote edits a _ in_range.1
-          (wrote edits p _ in_range.2 (in_range.3, refl)))),
+          (wrote edits p _ in_range.2 (in_range.3, append-nil (edit_text d))))),
       refl,
     )
 edits_back bytes f is = absurd (let other = is.shape_is in cc)
 
 pub date_edits : Makes IsEdited edited (AreAfter shapes.DateEdits)
-date_edits = record { there = λ bytes x is. grind (arith, spelled, joined_edits); back = edits_back }
+date_edits = record { there = λ bytes x is. grind (arith, spelled, append-nil); back = edits_back }
 
 -- the fields of a revocation
 abbrev Revoked : Type 0
@@ -306,9 +275,8 @@ revoke_back bytes (Revocation key r o) is =
     let in_range = is.in_range in (
       (key, (r, o)),
       (
-        subst (λ (b : List ℕ). IsRevoked b (key, (r, o)))
-            (there_after _ _ bytes is.text (joined_revoke (decimal key) (reason_text r) (date_text o)))
-            (wrote key_numbers key _ in_range.0 (wrote reasons r _ tt (in_range.1, refl))),
+        subst (λ (b : List ℕ). IsRevoked b (key, (r, o))) (there_after bytes _ is.text)
+            (wrote key_numbers key _ in_range.0 (wrote reasons r _ tt (in_range.1, append-nil (date_text o)))),
         in_range.2,
       ),
       refl,
@@ -316,7 +284,7 @@ revoke_back bytes (Revocation key r o) is =
 revoke_back bytes f is = absurd (let other = is.shape_is in cc)
 
 pub revocation : Makes (Only IsRevoked HasCause) revoked (AreAfter shapes.Revocation)
-revocation = record { there = λ bytes x is. grind (arith, spelled, joined_revoke); back = revoke_back }
+revocation = record { there = λ bytes x is. grind (arith, spelled, append-nil); back = revoke_back }
 
 pub no_cause : (bytes : List ℕ) (x : Revoked) → IsRevoked bytes x → (HasCause x → ⊥)
     → IsReadAs (AreAfter shapes.Revocation) bytes None
@@ -354,7 +322,7 @@ shaped shapes.DateEdits =
 shaped shapes.Revocation = made_exact revocation (only_exact _ _ revoked_exact cause_or_not)
 
 -- fields whose text is empty
-only_nothing : (f : Fields) → [] ≡ arguments_text (command_of f) → f ≡ Nothing
+only_nothing : (f : Fields) → [] ≡ spaced (argument_texts (command_of f)) → f ≡ Nothing
 only_nothing Nothing e = refl
 only_nothing f e = absurd cc
 
@@ -375,9 +343,9 @@ fields_has shape None = (None, no_fields shape (λ e. cc))
 -- ---- commands
 
 -- the text of fields stands after a word
-fields_begin : (f : Fields) → (after : Option (List ℕ)) × (after_word after ≡ arguments_text (command_of f))
+fields_begin : (f : Fields) → (after : Option (List ℕ)) × (after_word after ≡ spaced (argument_texts (command_of f)))
 fields_begin Nothing = (None, refl)
-fields_begin f = (Some (drop 1 (arguments_text (command_of f))), refl)
+fields_begin f = (Some (drop 1 (spaced (argument_texts (command_of f)))), refl)
 
 -- a text with a space in it has one
 no_space_in : (xs rest : List ℕ) → HasNoSpace (before xs rest) → ⊥
@@ -393,7 +361,7 @@ one_after None (Some b) word other p q e =
 one_after (Some a) None word other p q e =
     absurd (no_space_in word a (subst HasNoSpace (sym (append-nil other) ∙ sym e) q))
 one_after (Some a) (Some b) word other p q e =
-    let split = one_split word other a b p q e in (split.0, ap (λ (rest : List ℕ). spaced rest) split.1)
+    let split = one_split word other a b p q e in (split.0, ap (λ (rest : List ℕ). 32 ∷ rest) split.1)
 
 kind_solid : (kind : CommandKind) → HasNoSpace (command_kind_text kind)
 kind_solid kind = command_kinds.solid (command_kind_text kind) kind (tt, refl)
@@ -403,7 +371,7 @@ module _ (bytes word : List ℕ) (after : Option (List ℕ)) (solid : HasNoSpace
     (whole : bytes ≡ word ++ after_word after) where
   -- so the parts of a command that they are the text of are these
   parts : (q : Command) → IsCommandText bytes q
-      → (word ≡ command_kind_text (kind_of q)) × (after_word after ≡ arguments_text (command_of (fields_of q)))
+      → (word ≡ command_kind_text (kind_of q)) × (after_word after ≡ spaced (argument_texts (command_of (fields_of q))))
   parts q is =
       let fields = fields_begin (fields_of q) in
       let split = one_after after fields.0 word (command_kind_text (kind_of q)) solid (kind_solid (kind_of q))
@@ -488,17 +456,16 @@ request_back : (bytes : List ℕ) (q : Request) → Writes IsRequest request_tex
     → (x : Requested) × IsRequested bytes x × (q ≡ requested x)
 request_back bytes q is =
     let in_range = is.0 in
-    let x : Requested = (q.moment, (q.caller, (q.number, q.command))) in
-    let same = is.1 ∙ joined_request (decimal q.moment) q.caller (decimal q.number) (command_text q.command) in (
+    let x : Requested = (q.moment, (q.caller, (q.number, q.command))) in (
       x,
-      subst (λ (b : List ℕ). IsRequested b x) (sym same)
+      subst (λ (b : List ℕ). IsRequested b x) (sym is.1)
           (wrote moments q.moment _ in_range.moment (wrote names q.caller _ in_range.caller
-          (wrote request_numbers q.number _ in_range.number (in_range.command, refl)))),
+          (wrote request_numbers q.number _ in_range.number (in_range.command, append-nil (command_text q.command))))),
       refl,
     )
 
 pub request : Makes IsRequested requested (Writes IsRequest request_text)
-request = record { there = λ bytes x is. grind (arith, spelled, joined_request); back = request_back }
+request = record { there = λ bytes x is. grind (arith, spelled, append-nil); back = request_back }
 
 requests : IsExact (Writes IsRequest request_text)
 requests =

@@ -4,8 +4,8 @@ use Rattle.std.proofs.lemmas.Fmt.{length-decimal-le}
 use Rattle.std.proofs.lemmas.List.{length-append}
 use Rattle.std.specs.Prelude.{decimal}
 use Rattle.moment_core.specs.Moment.{IsMoment}
-use Rattle.register_requests.specs.Request.{IsCommand, IsDate, IsEdit, IsKeyNumber, arguments_text, command_text}
-use Rattle.register_requests.specs.Request.{date_text, edit_text}
+use Rattle.register_requests.specs.Request.{IsCommand, IsDate, IsEdit, IsKeyNumber, argument_texts, command_text}
+use Rattle.register_requests.specs.Request.{date_text, edit_text, spaced}
 use Rattle.register_requests.specs.{declared.request.Command.Command, declared.request.Command.TheVariants.Register}
 use Rattle.register_requests.specs.{declared.request.Edit.Edit, CommandText.max_command_length}
 
@@ -29,7 +29,7 @@ abbrev room : Command → ℕ
 room (Register new) = 328
 room c = 320
 
-arguments_short : (c : Command) → IsCommand c → length (arguments_text c) ≤ room c
+arguments_short : (c : Command) → IsCommand c → length (spaced (argument_texts c)) ≤ room c
 arguments_short c is = grind (arith, length-append, key_short, months_short, date_short, edit_short)
 
 pub text_short : (c : Command) → IsCommand c → length (command_text c) ≤ max_command_length

@@ -57,21 +57,15 @@ rule (Revoke key reason occurrence) = record {
   states = if is_compromise reason then before_compromise else Active ∷ [];
 }
 rule (Assign key owner) = record { word = codes "assign"; since = First; giver = Owner; states = any_state }
-rule (AddCustodian key name) =
-    record { word = codes "add-custodian"; since = First; giver = Owner; states = any_state }
+rule (AddCustodian key name) = record { word = codes "add-custodian"; since = First; giver = Owner; states = any_state }
 rule (RemoveCustodian key name) =
     record { word = codes "remove-custodian"; since = First; giver = Owner; states = not_destroyed }
-rule (Approve key) =
-    record { word = codes "approve"; since = First; giver = Custodian; states = before_destruction }
-rule (Withdraw key) =
-    record { word = codes "withdraw"; since = First; giver = Custodian; states = not_destroyed }
-rule (Destroy key) =
-    record { word = codes "destroy"; since = First; giver = Owner; states = before_destruction }
+rule (Approve key) = record { word = codes "approve"; since = First; giver = Custodian; states = before_destruction }
+rule (Withdraw key) = record { word = codes "withdraw"; since = First; giver = Custodian; states = not_destroyed }
+rule (Destroy key) = record { word = codes "destroy"; since = First; giver = Owner; states = before_destruction }
 rule Advance = record { word = codes "advance"; since = First; giver = Anybody; states = any_state }
-rule (SetQuorum key need) =
-    record { word = codes "set-quorum"; since = Second; giver = Owner; states = any_state }
-rule (SetPeriod kind period) =
-    record { word = codes "set-period"; since = Second; giver = Office; states = any_state }
+rule (SetQuorum key need) = record { word = codes "set-quorum"; since = Second; giver = Owner; states = any_state }
+rule (SetPeriod kind period) = record { word = codes "set-period"; since = Second; giver = Office; states = any_state }
 
 -- ---- what it says
 

@@ -1,6 +1,6 @@
 -- Requests in their ranges, and the one line of each. All of it is this register's own.
-use Rattle.std.specs.Prelude.{IfSome, ◌≡◌, Bool, true, false, ◌&&◌, nat_lt, ℕ, ◌≤◌, List, [], ◌++◌, length, codes}
-use Rattle.std.specs.Prelude.{decimal, Option, None, Some}
+use Rattle.std.specs.Prelude.{IfSome, ◌≡◌, Bool, true, false, ◌&&◌, nat_lt, ℕ, ◌≤◌, List, [], ◌∷◌, ◌++◌, length}
+use Rattle.std.specs.Prelude.{codes, decimal, flat_map, Option, None, Some}
 use Rattle.moment_core.specs.Moment.{IsMoment}
 use Rattle.register_requests.specs.declared.request.Command.TheVariants.{Register, Activate, SetDates, Revoke, Assign}
 use Rattle.register_requests.specs.declared.request.Command.TheVariants.{AddCustodian, RemoveCustodian, Approve}
@@ -84,37 +84,36 @@ edit_text Keep = codes "="
 edit_text Clear = codes "-"
 edit_text (Set date) = decimal date
 
--- The arguments of a command as a request line has them, in order, each after one space. A purpose comes last, since it
--- may hold spaces. Own.
-abbrev pub arguments_text : Command → List ℕ
-arguments_text (Register new) =
-    codes " " ++ key_type_text new.kind ++ codes " " ++ new.owner ++ codes " " ++ date_text new.activation
-    ++ codes " " ++ date_text new.protect_stop ++ codes " " ++ date_text new.deactivation ++ codes " " ++ new.purpose
-arguments_text (Activate key) = codes " " ++ decimal key
-arguments_text (SetDates key activation protect_stop deactivation) =
-    codes " " ++ decimal key ++ codes " " ++ edit_text activation ++ codes " " ++ edit_text protect_stop
-    ++ codes " " ++ edit_text deactivation
-arguments_text (Revoke key reason occurrence) =
-    codes " " ++ decimal key ++ codes " " ++ decimal (reason_code reason) ++ codes " " ++ date_text occurrence
-arguments_text (Assign key owner) = codes " " ++ decimal key ++ codes " " ++ owner
-arguments_text (AddCustodian key name) = codes " " ++ decimal key ++ codes " " ++ name
-arguments_text (RemoveCustodian key name) = codes " " ++ decimal key ++ codes " " ++ name
-arguments_text (Approve key) = codes " " ++ decimal key
-arguments_text (Withdraw key) = codes " " ++ decimal key
-arguments_text (Destroy key) = codes " " ++ decimal key
-arguments_text Advance = []
-arguments_text (SetQuorum key need) = codes " " ++ decimal key ++ codes " " ++ decimal need
-arguments_text (SetPeriod kind period) =
-    codes " " ++ key_type_text kind ++ codes " " ++ decimal period.originator ++ codes " " ++ decimal period.recipient
+-- The texts of a command's arguments in the order of its line. A purpose comes last, since it may hold spaces. Own.
+abbrev pub argument_texts : Command → List (List ℕ)
+argument_texts (Register new) =
+    key_type_text new.kind ∷ new.owner ∷ date_text new.activation ∷ date_text new.protect_stop
+    ∷ date_text new.deactivation ∷ new.purpose ∷ []
+argument_texts (Activate key) = decimal key ∷ []
+argument_texts (SetDates key activation protect_stop deactivation) =
+    decimal key ∷ edit_text activation ∷ edit_text protect_stop ∷ edit_text deactivation ∷ []
+argument_texts (Revoke key reason occurrence) = decimal key ∷ decimal (reason_code reason) ∷ date_text occurrence ∷ []
+argument_texts (Assign key owner) = decimal key ∷ owner ∷ []
+argument_texts (AddCustodian key name) = decimal key ∷ name ∷ []
+argument_texts (RemoveCustodian key name) = decimal key ∷ name ∷ []
+argument_texts (Approve key) = decimal key ∷ []
+argument_texts (Withdraw key) = decimal key ∷ []
+argument_texts (Destroy key) = decimal key ∷ []
+argument_texts Advance = []
+argument_texts (SetQuorum key need) = decimal key ∷ decimal need ∷ []
+argument_texts (SetPeriod kind period) = key_type_text kind ∷ decimal period.originator ∷ decimal period.recipient ∷ []
 
--- the word of a command, and what stands after it
+-- these texts, each after one space
+abbrev pub spaced : List (List ℕ) → List ℕ
+spaced texts = flat_map (λ text. codes " " ++ text) texts
+
+-- the word of a command, and its arguments
 abbrev pub command_text : Command → List ℕ
-command_text c = (rule c).word ++ arguments_text c
+command_text c = (rule c).word ++ spaced (argument_texts c)
 
 -- the one text of a request: its moment, caller, number and command, with a space between
 abbrev pub request_text : Request → List ℕ
-request_text q =
-    decimal q.moment ++ codes " " ++ q.caller ++ codes " " ++ decimal q.number ++ codes " " ++ command_text q.command
+request_text q = decimal q.moment ++ spaced (q.caller ∷ decimal q.number ∷ command_text q.command ∷ [])
 
 -- The bytes, without the LF that ends the line, are the text of a request whose values are in their ranges; they are at
 -- most 1024. Own.

@@ -80,7 +80,8 @@ impl CommandKind {
             CommandKind::Revoke => CommandForm { word: "revoke", shape: Shape::Revocation, since: First },
             CommandKind::Assign => CommandForm { word: "assign", shape: Shape::KeyAndName, since: First },
             CommandKind::AddCustodian => CommandForm { word: "add-custodian", shape: Shape::KeyAndName, since: First },
-            CommandKind::RemoveCustodian => CommandForm { word: "remove-custodian", shape: Shape::KeyAndName, since: First },
+            CommandKind::RemoveCustodian =>
+                CommandForm { word: "remove-custodian", shape: Shape::KeyAndName, since: First },
             CommandKind::Approve => CommandForm { word: "approve", shape: Shape::Key, since: First },
             CommandKind::Withdraw => CommandForm { word: "withdraw", shape: Shape::Key, since: First },
             CommandKind::Destroy => CommandForm { word: "destroy", shape: Shape::Key, since: First },

@@ -1,11 +1,11 @@
 //! Writes the text of a command, which is the end of a request's line: the word of its kind, and
 //! after it the kind's fields.
-ghost use Rattle.std.specs.Prelude.{◌≡◌, ◌+◌, ◌≤◌, ◌++◌, codes, decimal, length};
+ghost use Rattle.std.specs.Prelude.{◌≡◌, ◌+◌, ◌≤◌, ◌∷◌, [], ◌++◌, decimal};
 ghost use Rattle.arrayvec.specs.ArrayString.{array_string_len};
 ghost use Rattle.period_core.specs.KeyType.{key_type_text};
 ghost use Rattle.register_requests.specs.declared.request.Command.TheVariants.{SetDates, SetPeriod};
 ghost use Rattle.register_requests.specs.declared.request.Command.TheVariants.{Revoke};
-ghost use Rattle.register_requests.specs.Request.{arguments_text, command_text, date_text};
+ghost use Rattle.register_requests.specs.Request.{argument_texts, command_text, date_text, spaced};
 ghost use Rattle.register_requests.specs.Request.{edit_text};
 
 use crate::command_fields::MAX_WORD_LENGTH;
@@ -36,7 +36,7 @@ pub fn put_number<const N: usize>(line: &mut ArrayString<N>, number: u64)
 /// Appends a space, and after it the date, `-` for none.
 fn put_spaced_date<const N: usize>(line: &mut ArrayString<N>, date: Option<Moment>)
     requires { array_string_len line.old + 21 ≤ N }
-    ensures bytes { line.new.bytes ≡ line.old.bytes ++ codes " " ++ date_text date }
+    ensures bytes { line.new.bytes ≡ line.old.bytes ++ spaced (date_text date ∷ []) }
     ensures short { array_string_len line.new ≤ array_string_len line.old + 21 }
 {
     line.push_str(" ");
@@ -49,7 +49,7 @@ fn put_spaced_date<const N: usize>(line: &mut ArrayString<N>, date: Option<Momen
 /// Appends a space, and after it what becomes of a date.
 fn put_spaced_edit<const N: usize>(line: &mut ArrayString<N>, edit: Edit)
     requires { array_string_len line.old + 21 ≤ N }
-    ensures bytes { line.new.bytes ≡ line.old.bytes ++ codes " " ++ edit_text edit }
+    ensures bytes { line.new.bytes ≡ line.old.bytes ++ spaced (edit_text edit ∷ []) }
     ensures short { array_string_len line.new ≤ array_string_len line.old + 21 }
 {
     line.push_str(" ");
@@ -63,7 +63,7 @@ fn put_spaced_edit<const N: usize>(line: &mut ArrayString<N>, edit: Edit)
 /// Appends a space, and after it the number of a key.
 fn put_spaced_key_number(text: &mut ArrayString<MAX_COMMAND_LENGTH>, key: u32)
     requires { array_string_len text.old ≤ MAX_WORD_LENGTH }
-    ensures bytes { text.new.bytes ≡ text.old.bytes ++ codes " " ++ decimal key }
+    ensures bytes { text.new.bytes ≡ text.old.bytes ++ spaced (decimal key ∷ []) }
     ensures short { array_string_len text.new ≤ array_string_len text.old + 21 }
 {
     text.push_str(" ");
@@ -73,8 +73,7 @@ fn put_spaced_key_number(text: &mut ArrayString<MAX_COMMAND_LENGTH>, key: u32)
 /// Appends the number of a key and then a name, each with a space before it.
 fn put_spaced_key_and_name(text: &mut ArrayString<MAX_COMMAND_LENGTH>, key: u32, name: &Name)
     requires { array_string_len text.old ≤ MAX_WORD_LENGTH }
-    ensures { text.new.bytes ≡ text.old.bytes ++
-        (codes " " ++ decimal key ++ codes " " ++ name.now) }
+    ensures { text.new.bytes ≡ text.old.bytes ++ spaced (decimal key ∷ name.now ∷ []) }
 {
     put_spaced_key_number(text, key);
     text.push_str(" ");
@@ -84,8 +83,7 @@ fn put_spaced_key_and_name(text: &mut ArrayString<MAX_COMMAND_LENGTH>, key: u32,
 /// Appends the number of a key and then a number of approvals, each with a space before it.
 fn put_spaced_key_and_need(text: &mut ArrayString<MAX_COMMAND_LENGTH>, key: u32, need: Quorum)
     requires { array_string_len text.old ≤ MAX_WORD_LENGTH }
-    ensures { text.new.bytes ≡ text.old.bytes ++
-        (codes " " ++ decimal key ++ codes " " ++ decimal need) }
+    ensures { text.new.bytes ≡ text.old.bytes ++ spaced (decimal key ∷ decimal need ∷ []) }
 {
     put_spaced_key_number(text, key);
     text.push_str(" ");
@@ -99,7 +97,7 @@ fn put_spaced_type_and_period(
     period: Period,
 )
     requires { array_string_len text.old ≤ MAX_WORD_LENGTH }
-    ensures { text.new.bytes ≡ text.old.bytes ++ arguments_text (SetPeriod kind period) }
+    ensures { text.new.bytes ≡ text.old.bytes ++ spaced (argument_texts (SetPeriod kind period)) }
 {
     text.push_str(" ");
     text.push_str(kind.text());
@@ -117,7 +115,7 @@ fn put_spaced_type_and_owner(
 )
     requires { array_string_len text.old ≤ MAX_WORD_LENGTH }
     ensures bytes { text.new.bytes ≡ text.old.bytes ++
-        (codes " " ++ key_type_text kind ++ codes " " ++ owner.now) }
+        spaced (key_type_text kind ∷ owner.now ∷ []) }
     ensures short { array_string_len text.new ≤ array_string_len text.old + 90 }
 {
     text.push_str(" ");
@@ -136,7 +134,7 @@ fn put_spaced_date_edits(
 )
     requires { array_string_len text.old ≤ MAX_WORD_LENGTH }
     ensures { text.new.bytes ≡ text.old.bytes ++
-        arguments_text (SetDates key activation protect_stop deactivation) }
+        spaced (argument_texts (SetDates key activation protect_stop deactivation)) }
 {
     put_spaced_key_number(text, key);
     put_spaced_edit(text, activation);
@@ -152,7 +150,8 @@ fn put_spaced_revocation(
     occurrence: Option<Moment>,
 )
     requires { array_string_len text.old ≤ MAX_WORD_LENGTH }
-    ensures { text.new.bytes ≡ text.old.bytes ++ arguments_text (Revoke key reason occurrence) }
+    ensures { text.new.bytes ≡ text.old.bytes ++
+        spaced (argument_texts (Revoke key reason occurrence)) }
 {
     put_spaced_key_number(text, key);
     text.push_str(" ");
@@ -163,7 +162,7 @@ fn put_spaced_revocation(
 /// Appends what the command names after its word, each with a space before it.
 fn put_spaced_arguments(text: &mut ArrayString<MAX_COMMAND_LENGTH>, command: &Command)
     requires { array_string_len text.old ≤ MAX_WORD_LENGTH }
-    ensures { text.new.bytes ≡ text.old.bytes ++ arguments_text command.now }
+    ensures { text.new.bytes ≡ text.old.bytes ++ spaced (argument_texts command.now) }
 {
     match *command {
         Command::Advance => {}

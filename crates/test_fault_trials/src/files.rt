@@ -2,7 +2,7 @@
 //!
 //! A function that names the type of the store costs about a minute in a proof, and any other a few
 //! seconds. So it stands in [`over_files`] alone, over any disk, and is handed what to do as a
-//! [`Task`]; and the disk stands in [`files_of`] and [`Lab::try_out`].
+//! [`FileTask`]; and the disk stands in [`files_of`] and [`Lab::try_out`].
 ghost use Rattle.std.specs.Prelude.{◌≡◌, false, IfOk, IsTrue};
 ghost use Rattle.sqlite_disk.specs.Memory.{memory_is_usable};
 
@@ -17,7 +17,7 @@ use test_faulty_devices::{Counter, Plan, Planned};
 
 /// The files of a register that have the calls that fail.
 #[derive(Clone, Copy, Debug, PartialEq, Eq)]
-pub enum Place {
+pub enum FaultPlace {
     Log,
     Database,
     /// Both: their calls are counted together, and they stop together.
@@ -27,13 +27,13 @@ pub enum Place {
 /// Which calls of which files fail.
 #[derive(Clone, Copy, Debug, PartialEq, Eq)]
 pub struct Fault {
-    pub place: Place,
+    pub place: FaultPlace,
     pub plan: Plan,
 }
 
 /// No call fails.
 pub const HONEST: Fault = Fault {
-    place: Place::Machine,
+    place: FaultPlace::Machine,
     plan: Plan::Honest,
 };
 
@@ -49,9 +49,9 @@ impl Fault {
     /// The plan of the log, and that of the database file.
     fn plans(self) -> (Plan, Plan) {
         match self.place {
-            Place::Log => (self.plan, Plan::Honest),
-            Place::Database => (Plan::Honest, self.plan),
-            Place::Machine => (self.plan, self.plan),
+            FaultPlace::Log => (self.plan, Plan::Honest),
+            FaultPlace::Database => (Plan::Honest, self.plan),
+            FaultPlace::Machine => (self.plan, self.plan),
         }
     }
 }
@@ -67,7 +67,7 @@ pub struct Left {
 }
 
 /// What is done with a connection to files of which calls fail.
-pub trait Task {
+pub trait FileTask {
     type Outcome: Drop;
 
     /// Does it, and gives the store back, whatever came of it.
@@ -140,7 +140,7 @@ struct OverDesk<'a, T> {
     task: &'a T,
 }
 
-impl<T: DeskTask> Task for OverDesk<'_, T> {
+impl<T: DeskTask> FileTask for OverDesk<'_, T> {
     type Outcome = Result<T::Outcome, OpenRefusal>;
 
     fn perform<S: Alter + Drop>(
@@ -237,7 +237,7 @@ fn left_of(alloc: Global, files: Files<Planned<Memory>>) -> Result<Left, Fail> {
 }
 
 /// Does it over the files, and gives these back; `None` where the connection was refused.
-fn over_files<D: Disk + Drop, T: Task>(
+fn over_files<D: Disk + Drop, T: FileTask>(
     alloc: Global,
     files: Files<D>,
     options: Options,
@@ -274,7 +274,7 @@ impl Lab {
     }
 
     /// Does it over copies of the files; `None` where the connection was refused.
-    pub fn try_out<T: Task>(
+    pub fn try_out<T: FileTask>(
         &self,
         files: &Contents,
         fault: Fault,
@@ -286,7 +286,7 @@ impl Lab {
     }
 
     /// Does it over files of which no call fails. What comes of it, and the files.
-    pub fn carry_out<T: Task>(
+    pub fn carry_out<T: FileTask>(
         &self,
         files: &Contents,
         task: &T,
@@ -374,7 +374,7 @@ struct Running<'a> {
     statements: &'a str,
 }
 
-impl Task for Running<'_> {
+impl FileTask for Running<'_> {
     type Outcome = String;
 
     fn perform<S: Alter + Drop>(

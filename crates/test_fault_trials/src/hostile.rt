@@ -1,7 +1,7 @@
 //! Malicious bytes: none of them changes a register.
 use crate::contents::Contents;
 use crate::files::{DeskTask, Entry, HONEST, Lab, NoDesk, Nothing};
-use crate::texts::{ADVANCE, EXCHANGE, IMPORT, IMPORT_HEAD, KEY, Text, join};
+use crate::texts::{ADVANCE, EXCHANGE, IMPORT, IMPORT_HEAD, KEY, TextParts, join};
 use crate::trials::files_with;
 use register_desk::OpenRefusal;
 use std::alloc::Global;
@@ -12,7 +12,7 @@ use test_desk_trials::{Call, TriedDesk, make_call};
 #[derive(Clone, Copy)]
 struct Hostile {
     call: Call,
-    head: Text,
+    head: TextParts,
     piece: &'static [u8],
     count: usize,
     tail: &'static str,

@@ -2,15 +2,15 @@
 use crate::contents::Contents;
 use crate::files::{DeskTask, Entry, Lab};
 use crate::texts::{
-    ADVANCE, EXCHANGE, Exchange, IMPORT, IMPORT_HEAD, IMPORT_ROWS, IMPORTED, IN_USE, KEY,
-    REGISTERED, ROTATION, Text, join,
+    ADVANCE, EXCHANGE, IMPORT, IMPORT_HEAD, IMPORT_ROWS, IMPORTED, IN_USE, KEY, LineAndReply,
+    REGISTERED, ROTATION, TextParts, join,
 };
 use crate::trials::{files_with, rows_by_step};
 use register_desk::{End, Finish, Outcome};
 use std::alloc::{AllocError, Global};
 use std::test::Fail;
 use test_desk_trials::{Call, TriedDesk};
-use test_faulty_devices::{Counted, Counter, OneByte, Trouble, Troubled};
+use test_faulty_devices::{CountedTurns, Counter, OneByte, Trouble, Troubled};
 use test_worked_rows::{Cells, export_of};
 
 /// More turns than any call takes.
@@ -19,7 +19,7 @@ const MAX_TURNS: usize = 5000;
 /// What a call is to write.
 #[derive(Clone, Copy)]
 enum Output {
-    Pieces(Text),
+    Pieces(TextParts),
     /// The export of one key with these cells.
     Export(Cells<'static>),
 }
@@ -39,8 +39,8 @@ struct Lent {
     name: &'static str,
     call: Call,
     /// The requests that it sends.
-    sent: &'static [Exchange],
-    input: Text,
+    sent: &'static [LineAndReply],
+    input: TextParts,
     output: Output,
 }
 
@@ -76,8 +76,8 @@ impl Case {
     }
 
     /// The trouble, with a counter.
-    fn count(self, turns: Counter) -> Counted {
-        Counted {
+    fn count(self, turns: Counter) -> CountedTurns {
+        CountedTurns {
             trouble: self.trouble,
             stays: self.stays,
             turns,
@@ -137,7 +137,7 @@ struct Given {
 
 /// What a call did, and how many turns the troubled stream then had had.
 #[derive(Drop)]
-struct Done {
+struct Performed {
     outcome: Outcome,
     output: Vec<u8>,
     turns: u64,
@@ -152,9 +152,9 @@ struct Lending<'a> {
 }
 
 impl DeskTask for Lending<'_> {
-    type Outcome = Done;
+    type Outcome = Performed;
 
-    fn perform<D: TriedDesk>(&self, alloc: Global, desk: &mut D) -> Result<Done, Fail> {
+    fn perform<D: TriedDesk>(&self, alloc: Global, desk: &mut D) -> Result<Performed, Fail> {
         let (good_reads, good_writes) = self.case.good_turns(self.good);
         let (reads, writes) = (Counter::new(alloc)?, Counter::new(alloc)?);
         let reader = Troubled {
@@ -170,7 +170,7 @@ impl DeskTask for Lending<'_> {
         let ended = desk.call(alloc, self.given.call, reader, writer);
         let outcome = ended.outcome;
         let writer = ended.writer;
-        Ok(Done {
+        Ok(Performed {
             outcome,
             output: writer.inner,
             turns: match self.case.stream {
@@ -188,7 +188,7 @@ fn lend(
     given: &Given,
     case: Case,
     good: usize,
-) -> Result<(Done, Contents), Fail> {
+) -> Result<(Performed, Contents), Fail> {
     lab.carry_out_at_desk(files, Entry::Opening, &Lending { given, case, good })
 }
 
@@ -205,21 +205,21 @@ impl Given {
     }
 
     /// Whether the call went as where no turn is troubled.
-    fn is_whole(&self, done: &Done) -> bool {
+    fn is_whole(&self, done: &Performed) -> bool {
         done.outcome.end == Finish::AtEnd { rest: 0 }
             && done.output.as_slice() == self.output.as_bytes()
             && done.outcome.written == self.output.len() as u64
     }
 
     /// Whether it ended so, and what was written is a prefix of what was to be written.
-    fn is_prefix(&self, done: &Done, end: End) -> bool {
+    fn is_prefix(&self, done: &Performed, end: End) -> bool {
         done.outcome.end == Finish::Ended(end)
             && self.output.as_bytes().starts_with(&done.output)
             && done.outcome.written == done.output.len() as u64
     }
 
     /// How many requests have acted, if the call ended as it may after so many good turns.
-    fn steps_of(&self, case: Case, done: &Done, good: usize) -> Option<usize> {
+    fn steps_of(&self, case: Case, done: &Performed, good: usize) -> Option<usize> {
         if case.stays && done.turns != case.turns_at_end(good) as u64 {
             return None;
         }

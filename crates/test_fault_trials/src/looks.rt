@@ -1,6 +1,6 @@
 //! Calls that read a register of twenty keys, of which a look-up fails.
 use crate::contents::Contents;
-use crate::files::{DeskTask, Entry, Fault, Lab, Place};
+use crate::files::{DeskTask, Entry, Fault, FaultPlace, Lab};
 use crate::keys::{ALL, DUE, export_text, is_answered, report_text, twenty_keys};
 use crate::sending::{Came, is_broken, of_reply};
 use crate::texts::{EXCHANGE, IN_USE, ROTATION};
@@ -144,10 +144,10 @@ fn place_not_refused(
     files: &Contents,
     texts: &Texts,
     looked: Look,
-) -> Result<Option<Place>, Fail> {
+) -> Result<Option<FaultPlace>, Fail> {
     // What was copied into the database file is read there. The log may have nothing that a look at
     // one key needs.
-    for (place, least) in [(Place::Log, 0), (Place::Database, 1)] {
+    for (place, least) in [(FaultPlace::Log, 0), (FaultPlace::Database, 1)] {
         let fault = Fault {
             place,
             plan: Plan::FailRead(0),
@@ -161,7 +161,7 @@ fn place_not_refused(
 }
 
 /// The first look of which a read does not fail as it should, with the place of the file.
-pub fn look_at_fault(alloc: Global) -> Result<Option<(Look, Place)>, Fail> {
+pub fn look_at_fault(alloc: Global) -> Result<Option<(Look, FaultPlace)>, Fail> {
     let lab = Lab::new(alloc);
     let files = twenty_keys(lab)?;
     let texts = Texts {

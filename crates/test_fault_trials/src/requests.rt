@@ -1,13 +1,13 @@
 //! The trials, as data.
 use crate::files::Entry;
 use crate::sending::Way;
-use crate::texts::{Exchange, IMPORT_ROWS, IMPORTED, KEY, REGISTERED};
+use crate::texts::{IMPORT_ROWS, IMPORTED, KEY, LineAndReply, REGISTERED};
 use crate::trials::Trial;
 
 /// A day on which each command is accepted, of a ninth key. At each moment from 1100 to 2600 one of
 /// the first eight has just been activated or deactivated by the time.
 #[rattlefmt::skip]
-pub static DAY: [Exchange; 30] = [
+pub static DAY: [LineAndReply; 30] = [
     ("100 ann 1 register data-encryption bob 1050 1100 1150 disks", "ok 1 Pre-Active 100"),
     ("100 ann 2 register data-encryption bob 1250 1300 1350 disks", "ok 2 Pre-Active 100"),
     ("100 ann 3 register data-encryption bob 1450 1500 1550 disks", "ok 3 Pre-Active 100"),
@@ -73,13 +73,13 @@ pub fn opening() -> Trial {
 }
 
 /// The request of the worked row *defaults*.
-const DEFAULTS: Exchange = (
+const DEFAULTS: LineAndReply = (
     "100 ann 1 register data-encryption bob 0 - - payroll disks",
     "ok 1 Active 100",
 );
 
 /// The same with an earlier moment.
-const AT_50: Exchange = (
+const AT_50: LineAndReply = (
     "50 ann 1 register data-encryption bob 0 - - payroll disks",
     "ok 1 Active 100",
 );
@@ -87,7 +87,7 @@ const AT_50: Exchange = (
 /// The worked row *one approval is too few*, up to its refused Destroy, after which the key is
 /// Active still.
 #[rattlefmt::skip]
-const ONE_APPROVAL: &[Exchange] = &[
+const ONE_APPROVAL: &[LineAndReply] = &[
     ("100 ann 1 register master bob 1000 2000 2000 root", "ok 1 Pre-Active 100"),
     ("101 bob 1 add-custodian 1 cat", "ok 1 Pre-Active 101"),
     ("102 bob 2 add-custodian 1 dan", "ok 1 Pre-Active 102"),
@@ -96,11 +96,11 @@ const ONE_APPROVAL: &[Exchange] = &[
 ];
 
 #[rattlefmt::skip]
-const TOO_FEW: Exchange = ("2000 bob 3 destroy 1", "refused 18 ApprovalsMissing have=1 need=2");
+const TOO_FEW: LineAndReply = ("2000 bob 3 destroy 1", "refused 18 ApprovalsMissing have=1 need=2");
 
 /// Five lines, one of which is no request; time moves two keys in the last.
 #[rattlefmt::skip]
-const FIVE: &[Exchange] = &[
+const FIVE: &[LineAndReply] = &[
     ("100 ann 2 register master bob 500 600 600 root", "ok 2 Pre-Active 100"),
     ("101 bob 1 add-custodian 2 cat", "ok 2 Pre-Active 101"),
     ("101 bob  2 advance", "refused 1 BadLine"),

@@ -1,6 +1,6 @@
 //! Requests that are sent over a register, and what came of it.
 use crate::files::Entry;
-use crate::texts::{EXCHANGE, Exchange, IMPORT, IMPORT_HEAD, join};
+use crate::texts::{EXCHANGE, IMPORT, IMPORT_HEAD, LineAndReply, join};
 use register_desk::{End, Finish};
 use std::alloc::Global;
 use std::test::Fail;
@@ -36,7 +36,7 @@ const STORE: &str =
     Connection: close\r\n\r\n{\"end\":31,\"name\":\"Store\"}";
 
 /// The request lines, and the reply lines to them.
-fn texts_of(alloc: Global, sent: &[Exchange]) -> Result<(String, String), Fail> {
+fn texts_of(alloc: Global, sent: &[LineAndReply]) -> Result<(String, String), Fail> {
     let mut lines = String::new(alloc);
     let mut replies = String::new(alloc);
     for (line, reply) in sent {
@@ -47,7 +47,7 @@ fn texts_of(alloc: Global, sent: &[Exchange]) -> Result<(String, String), Fail> 
 }
 
 /// What came of lines or of a table.
-fn of_items(alloc: Global, sent: &[Exchange], called: &Called) -> Result<Came, Fail> {
+fn of_items(alloc: Global, sent: &[LineAndReply], called: &Called) -> Result<Came, Fail> {
     let count = called.outcome.replies as usize;
     let Some(answered) = sent.get(..count) else {
         return Ok(Came::Wrong);
@@ -77,7 +77,7 @@ pub fn of_reply(called: &Called, reply: &str) -> Came {
 pub fn send<D: TriedDesk>(
     alloc: Global,
     desk: &mut D,
-    sent: &[Exchange],
+    sent: &[LineAndReply],
     way: Way,
 ) -> Result<Came, Fail> {
     let (call, input) = match way {

@@ -1,5 +1,5 @@
 //! Stops: from each call on, all calls of a file fail. Failures: one call of a file does.
-use crate::files::{Entry, Fault, Lab, Place};
+use crate::files::{Entry, Fault, FaultPlace, Lab};
 use crate::requests::{
     BEGINNINGS, DAY, FIRST_OF_DAY, SEVERAL, SINGLE, last_of_day, of_day, opening,
 };
@@ -16,24 +16,24 @@ pub type Wrong = (&'static str, usize, Fault, Odd);
 /// The machine stops, or one of its files does.
 #[rattlefmt::skip]
 static STOPS: [Fault; 3] = [
-    Fault { place: Place::Database, plan: Plan::Stop(0) },
-    Fault { place: Place::Log, plan: Plan::Stop(0) },
-    Fault { place: Place::Machine, plan: Plan::Stop(0) },
+    Fault { place: FaultPlace::Database, plan: Plan::Stop(0) },
+    Fault { place: FaultPlace::Log, plan: Plan::Stop(0) },
+    Fault { place: FaultPlace::Machine, plan: Plan::Stop(0) },
 ];
 
 /// A call of each file fails, and it goes on.
 #[rattlefmt::skip]
 static FAILURES: [Fault; 4] = [
-    Fault { place: Place::Database, plan: Plan::FailRead(0) },
-    Fault { place: Place::Database, plan: Plan::FailOther(0) },
-    Fault { place: Place::Log, plan: Plan::FailRead(0) },
-    Fault { place: Place::Log, plan: Plan::FailOther(0) },
+    Fault { place: FaultPlace::Database, plan: Plan::FailRead(0) },
+    Fault { place: FaultPlace::Database, plan: Plan::FailOther(0) },
+    Fault { place: FaultPlace::Log, plan: Plan::FailRead(0) },
+    Fault { place: FaultPlace::Log, plan: Plan::FailOther(0) },
 ];
 
 /// A call fails for want of memory in the disk, and it goes on. That is no refused growth of the
 /// program.
 static WANTS: [Fault; 1] = [Fault {
-    place: Place::Machine,
+    place: FaultPlace::Machine,
     plan: Plan::LackMemory(0),
 }];
 
@@ -56,8 +56,8 @@ fn least_steps(trial: &Trial, fault: Fault) -> u64 {
         Plan::Stop(_) | Plan::LackMemory(_) => writes.saturating_add(reads),
     };
     match fault.place {
-        Place::Log | Place::Database => of_file,
-        Place::Machine => of_file.saturating_mul(2),
+        FaultPlace::Log | FaultPlace::Database => of_file,
+        FaultPlace::Machine => of_file.saturating_mul(2),
     }
 }
 

@@ -3,10 +3,10 @@ use std::alloc::{AllocError, Global};
 use test_desk_trials::Call;
 
 /// A request line and its reply line, each without its LF.
-pub type Exchange = (&'static str, &'static str);
+pub type LineAndReply = (&'static str, &'static str);
 
 /// A text in pieces, some of which stand in other texts too.
-pub type Text = &'static [&'static str];
+pub type TextParts = &'static [&'static str];
 
 /// The pieces, one after the other.
 pub fn join(alloc: Global, text: &[&str]) -> Result<String, AllocError> {
@@ -18,13 +18,13 @@ pub fn join(alloc: Global, text: &[&str]) -> Result<String, AllocError> {
 }
 
 /// A register with one key, which is deactivated at 900.
-pub const KEY: &[Exchange] = &[(
+pub const KEY: &[LineAndReply] = &[(
     "50 eve 1 register data-encryption bob 0 700 900 old disks",
     "ok 1 Active 50",
 )];
 
 /// A registration over it.
-pub const REGISTERED: Exchange = (
+pub const REGISTERED: LineAndReply = (
     "100 ann 1 register master bob - - - x",
     "ok 2 Pre-Active 100",
 );
@@ -51,7 +51,7 @@ pub const IMPORT_ROWS: &str = "data-encryption,bob,1970-01-01T00:00:00Z,,,\"disk
 
 /// What these rows ask for over the register with one key, at 100, of the caller ann, from number 1
 /// on.
-pub const IMPORTED: &[Exchange] = &[
+pub const IMPORTED: &[LineAndReply] = &[
     (
         "100 ann 1 register data-encryption bob 0 - - disks, payroll",
         "ok 2 Active 100",

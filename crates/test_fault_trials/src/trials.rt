@@ -4,7 +4,7 @@ use crate::contents::{Contents, Stopped};
 use crate::files::{DeskTask, Entry, Fault, HONEST, Lab, Left, NoDesk, Nothing};
 use crate::leaving::{LEAVINGS, Leaving};
 use crate::sending::{Came, Way, is_broken, send};
-use crate::texts::Exchange;
+use crate::texts::LineAndReply;
 use register_desk::OpenRefusal;
 use std::alloc::Global;
 use std::test::Fail;
@@ -18,8 +18,8 @@ const MAX_CALLS: u64 = 5000;
 pub struct Trial {
     pub name: &'static str,
     /// The requests that made the register.
-    pub before: &'static [Exchange],
-    pub sent: &'static [Exchange],
+    pub before: &'static [LineAndReply],
+    pub sent: &'static [LineAndReply],
     pub way: Way,
     /// How many transactions of the database it takes.
     pub commits: u64,
@@ -66,7 +66,7 @@ struct Made {
 /// Sends requests. A desk that was refused is broken.
 #[derive(Drop)]
 struct Sending<'a> {
-    sent: &'a [Exchange],
+    sent: &'a [LineAndReply],
     way: Way,
 }
 
@@ -101,7 +101,7 @@ impl DeskTask for Repeating<'_> {
 }
 
 /// The files after the requests, which are answered as they should be.
-fn files_after(lab: Lab, files: &Contents, sent: &[Exchange]) -> Result<Contents, Fail> {
+fn files_after(lab: Lab, files: &Contents, sent: &[LineAndReply]) -> Result<Contents, Fail> {
     let sending = Sending {
         sent,
         way: Way::Lines,
@@ -113,7 +113,7 @@ fn files_after(lab: Lab, files: &Contents, sent: &[Exchange]) -> Result<Contents
 }
 
 /// The files of the register with these requests.
-pub fn files_with(lab: Lab, sent: &[Exchange]) -> Result<Contents, Fail> {
+pub fn files_with(lab: Lab, sent: &[LineAndReply]) -> Result<Contents, Fail> {
     files_after(lab, &lab.new_files()?, sent)
 }
 
@@ -121,7 +121,7 @@ pub fn files_with(lab: Lab, sent: &[Exchange]) -> Result<Contents, Fail> {
 fn take_step(
     lab: Lab,
     files: &Contents,
-    one: &[Exchange],
+    one: &[LineAndReply],
     rows: &mut Vec<String>,
 ) -> Result<Contents, Fail> {
     let files = files_after(lab, files, one)?;
@@ -130,7 +130,11 @@ fn take_step(
 }
 
 /// The rows of the register, and then with each request more.
-pub fn rows_by_step(lab: Lab, before: &[Exchange], sent: &[Exchange]) -> Result<Vec<String>, Fail> {
+pub fn rows_by_step(
+    lab: Lab,
+    before: &[LineAndReply],
+    sent: &[LineAndReply],
+) -> Result<Vec<String>, Fail> {
     let mut rows = Vec::new(lab.alloc);
     let mut files = files_with(lab, before)?;
     rows.push(lab.rows_in(&files)?)?;
@@ -290,15 +294,23 @@ impl Looked {
     }
 }
 
+/// What was looked at in a trial, and how often it ended so.
+#[derive(Drop)]
+struct Search {
+    looked: Looked,
+    last: Option<Remains>,
+    count: Count,
+}
+
 /// Looks at all that may be left of the files. Gives the first that is not as it should be.
 fn look_at_all(
     lab: Lab,
     trial: &Trial,
     made: &Made,
     after: &Remains,
-    looked: &mut Looked,
-    count: &mut Count,
+    search: &mut Search,
 ) -> Result<Option<Leaving>, Fail> {
+    let Search { looked, count, .. } = search;
     if looked.steps != after.steps {
         *looked = Looked::new(lab.alloc, after.steps);
     }
@@ -347,14 +359,6 @@ fn leave_behind(
     Ok(Ok((Remains { steps, stopped }, is_over)))
 }
 
-/// What was looked at in a trial, and how often it ended so.
-#[derive(Drop)]
-struct Search {
-    looked: Looked,
-    last: Option<Remains>,
-    count: Count,
-}
-
 /// Makes an attempt and looks at what it leaves: whether no call failed any more, or what went
 /// otherwise than it should.
 fn try_one(
@@ -369,8 +373,7 @@ fn try_one(
         Err(came) => return Ok(Err((Some(came), None))),
     };
     if !is_seen(&search.last, &after) {
-        let Search { looked, count, .. } = search;
-        let odd = look_at_all(lab, trial, made, &after, looked, count)?;
+        let odd = look_at_all(lab, trial, made, &after, search)?;
         if odd.is_some() {
             return Ok(Err((None, odd)));
         }

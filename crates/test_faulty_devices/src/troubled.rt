@@ -45,7 +45,7 @@ impl Troubling for Trouble {
 
 /// A trouble that comes once or stays, of a stream whose turns are counted.
 #[derive(Drop)]
-pub struct Counted {
+pub struct CountedTurns {
     pub trouble: Trouble,
     /// Whether each turn after the good ones is troubled; else one is, and those after it go well.
     pub stays: bool,
@@ -53,7 +53,7 @@ pub struct Counted {
     pub turns: Counter,
 }
 
-impl Troubling for Counted {
+impl Troubling for CountedTurns {
     fn begin_turn(&self, good_turns: &mut usize) -> Result<bool> {
         self.turns.next();
         let is_good = *good_turns > 0;

@@ -160,16 +160,14 @@ fn dates_with(
     history: &[Request],
     kind: KeyType,
     before: Dates,
-    key: u32,
-    made: u32,
     request: &Request,
+    concerns_key: bool,
 ) -> Dates
-    requires { made + 1 < 2 ^ 32 }
-    ensures { result ≡ (if is_key key (key_concerned made request.now.command)
+    ensures { result ≡ (if concerns_key
         then dates_after (period history.now kind) before request.now.moment request.now.command
         else before) }
 {
-    if concerns(key, made, &request.command) {
+    if concerns_key {
         let period = period(history, kind);
         dates_after(period, &before, request.moment, &request.command)
     } else {
@@ -188,7 +186,8 @@ pub fn dates(history: &[Request], key: u32) -> Dates
     let mut made = 0;
     for at in 0..history.len() {
         let request = &history[at];
-        dates = dates_with(&history[..at], kind, dates, key, made, request);
+        let concerns_key = concerns(key, made, &request.command);
+        dates = dates_with(&history[..at], kind, dates, request, concerns_key);
         made += made_by(&request.command);
     }
     dates

@@ -1,7 +1,8 @@
 -- What functions within the crate say of one another, beside `specs/CommandValue.antt`.
 use Rattle.std.specs.Prelude.{◌≡◌}
 use Rattle.register_requests.specs.{declared.command_fields.Fields.Fields, declared.command_fields.Shape.Shape}
-use Rattle.register_requests.specs.{declared.command_fields.CommandKind.CommandKind, Fields.shape_of, Within.Fields.AreFieldsInRange}
+use Rattle.register_requests.specs.{declared.command_fields.CommandKind.CommandKind, Fields.shape_of}
+use Rattle.register_requests.specs.Within.Fields.{AreFieldsInRange}
 use Rattle.serde_json.specs.Data.{Data, Members}
 use Rattle.http_messages.specs.CommandValue.{fields_members}
 

@@ -33,7 +33,8 @@ impl<S: Alter> Desk<S> {
         ensures latest { IfOk result (λ view. view.latest ≡ self.new.latest) }
         ensures keys { IfOk result (λ view. view.keys ≡ self.new.keys) }
         ensures right { IfOk result (λ view. IsRightKey view.key view.latest) }
-        ensures memory { result ≡ Err StoreError.Memory → looks_at_custody request.now.command ≡ true }
+        ensures memory { result ≡ Err StoreError.Memory
+            → looks_at_custody request.now.command ≡ true }
         ensures there { IfOk result (λ view. view.key ≡ None
             → (request.now.moment < self.old.latest)
             ⊎ NamesNoKey self.old.keys request.now.command) }
@@ -96,7 +97,8 @@ impl<S: Alter> Desk<S> {
         requires opened { IsOpen S.Store self.old }
         ensures looks { LooksUp S.Store 38 self.old self.new result }
         ensures right { IfOk result (λ key. IsRightKey key self.old.latest) }
-        ensures memory { result ≡ Err StoreError.Memory → looks_at_custody request.now.command ≡ true }
+        ensures memory { result ≡ Err StoreError.Memory
+            → looks_at_custody request.now.command ≡ true }
         ensures there { IfOk result (λ key. key ≡ None
             → (request.now.moment < self.old.latest)
             ⊎ NamesNoKey self.old.keys request.now.command) }

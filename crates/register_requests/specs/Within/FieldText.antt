@@ -6,7 +6,8 @@ use Rattle.lifecycle_core.specs.{declared.reason.Reason.Reason, Reason.reason_co
 use Rattle.period_core.specs.Period.{Period}
 use Rattle.register_requests.specs.declared.command_fields.Fields.{Fields}
 use Rattle.register_requests.specs.Within.Fields.{AreFieldsInRange, command_of}
-use Rattle.register_requests.specs.{declared.command_fields.Shape.Shape, Fields.shape_of, Request.arguments_text}
+use Rattle.register_requests.specs.{declared.command_fields.Shape.Shape, Fields.shape_of, Request.argument_texts}
+use Rattle.register_requests.specs.Request.{spaced}
 
 -- ---- the text of one field
 
@@ -56,13 +57,13 @@ IsItself = Writes IsAny itself
 
 -- a period is written by its months, with a space between
 abbrev pub period_text : Period → List ℕ
-period_text p = decimal p.originator ++ codes " " ++ decimal p.recipient
+period_text p = decimal p.originator ++ spaced (decimal p.recipient ∷ [])
 
 -- the bytes are the text of fields of this shape
 pub record AreFieldsOf (shape : Shape) (bytes : List ℕ) (fields : Fields) : Type 0 where
   pub in_range : AreFieldsInRange fields
   pub shape_is : shape_of fields ≡ shape
-  pub text : bytes ≡ arguments_text (command_of fields)
+  pub text : bytes ≡ spaced (argument_texts (command_of fields))
 
 -- what stands after a word: a space with fields after it, or nothing
 abbrev pub after_word : Option (List ℕ) → List ℕ

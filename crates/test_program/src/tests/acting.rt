@@ -60,10 +60,19 @@ fn act_on<S: Start, R: Read + Drop, W: Write + Drop, E: Write + Drop>(
 
 /// What the program did.
 #[derive(Drop)]
-pub struct Done {
+pub struct ProcessOutput {
     pub status: u8,
     pub output: Vec<u8>,
     pub faults: Vec<u8>,
+}
+
+impl ProcessOutput {
+    /// Whether it ended with this status, wrote these lines, and named this fault, if any.
+    pub fn is(&self, status: u8, output: &[u8], faults: &str) -> bool {
+        self.status == status
+            && self.output.as_slice() == output
+            && self.faults.as_slice() == faults.as_bytes()
+    }
 }
 
 /// How many turns of each of the program's streams go well, and the trouble that it has then.
@@ -90,7 +99,7 @@ pub fn acted_over(
     given: &[&str],
     input: &[u8],
     turns: Turns,
-) -> Result<Done, Fail> {
+) -> Result<ProcessOutput, Fail> {
     let trouble = turns.trouble;
     let mut output = Vec::new(rt.alloc());
     let mut faults = Vec::new(rt.alloc());
@@ -110,7 +119,7 @@ pub fn acted_over(
         good_turns: turns.faults,
     };
     let status = act_on(rt, Wary, given, reader, (writer, namer))?;
-    Ok(Done {
+    Ok(ProcessOutput {
         status,
         output,
         faults,
@@ -118,25 +127,29 @@ pub fn acted_over(
 }
 
 /// What the program does with these words over this input.
-pub fn acted(rt: &HostRuntime, given: &[&str], input: &[u8]) -> Result<Done, Fail> {
+pub fn acted(rt: &HostRuntime, given: &[&str], input: &[u8]) -> Result<ProcessOutput, Fail> {
     acted_over(rt, given, input, UNTROUBLED)
 }
 
-/// Whether the program ends with this status, writes these lines, and names this fault, if any.
-pub fn does(
+/// Whether the program ends well and writes these lines.
+pub fn succeeds(
+    rt: &HostRuntime,
+    given: &[&str],
+    input: &[u8],
+    output: &[u8],
+) -> Result<bool, Fail> {
+    Ok(acted(rt, given, input)?.is(0, output, ""))
+}
+
+/// Whether the program ends with this status, writes nothing, and names this fault.
+pub fn fails(
     rt: &HostRuntime,
     given: &[&str],
     input: &[u8],
     status: u8,
-    output: &[u8],
     faults: &str,
 ) -> Result<bool, Fail> {
-    let done = acted(rt, given, input)?;
-    Ok(
-        done.status == status
-            && done.output.as_slice() == output
-            && done.faults.as_slice() == faults.as_bytes(),
-    )
+    Ok(acted(rt, given, input)?.is(status, b"", faults))
 }
 
 /// What the program is given, and what it does.
@@ -151,8 +164,8 @@ pub struct Act {
 
 /// Whether the program does so.
 pub fn is_done(rt: &HostRuntime, act: &Act) -> Result<bool, Fail> {
-    let output = act.output.as_bytes();
-    does(rt, act.words, act.input, act.status, output, act.faults)
+    let done = acted(rt, act.words, act.input)?;
+    Ok(done.is(act.status, act.output.as_bytes(), act.faults))
 }
 
 /// Runs the statement on the register in the file, whoever opens it.

@@ -1,5 +1,5 @@
 //! The program's words and exit statuses, and what it names on standard error.
-use super::acting::{Turns, UNTROUBLED, acted, acted_over, does};
+use super::acting::{Turns, UNTROUBLED, acted, acted_over, succeeds};
 use register_desk::{MAX_IDLE_TURNS, MAX_READS};
 use std::test::Fail;
 use test_faulty_devices::Trouble;
@@ -9,7 +9,7 @@ use test_worked_rows::{WorkedRow, first_day, input_of, output_of, tables};
 fn is_served(rt: &HostRuntime, row: &WorkedRow) -> Result<bool, Fail> {
     let input = input_of(rt.alloc(), row)?;
     let expected = output_of(rt.alloc(), row.lines)?;
-    does(rt, &[], input.as_slice(), 0, expected.as_slice(), "")
+    succeeds(rt, &[], input.as_slice(), expected.as_slice())
 }
 
 /// Which of these rows is not served so, if one is not.
@@ -103,11 +103,7 @@ fn is_ended(rt: &HostRuntime, turns: Turns, replies: usize, faults: &str) -> Res
     let input = input_of(rt.alloc(), first_day())?;
     let output = output_of(rt.alloc(), lines)?;
     let done = acted_over(rt, &[], &input, turns)?;
-    Ok(
-        done.status == 4
-            && done.output.as_slice() == output.as_slice()
-            && done.faults.as_slice() == faults.as_bytes(),
-    )
+    Ok(done.is(4, &output, faults))
 }
 
 /// The place of a trouble that does not end the program so, if there is one.

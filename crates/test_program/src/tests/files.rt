@@ -1,5 +1,5 @@
 //! Registers in files: what the program makes of good ones, of wrong ones, and of what is none.
-use super::acting::{Act, does, edit, is_done};
+use super::acting::{Act, edit, fails, is_done, succeeds};
 use std::fs;
 use std::test::Fail;
 use test_desk_trials::{first_version, hundred_lines, wrong_edits, wrong_of_first_version};
@@ -16,7 +16,7 @@ pub fn remove(rt: &HostRuntime, file: &str) -> Result<(), Fail> {
 /// Makes a register in the file, in the place of what was there.
 pub fn is_made(rt: &HostRuntime, file: &str) -> Result<bool, Fail> {
     remove(rt, file)?;
-    does(rt, &["init", "--file", file], b"", 0, b"", "")
+    succeeds(rt, &["init", "--file", file], b"", b"")
 }
 
 /// Makes the register of *defaults* in the file.
@@ -24,7 +24,7 @@ fn is_defaults(rt: &HostRuntime, file: &str) -> Result<bool, Fail> {
     let input = input_of(rt.alloc(), defaults())?;
     let output = output_of(rt.alloc(), defaults().lines)?;
     let run = ["run", "--file", file];
-    Ok(is_made(rt, file)? && does(rt, &run, &input, 0, &output, "")?)
+    Ok(is_made(rt, file)? && succeeds(rt, &run, &input, &output)?)
 }
 
 /// The bytes of the file, if it is there.
@@ -151,7 +151,7 @@ fn goes(rt: &HostRuntime, file: &str, act: &Act) -> Result<bool, Fail> {
 /// Whether the file's keys are exported so.
 fn is_exported(rt: &HostRuntime, file: &str, keys: &[Cells<'_>]) -> Result<bool, Fail> {
     let text = export_of(rt.alloc(), keys)?;
-    does(rt, &["export", "--file", file], b"", 0, text.as_bytes(), "")
+    succeeds(rt, &["export", "--file", file], b"", text.as_bytes())
 }
 
 /// The place of an act of the life that does not go as it should, if there is one; the number of
@@ -221,7 +221,7 @@ static BAD_VALUES: [&[&str]; 23] = [
 /// The place of words that are taken, if there are some.
 fn bad_value_taken(rt: &HostRuntime) -> Result<Option<usize>, Fail> {
     for (place, words) in BAD_VALUES.iter().enumerate() {
-        if !does(rt, words, IMPORTED, 1, b"", "keyreg: BadValue\n")? {
+        if !fails(rt, words, IMPORTED, 1, "keyreg: BadValue\n")? {
             return Ok(Some(place));
         }
     }
@@ -239,7 +239,7 @@ fn bad_values_are_named(rt: HostRuntime) -> Result<(), Fail> {
 fn is_left(rt: &HostRuntime, file: &str, faults: &str) -> Result<bool, Fail> {
     let before = fs::read(rt, file)?;
     let run = ["run", "--file", file];
-    let is_refused = does(rt, &run, b"100 ann 1 advance\n", 2, b"", faults)?;
+    let is_refused = fails(rt, &run, b"100 ann 1 advance\n", 2, faults)?;
     Ok(is_refused && fs::read(rt, file)?.as_slice() == before.as_slice())
 }
 
@@ -353,8 +353,8 @@ fn is_taken_on(rt: &HostRuntime, file: &str) -> Result<bool, Fail> {
     }
     let run = ["run", "--file", file];
     let more = b"200 bob 1 set-quorum 1 3\n";
-    let is_run = does(rt, &run, AGAIN, 0, b"ok 1 Active 100\n", "")?
-        && does(rt, &run, more.as_slice(), 0, b"ok 1 Active 200\n", "")?;
+    let is_run = succeeds(rt, &run, AGAIN, b"ok 1 Active 100\n")?
+        && succeeds(rt, &run, more.as_slice(), b"ok 1 Active 200\n")?;
     edit(rt, file, "UPDATE meta SET version = 1")?;
     Ok(is_run && is_left(rt, file, "keyreg: NotARegister\n")?)
 }
@@ -372,7 +372,7 @@ fn wrong_hundred(rt: &HostRuntime, file: &str) -> Result<Option<u8>, Fail> {
     let run = ["run", "--file", file];
     for before in [0, 1, 2, 0, 1, 2] {
         let (lines, replies) = hundred_lines(rt.alloc(), before)?;
-        if !does(rt, &run, lines.as_bytes(), 0, replies.as_bytes(), "")? {
+        if !succeeds(rt, &run, lines.as_bytes(), replies.as_bytes())? {
             return Ok(Some(before));
         }
     }
@@ -384,10 +384,7 @@ fn is_lived(rt: &HostRuntime, file: &str) -> Result<bool, Fail> {
     let run = ["run", "--file", file];
     let lines = b"399 zed 9 advance\n500 zed 1 destroy 1\n";
     let replies = b"refused 3 MomentBehind latest=400\nrefused 5 NotOwner\n";
-    Ok(
-        does(rt, &run, lines.as_slice(), 0, replies.as_slice(), "")?
-            && is_exported(rt, file, &[&[]])?,
-    )
+    Ok(succeeds(rt, &run, lines.as_slice(), replies.as_slice())? && is_exported(rt, file, &[&[]])?)
 }
 
 #[test]

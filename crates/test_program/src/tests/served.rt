@@ -1,5 +1,5 @@
 //! Connections that are served, at a port that the system chooses.
-use super::acting::does;
+use super::acting::fails;
 use super::files::{is_made, remove};
 use disk_files::{MachineListener, MachineNetwork};
 use moment_core::Moment;
@@ -165,7 +165,7 @@ fn is_taken_port_told(rt: &HostRuntime, file: &str) -> Result<bool, Fail> {
         "--exchanges",
         "1",
     ];
-    let is_told = does(rt, &words, b"", 4, b"", "keyreg: ReadFault\n")?;
+    let is_told = fails(rt, &words, b"", 4, "keyreg: ReadFault\n")?;
     drop(listener);
     Ok(is_told)
 }

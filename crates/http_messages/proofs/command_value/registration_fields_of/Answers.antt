@@ -45,7 +45,8 @@ module _ (new : Registration) (kind : Data) {activation deactivation owner prote
     (purposes : purpose ≡ string new.purpose) (types : type ≡ string (key_type_text new.kind)) where
   registered : members_of ((codes "activation", activation) ∷ (codes "deactivation", deactivation)
       ∷ (codes "kind", kind) ∷ (codes "owner", owner) ∷ (codes "protect_stop", protect_stop)
-      ∷ (codes "purpose", purpose) ∷ (codes "type", type) ∷ []) ≡ fields_members kinds.Register kind (fields.Registration new)
+      ∷ (codes "purpose", purpose) ∷ (codes "type", type) ∷ [])
+      ≡ fields_members kinds.Register kind (fields.Registration new)
   registered = λ i. members_of ((codes "activation", activations i) ∷ (codes "deactivation", deactivations i)
       ∷ (codes "kind", kind) ∷ (codes "owner", owners i) ∷ (codes "protect_stop", protect_stops i)
       ∷ (codes "purpose", purposes i) ∷ (codes "type", types i) ∷ [])

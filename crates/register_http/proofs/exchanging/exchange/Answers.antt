@@ -42,8 +42,8 @@ returns-in-Ok-None-clause-reader g c =
     let asked = c.read_asked-asking in
     leaves_reader g.S.Store c.args.moment c.args.desk.now c.args.desk.now asked.result.asked _ _ c.with_read.result
     (returns-in-Ok-None-clause-exchanges g c).serves g.R.Read.remaining c.args.reader.now _ asked.new.reader _
-    c.reset_turn_counts.ensures (ap (λ (o : Outcome). o.read) c.with_read.ensures) asked.ensures.read asked.ensures.tells c.requires.reader asked.ensures.fault
-    (search rules)
+    c.reset_turn_counts.ensures (ap (λ (o : Outcome). o.read) c.with_read.ensures) asked.ensures.read
+    asked.ensures.tells c.requires.reader asked.ensures.fault (search rules)
 
 pub returns-in-Ok-None-clause-writer : goal.returns-in-Ok-None-clause-writer
 returns-in-Ok-None-clause-writer g c = rw (c.with_read.ensures, c.ended_without_bytes.ensures) (search rules)
@@ -83,10 +83,10 @@ pub returns-in-Err-ReadFault-clause-reader : goal.returns-in-Err-ReadFault-claus
 unfolding returns-in-Err-ReadFault-clause-exchanges
 returns-in-Err-ReadFault-clause-reader g c =
     let asked = c.read_asked-asking in
-    leaves_reader g.S.Store c.args.moment c.args.desk.now c.args.desk.now asked.result.asked _ _ c.with_read-in-Err-ReadFault.result
-    (returns-in-Err-ReadFault-clause-exchanges g c).serves g.R.Read.remaining c.args.reader.now _ asked.new.reader _
-    c.reset_turn_counts.ensures (ap (λ (o : Outcome). o.read) c.with_read-in-Err-ReadFault.ensures) asked.ensures.read asked.ensures.tells c.requires.reader asked.ensures.fault
-    (search rules)
+    leaves_reader g.S.Store c.args.moment c.args.desk.now c.args.desk.now asked.result.asked _ _
+    c.with_read-in-Err-ReadFault.result (returns-in-Err-ReadFault-clause-exchanges g c).serves g.R.Read.remaining c.args.reader.now _ asked.new.reader _
+    c.reset_turn_counts.ensures (ap (λ (o : Outcome). o.read) c.with_read-in-Err-ReadFault.ensures) asked.ensures.read
+    asked.ensures.tells c.requires.reader asked.ensures.fault (search rules)
 
 pub returns-in-Err-ReadFault-clause-writer : goal.returns-in-Err-ReadFault-clause-writer
 returns-in-Err-ReadFault-clause-writer g c =
@@ -134,8 +134,8 @@ returns-clause-reader g c =
     let asked = c.read_asked-asking in
     leaves_reader g.S.Store c.args.moment c.args.desk.now c.match-asking.desk asked.result.asked _ _ c.send_reply.result
     (returns-clause-exchanges g c).serves g.R.Read.remaining c.args.reader.now _ asked.new.reader _
-    c.reset_turn_counts.ensures c.send_reply.ensures.read asked.ensures.read asked.ensures.tells c.requires.reader asked.ensures.fault
-    (search rules)
+    c.reset_turn_counts.ensures c.send_reply.ensures.read asked.ensures.read
+    asked.ensures.tells c.requires.reader asked.ensures.fault (search rules)
 
 pub returns-clause-writer : goal.returns-clause-writer
 returns-clause-writer g c = search rules

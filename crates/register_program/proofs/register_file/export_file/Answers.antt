@@ -12,8 +12,8 @@ returns-clause-exports g c = record {
         writes = c.export-outcome.ensures.agrees h stands after;
         leaves = asked_leaves alone stands c.in_ok-desk.ensures.whole after leaves;
       });
-  opens = opens_asked c.in_ok-desk.desk c.export-outcome.new.desk c.in_ok-desk.ensures.nothing c.export-outcome.ensures.alone.reads.clean
-      c.close_desk-files.ensures.clean;
+  opens = opens_asked c.in_ok-desk.desk c.export-outcome.new.desk c.in_ok-desk.ensures.nothing
+      c.export-outcome.ensures.alone.reads.clean c.close_desk-files.ensures.clean;
 }
 
 pub export-outcome-requires : goal.export-outcome-requires

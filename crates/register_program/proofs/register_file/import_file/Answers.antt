@@ -53,4 +53,5 @@ returns-clause-desk g c =
     c.in_ok-desk.ensures.whole c.close_desk-files.ensures.mark c.import-outcome.result.end c.import-outcome.ensures.desk
 
 pub returns-clause-ends : goal.returns-clause-ends
-returns-clause-ends g c = record { reads = c.import-outcome.ensures.ends.cause; writer = c.import-outcome.ensures.writer }
+returns-clause-ends g c =
+    record { reads = c.import-outcome.ensures.ends.cause; writer = c.import-outcome.ensures.writer }

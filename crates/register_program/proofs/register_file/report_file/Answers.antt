@@ -18,8 +18,8 @@ returns-clause-reports g c = record {
       let stands = c.in_ok-desk.ensures.stands h lawful holds (alone.clean after) in
       of_desk (c.close_desk-files.ensures.closes clean) (λ may leaves.
       asked_leaves alone stands c.in_ok-desk.ensures.whole after leaves);
-  opens = opens_asked c.in_ok-desk.desk c.rotation-outcome.new.desk c.in_ok-desk.ensures.nothing c.rotation-outcome.ensures.alone.reads.clean
-      c.close_desk-files.ensures.clean;
+  opens = opens_asked c.in_ok-desk.desk c.rotation-outcome.new.desk c.in_ok-desk.ensures.nothing
+      c.rotation-outcome.ensures.alone.reads.clean c.close_desk-files.ensures.clean;
 }
 
 pub returns-clause-ends : goal.returns-clause-ends

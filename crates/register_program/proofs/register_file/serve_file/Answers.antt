@@ -20,7 +20,8 @@ returns-clause-serves g c =
             leaves = leaves.one_of (history h some.items) (history h (some.items ++ some.next)) some.leaves;
           });
       ends = serve.ensures.ends;
-      opens = opens_asked c.in_ok-desk.desk serve.new.desk c.in_ok-desk.ensures.nothing serve.ensures.clean c.close_desk-files.ensures.clean;
+      opens = opens_asked c.in_ok-desk.desk serve.new.desk c.in_ok-desk.ensures.nothing serve.ensures.clean
+          c.close_desk-files.ensures.clean;
     })
 
 pub returns-in_err-desk-clause-serves : goal.returns-in_err-desk-clause-serves

@@ -7,7 +7,8 @@ pub loop-at-preserved : goal.loop-at-preserved
 loop-at-preserved c = record {
   dates =
       fold_with (dates_step c.kind_of_key-kind.result) unset_dates c.args.history.now c.args.key c.loop-at-test.true
-      c.index-history-at.is c.loop-at.invariant.made c.loop-at.invariant.dates c.dates_with-dates.ensures;
+      c.index-history-at.is c.loop-at.invariant.made c.loop-at.invariant.dates
+      (rw c.concerns-concerns_key.ensures at c.dates_with-dates.ensures);
   made =
       count_with c.args.history.now c.loop-at-test.true c.index-history-at.is c.loop-at.invariant.made
       c.made_by-made.ensures.value;

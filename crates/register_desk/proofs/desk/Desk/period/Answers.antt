@@ -10,4 +10,5 @@ returns-in-Err-clause-asks g c =
     asks_ended g.S.Store 2 _ _ _ _ _ c.if-self.false c.in-Err.ensures.looks c.end_at.ensures.end c.end_at.ensures.left
 
 pub returns-in-Err-clause-no_memory : goal.returns-in-Err-clause-no_memory
-returns-in-Err-clause-no_memory g c = never_memory g.S.Store _ _ _ _ refl refl c.end_at.ensures.end c.in-Err.ensures.no_memory
+returns-in-Err-clause-no_memory g c =
+    never_memory g.S.Store _ _ _ _ refl refl c.end_at.ensures.end c.in-Err.ensures.no_memory
