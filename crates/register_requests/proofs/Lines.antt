@@ -128,39 +128,26 @@ key_back bytes f is = absurd (let other = is.shape_is in cc)
 pub key_alone : Makes (Writes IsKeyNumber decimal) Key (AreAfter shapes.Key)
 key_alone = record { there = λ bytes key is. grind (arith, append-nil); back = key_back }
 
+-- a key's number, and one argument more
+paired : {B : Type 0} {P : B → Type 0} {text : B → List ℕ} (bytes : List ℕ) (key : ℕ) (value : B) → IsKeyNumber key
+    → P value → codes " " ++ bytes ≡ spaced (decimal key ∷ text value ∷ [])
+    → AreSplit (Writes IsKeyNumber decimal) (Writes P text) bytes (key, value)
+paired {B} {P} {text} bytes key value in_range is e =
+    subst (λ (b : List ℕ). AreSplit (Writes IsKeyNumber decimal) (Writes P text) b (key, value)) (there_after bytes _ e)
+    (wrote key_numbers key _ in_range (is, append-nil (text value)))
+
 -- a key's number and a name
 abbrev IsNamed : List ℕ → ℕ × List ℕ → Type 0
 IsNamed = AreSplit (Writes IsKeyNumber decimal) (Writes IsName itself)
 
 name_back : (bytes : List ℕ) (f : Fields) → AreAfter shapes.KeyAndName bytes f
     → (x : ℕ × List ℕ) × IsNamed bytes x × (f ≡ KeyAndName x.0 x.1)
-name_back bytes (KeyAndName key name) is = (
-  (key, name),
-  subst (λ (b : List ℕ). IsNamed b (key, name)) (there_after bytes _ is.text)
-      (wrote key_numbers key _ is.in_range.0 (is.in_range.1, append-nil name)),
-  refl,
-)
+name_back bytes (KeyAndName key name) is =
+    ((key, name), paired bytes key name is.in_range.0 is.in_range.1 is.text, refl)
 name_back bytes f is = absurd (let other = is.shape_is in cc)
 
 pub key_and_name : Makes IsNamed (λ x. KeyAndName x.0 x.1) (AreAfter shapes.KeyAndName)
 key_and_name = record { there = λ bytes x is. grind (arith, spelled, append-nil); back = name_back }
-
--- a key's number, and how many approvals its destruction needs
-abbrev IsNeeding : List ℕ → ℕ × ℕ → Type 0
-IsNeeding = AreSplit (Writes IsKeyNumber decimal) (Writes IsQuorum decimal)
-
-need_back : (bytes : List ℕ) (f : Fields) → AreAfter shapes.KeyAndNeed bytes f
-    → (x : ℕ × ℕ) × IsNeeding bytes x × (f ≡ KeyAndNeed x.0 x.1)
-need_back bytes (KeyAndNeed key need) is = (
-  (key, need),
-  subst (λ (b : List ℕ). IsNeeding b (key, need)) (there_after bytes _ is.text)
-      (wrote key_numbers key _ is.in_range.0 (is.in_range.1, append-nil (decimal need))),
-  refl,
-)
-need_back bytes f is = absurd (let other = is.shape_is in cc)
-
-pub key_and_need : Makes IsNeeding (λ x. KeyAndNeed x.0 x.1) (AreAfter shapes.KeyAndNeed)
-key_and_need = record { there = λ bytes x is. grind (arith, spelled, append-nil); back = need_back }
 
 -- a type, and its period
 abbrev IsTyped : List ℕ → KeyType × Period → Type 0
@@ -178,6 +165,19 @@ type_back bytes f is = absurd (let other = is.shape_is in cc)
 
 pub type_and_period : Makes IsTyped (λ x. TypeAndPeriod x.0 x.1) (AreAfter shapes.TypeAndPeriod)
 type_and_period = record { there = λ bytes x is. grind (arith, spelled); back = type_back }
+
+-- a key's number, and how many approvals its destruction needs
+abbrev IsNeeding : List ℕ → ℕ × ℕ → Type 0
+IsNeeding = AreSplit (Writes IsKeyNumber decimal) (Writes IsQuorum decimal)
+
+need_back : (bytes : List ℕ) (f : Fields) → AreAfter shapes.KeyAndNeed bytes f
+    → (x : ℕ × ℕ) × IsNeeding bytes x × (f ≡ KeyAndNeed x.0 x.1)
+need_back bytes (KeyAndNeed key need) is =
+    ((key, need), paired bytes key need is.in_range.0 is.in_range.1 is.text, refl)
+need_back bytes f is = absurd (let other = is.shape_is in cc)
+
+pub key_and_need : Makes IsNeeding (λ x. KeyAndNeed x.0 x.1) (AreAfter shapes.KeyAndNeed)
+key_and_need = record { there = λ bytes x is. grind (arith, spelled, append-nil); back = need_back }
 
 -- the fields of a registration
 abbrev Registered : Type 0

@@ -51,8 +51,8 @@ returns-in-Registration-clause-none c =
     none_then _ _ _ (no_registration c.args.kind c.in-Registration.is) c.registration_fields_of.ensures.none
 
 pub returns-in-DateEdits-clause-none : goal.returns-in-DateEdits-clause-none
-returns-in-DateEdits-clause-none c =
-    none_then _ _ _ (no_edits c.args.kind c.in-DateEdits.is) c.date_edit_fields_of.ensures.none
+returns-in-DateEdits-clause-none c = none_then _ _ _ (no_edits c.args.kind c.in-DateEdits.is)
+    c.date_edit_fields_of.ensures.none
 
 pub returns-in-Revocation-clause-none : goal.returns-in-Revocation-clause-none
 returns-in-Revocation-clause-none c =
