@@ -18,7 +18,9 @@ From the base on all is in a network of its own, in which the ports of the units
 import contextlib
 import ctypes
 import fcntl
+import os
 import pathlib
+import pty
 import re
 import shutil
 import socket
@@ -165,6 +167,23 @@ def row_words(docs: pathlib.Path, name: str) -> str:
     return "\n".join(words for words in re.findall(r"`([^`]*)`", row) if " " in words)
 
 
+def in_terminal(words: list[str]) -> None:
+    """Calls a command in a terminal, and types the password as often as it is asked for: it is shown nowhere."""
+    process, terminal = pty.fork()
+    if not process:
+        os.execvp(words[0], words)
+    shown, typed = "", 0
+    with contextlib.suppress(OSError):
+        while piece := os.read(terminal, 4096):
+            shown += piece.decode(errors="replace")
+            while shown.lower().count("password:") > typed:
+                os.write(terminal, f"{PASSWORD}\n".encode())
+                typed += 1
+    os.close(terminal)
+    status = os.waitstatus_to_exitcode(os.waitpid(process, 0)[1])
+    fault(status == 0 and typed > 0 and PASSWORD not in shown, f"in a terminal: {status}, asked {typed} times: {shown}")
+
+
 @contextlib.contextmanager
 def running(words: list[str], number: int) -> Iterator[bool]:
     """A program that runs meanwhile, once it listens; whether it does."""
@@ -201,9 +220,7 @@ def desk(root: pathlib.Path, docs: pathlib.Path, units: pathlib.Path) -> None:
     list_words = unit_words(root, units / "keyreg-list.service")
     head = re.search(r"(?:^#     .*\n)+", (units / "keyreg.service").read_text(), re.M)[0]
     call_well(*as_root(root, re.sub(r"(?m)^#     ", "", head)))
-    # With the password that it asks for in a terminal.
-    words = "\n".join(blocks_of(docs / "docs/OPERATING.md")["the-desk"][0])
-    call_well(*as_root(root, words.replace("openssl passwd -6", f"openssl passwd -6 {PASSWORD}")))
+    in_terminal(as_root(root, "\n".join(blocks_of(docs / "docs/OPERATING.md")["the-desk"][0])))
     nginx = as_root(root, "exec nginx -g 'daemon off;'")
     call_well(*list_words)
     with running(unit_words(root, units / "keyreg.service"), 8420), running(nginx, DESK_PORT) as is_there:
