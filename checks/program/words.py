@@ -28,7 +28,7 @@ sys.path.insert(1, str(pathlib.Path(__file__).resolve().parents[1] / "shared"))
 from answers import BAD, get_reply, served_since, register_of
 from places import PROGRAM, read
 from registers import APPROVED_ANEW, APPROVED_ANEW_ROWS, EXPORT_COLUMNS, IMPORT_COLUMNS, VERSION, File
-from registers import answered_and_killed, database, export_row, new_register, run_program, table_rows
+from registers import Life, answered_and_killed, database, export_row, new_register, run_program, table_rows
 from script import expect, fresh_folder, options, verdict
 from serving import Served, begins_to_listen, free_port, get, listens, post_command
 
@@ -206,13 +206,10 @@ def look_at_strangers(folder: pathlib.Path) -> None:
 def look_at_held(folder: pathlib.Path) -> None:
     """A register that another program holds."""
     file = made(folder / "held")
-    with subprocess.Popen([PROGRAM, "run", "--file", file], stdin=subprocess.PIPE, stdout=subprocess.PIPE) as holder:
-        holder.stdin.write(b"200 zed 1 advance\n")
-        holder.stdin.flush()
-        holder.stdout.readline()
+    with Life(file) as life:
+        life.reply("200 zed 1 advance")
         for command in OPTIONS:
             look(words_for(command, file), STORE, given=LINES)
-        holder.stdin.close()
 
 
 # ---- streams and files that fail

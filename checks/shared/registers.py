@@ -101,14 +101,24 @@ def expect_replies(file: File, exchanges: Iterable[tuple[str, str]]) -> None:
     expect(replies == list(wanted), f"{file}: replies {replies}, not {list(wanted)}")
 
 
-def answered_and_killed(file: File, lines: Sequence[str]) -> None:
+class Life(subprocess.Popen):
+    """A run over a file, which no other program gets before the `with` ends it."""
+
+    def __init__(self, file: File) -> None:
+        super().__init__([PROGRAM, "run", "--file", file], stdin=subprocess.PIPE, stdout=subprocess.PIPE)
+
+    def reply(self, line: str) -> str:
+        self.stdin.write(f"{line}\n".encode())
+        self.stdin.flush()
+        return self.stdout.readline().decode().rstrip("\n")
+
+
+def answered_and_killed(file: File, lines: Iterable[str]) -> None:
     """Runs the lines over the file, and kills the program once it has answered them: they stand in the log."""
-    with subprocess.Popen([PROGRAM, "run", "--file", file], stdin=subprocess.PIPE, stdout=subprocess.PIPE) as process:
-        process.stdin.write("".join(line + "\n" for line in lines).encode())
-        process.stdin.flush()
-        for _ in lines:
-            process.stdout.readline()
-        process.kill()
+    with Life(file) as life:
+        for line in lines:
+            life.reply(line)
+        life.kill()
 
 
 def copy_files(file: Optional[File], other: File) -> File:
