@@ -27,14 +27,16 @@ import socket
 import struct
 import subprocess
 import sys
+import termios
+import time
 import types
 from typing import Any, Iterator
 
 sys.path.insert(1, str(pathlib.Path(__file__).resolve().parents[1] / "shared"))
 from places import read, use
 import completion
-import document_commands
-from roots import MIRROR, PACKAGES, anchor_of, blocks_of, call, made_package, make_base
+from document_commands import anchor_of, compared
+from roots import MIRROR, PACKAGES, blocks_of, call, made_package, make_base
 from script import expect, fresh_folder, options, verdict
 from serving import begins_to_listen
 
@@ -146,7 +148,7 @@ def read_there(root: pathlib.Path, docs: pathlib.Path) -> None:
     (root / "tmp/reader").mkdir()
     texts = {f"/{(docs / name).relative_to(root)}": (docs / name).read_text("utf-8") for name in PAGES}
     shell = inside(root, "/tmp/reader", "HOME=/tmp/reader", "no_proxy=*", "bash", "-c")
-    wrong, count = document_commands.compared(texts, str(root), shell)
+    wrong, count = compared(texts, str(root), shell)
     fault(not wrong and count > 0, f"of {count} blocks of commands: {wrong}")
     shutil.rmtree(root / "tmp/reader")
 
@@ -177,6 +179,10 @@ def in_terminal(words: list[str]) -> None:
         while piece := os.read(terminal, 4096):
             shown += piece.decode(errors="replace")
             while shown.lower().count("password:") > typed:
+                # What is typed before the terminal hides it is shown.
+                late = time.monotonic() + 5
+                while termios.tcgetattr(terminal)[3] & termios.ECHO and time.monotonic() < late:
+                    time.sleep(0.01)
                 os.write(terminal, f"{PASSWORD}\n".encode())
                 typed += 1
     os.close(terminal)
