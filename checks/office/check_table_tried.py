@@ -30,8 +30,9 @@ START = "2026-02-01T00:00:00Z"
 # colon or a comma are the desk's own.
 RECORDED = [(column, was, now, re.split("[:,]", how)[0]) for column, was, now, how in SHEETS["changed"]]
 # How LibreOffice reads a table: as it proposes, as Windows-1252, and as UTF-8 with each column as text.
-READINGS = {"as it proposes": "", "as Windows-1252": "44,34,1", "as text": "44,34,76,1,1/2/2/2/3/2/4/2/5/2/6/2"}
 FILTER = "Text - txt - csv (StarCalc)"
+READINGS = {"as it proposes": [], "as Windows-1252": [f"--infilter={FILTER}:44,34,1"],
+            "as text": [f"--infilter={FILTER}:44,34,76,1,1/2/2/2/3/2/4/2/5/2/6/2"]}
 # What an import refuses for its form, and what is said of it.
 REFUSED = [
     ({"type": "Master"}, "none of the seven"), ({"owner": "two words"}, "no name"), ({"owner": "Müller"}, "no name"),
@@ -112,8 +113,7 @@ def recorded(folder: pathlib.Path) -> None:
 def by_libreoffice(folder: pathlib.Path) -> str:
     """What LibreOffice makes of a table is reported; where it reads each column as text, the table comes back as it
     was. Gives how many fields it changed."""
-    office = shutil.which("soffice")
-    if not office:
+    if not shutil.which("soffice"):
         return "LibreOffice is not installed, and was left out"
     owners, purposes = ["0042", "1e5", "3.10", ".5", "ann"], ["plain", "00123", "=1+1", "Schlüssel", "=A1"]
     desk = Desk(folder, [{**KEY, "owner": owner, "purpose": purpose, "activation": START}
@@ -121,9 +121,8 @@ def by_libreoffice(folder: pathlib.Path) -> str:
     put(desk.table, desk.keys)
     made, counts = folder / "out" / desk.table.name, list[str]()
     for way, reading in READINGS.items():
-        output_of([office, "--headless", f"-env:UserInstallation=file://{folder}/profile", "--convert-to",
-                   f"csv:{FILTER}:44,34,76", "--outdir", made.parent,
-                   *[f"--infilter={FILTER}:{reading}"] * bool(reading), desk.table], timeout=120)
+        output_of(["soffice", "--headless", f"-env:UserInstallation=file://{folder}/profile", "--convert-to",
+                   f"csv:{FILTER}:44,34,76", "--outdir", made.parent, *reading, desk.table], timeout=120)
         status, lines = checked(made, desk.export)
         changed = re.findall(r"(?m)^row .* was '(.*)' and is ", "\n".join(lines))
         wanted = {*owners[:4], "00123", "=1+1", *["Schlüssel"] * (way == "as Windows-1252")}
