@@ -13,8 +13,8 @@ After it each request of which a page said that it was accepted is in the regist
 showed, and no other is; and by office/replay.py all else in the register follows from them. The console has nothing but
 what Chromium writes of refusals and of connections that were cut on purpose.
 
-The parts are day, breaks, typed, tables, looks and many, all where none is named. --least does the smallest form alone, as
-the gate has it. It needs Debian's chromium, chromium-driver, python3-selenium and nginx-light, and Linux.
+The parts are day, breaks, typed, tables, looks and many, all where none is named. --least does the smallest form alone,
+as the gate has it. It needs Debian's chromium, chromium-driver, python3-selenium and nginx-light, and Linux.
 """
 import collections
 import contextlib

@@ -4,9 +4,8 @@ of the files, another umask, zone, language, disk and number of cores, each of i
 
     checks/package/same_bytes.py [--other PROGRAM]
 
-Both are of the program that is built, or of KEYREG; with --other the second one is of that program, which was built of
-the same sources in another folder and has to be the same too. It needs what ./package needs (`apt-get install dpkg
-binutils`).
+Both are of the program that is built, or of KEYREG; with --other the second is of another build of the same sources,
+which is compared too. It needs what ./package needs (`apt-get install dpkg binutils`).
 
 What another version of a tool (strip, xz, gzip, tar) would make is not seen here.
 """

@@ -1,7 +1,7 @@
 #!/usr/bin/env python3
 """A register of 1000000 keys, which is full, and of more requests than that: it opens, its export and its report have
-every key, its first and last request are answered again, a further registration is refused 20, over HTTP too, and the last
-key takes a request.
+every key, its first and last request are answered again, the last key takes a request, and a further registration is
+refused 20, over HTTP too.
 
     checks/program/full_register.py [--keys N]
 

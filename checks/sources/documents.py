@@ -39,7 +39,7 @@ import contracts
 import definitions
 import theorem
 from contracts import Function, functions, stands_on
-from document_commands import first_look, wrong_outputs
+from document_commands import anchor_of, first_look, wrong_outputs
 from script import options, verdict
 use("bench")
 import costs_svg
@@ -178,9 +178,7 @@ def promise_faults() -> Faults:
 
 def headings(path: str) -> set[str]:
     """The anchors of a document's headings."""
-    texts = (re.sub(r"[`*]", "", re.sub(r"\[([^\]]*)\]\([^)]*\)", r"\1", line.lstrip("#"))).strip().lower()
-             for _, line in numbered(path) if line.startswith("#"))
-    return {re.sub(r"[^\w\- ]", "", text).replace(" ", "-") for text in texts}
+    return {anchor_of(line) for _, line in numbered(path) if line.startswith("#")}
 
 
 def link_faults(document: str, target: str) -> Iterator[str]:
@@ -211,8 +209,7 @@ def path_faults() -> Faults:
     faults, count = list(install_faults()), 0
     for document in documents():
         for number, line in numbered(document):
-            links = [link or reference for link, reference in
-                     re.findall(r"\]\(([^)\s]+)\)|^\[[^\]]+\]: (\S+)", line)]
+            links = [link or reference for link, reference in re.findall(r"\]\(([^)\s]+)\)|^\[[^\]]+\]: (\S+)", line)]
             targets = [link for link in links if not link.startswith("http")]
             plain = re.sub(r"\[[^]]*\]\([^)]*\)|^\[.*\]: .*", "", line)
             paths = FILE.findall(plain) + [text.split()[0] for text in QUOTED.findall(line) if FOLDER.match(text)]
