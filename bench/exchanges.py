@@ -28,12 +28,12 @@ from statistics import median
 from typing import Any, Iterator, Sequence
 
 from measuring import STEP, clock_of, table
-from answers import compact, request_object, shown
+from answers import shown
 from places import PROGRAM
 from register_rules import Register, Request, line
 from registers import new_register, table_rows
 from script import expect, options, output_of
-from serving import begins_to_listen, free_port, get, post, received
+from serving import begins_to_listen, free_port, get, post_command, received
 
 HERE = pathlib.Path(__file__).resolve().parent
 JOURNALS, KINDS, MOMENT = ("delete", "wal"), {"get": "GET of a key", "post": "POST of a registration"}, 1_000_000
@@ -67,8 +67,7 @@ def compare(port: int, register: Register, count: int) -> None:
         expect(exchange(port, get(f"/keys/{number}")) == shown(register, number), f"key {number} is another")
     begun = int(time.time())
     for number in range(keys + 1, keys + count + 1):
-        body = compact(request_object(registration(number)))
-        reply = exchange(port, post(body, "Caller: bob", f"Request-Number: {number}"))
+        reply = exchange(port, post_command("bob", number, registration(number)))
         expect(reply["key"] == number and reply["state"] == "Pre-Active" and begun <= reply["moment"] <= time.time(),
                f"registration {number}: {reply}")
 

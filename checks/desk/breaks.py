@@ -164,8 +164,8 @@ def other_lists(reader: Reader, key: int) -> None:
     given = json.loads(place.read_text("utf-8"))
     markup = '<img src=x onerror="document.title=2"><script>alert(2)</script>'
     given["names"] = [markup] * len(given["names"])
-    for text, words in ((json.dumps(given), markup), (json.dumps({**given, "keys": None, "count": 200000}),
-                        "200000 keys, too many for the list"), ("", "The list of keys is not there")):
+    for text, words in ((json.dumps(given), markup), (json.dumps({**given, "keys": None, "count": 1000000}),
+                        "1000000 keys, too many for the list"), ("", "The list of keys is not there")):
         if text:
             place.write_text(text, encoding="utf-8")
             os.utime(place, (time.time() + 5, time.time() + 5))

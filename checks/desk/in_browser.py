@@ -6,14 +6,15 @@ said.
 
 keyreg is served behind nginx with office/units/nginx-keyreg.conf, and a browser for each user goes through a day by
 forms and lists (day.py), what breaks (breaks.py), what is typed (typed.py) and tables (tables.py). Each page is looked
-at by Chromium's accessibility tree, for contrast, by Tab, at several widths, light, dark and printed (looks.py).
+at by Chromium's accessibility tree, for contrast, by Tab, at several widths, light, dark and printed, and by the
+seconds that a list of 100,000 keys takes (looks.py).
 
 After it each request of which a page said that it was accepted is in the register under the number that the page
 showed, and no other is; and by office/replay.py all else in the register follows from them. The console has nothing but
 what Chromium writes of refusals and of connections that were cut on purpose.
 
-The parts are day, breaks, typed, tables and looks, all where none is named. --least does the smallest form alone, as
-the gate has it. It needs Debian's chromium, chromium-driver, python3-selenium and nginx-light, and Linux.
+The parts are day, breaks, typed, tables, looks and many, all where none is named. --least does the smallest form alone,
+as the gate has it. It needs Debian's chromium, chromium-driver, python3-selenium and nginx-light, and Linux.
 """
 import collections
 import contextlib
@@ -37,7 +38,7 @@ from script import expect, fresh_folder, options, output_of, verdict
 BY_STATUS = re.compile(
     r"\S+/(requests|keys/\d+(/usage)?|list\.json|favicon\.ico|me|sign-out\?user=\w+|chromewebdata/) - "
     r"Failed to load resource: (the server responded with a status of (40[0149]|412|50[023]) .*|net::ERR_[A-Z_]+)")
-PARTS = ("day", "breaks", "typed", "tables", "looks")
+PARTS = ("day", "breaks", "typed", "tables", "looks", "many")
 
 
 class Office:
@@ -103,6 +104,8 @@ def whole(here: Office, folder: pathlib.Path, parts: Sequence[str], rows: int) -
         print(tables.all_taken(cat, folder, rows))
     if "looks" in parts:
         print(looks.all_pages(ann, bob, cat, folder))
+    if "many" in parts:
+        print(looks.many_keys(bob, folder))
     count = here.compared()
     return f"{count} requests of {len(here.readers)} pages are the register's, as the pages said; the console is empty"
 

@@ -1,9 +1,11 @@
-"""How the desk looks: what Chromium's accessibility tree says of each page, contrast, focus, widths, dark and print."""
+"""How the desk looks: what Chromium's accessibility tree says of each page, contrast, focus, widths, dark and print;
+and how soon it shows what is found among 100,000 keys."""
 import pathlib
 
 from browser import as_seen
 from day import day, register, second
-from parts import Reader
+from parts import Desk, Reader
+from registers import UNSET, write_register
 from script import expect
 from tables import chosen
 
@@ -160,3 +162,55 @@ def all_pages(ann: Reader, bob: Reader, cat: Reader, folder: pathlib.Path) -> st
         button.click()
     ann.accepted(f"set-quorum {key} 3")
     return f"{parts} parts of nine pages have their names and roles, at {len(WIDTHS)} widths, light, dark and printed"
+
+
+# ---- many keys
+
+# How many, and how much longer all of them may take than a tenth: what takes as long for each key takes no longer.
+KEYS, TIMES = 100_000, 10
+# Gives the milliseconds until what a text finds stands on the page, and how many keys that are.
+LETTER = """const [box, text, done] = arguments, begun = performance.now();
+box.value = text;
+box.dispatchEvent(new Event("input", {bubbles: true}));
+requestAnimationFrame(() => setTimeout(() =>
+  done([performance.now() - begun, parseInt(document.querySelector(".count").textContent)])));"""
+
+
+def large_list(desk: Desk, file: pathlib.Path, count: int) -> None:
+    """The list of a register of so many keys stands in the place of the desk's. Each has two custodians, an approval
+    and five requests, and every tenth is for tapes. keyreg serves its own register."""
+    begun, numbers = second("2025-01-01T00:00:00"), range(1, count + 1)
+    custodians = [(n, f"officer-{n % 30 + more}") for n in numbers for more in (0, 30)]
+    write_register(file, begun, count, custodian=custodians, approval=custodians[::2], keys=(
+        (n, 1, f"team-{n % 200}", f"volume {n} of hall {n % 97}, {'disks' if n % 10 else 'tapes'}", 2, begun, begun,
+         begun + n % 2000 * 86400, begun + (n % 2000 + 400) * 86400, UNSET, UNSET, UNSET) for n in numbers),
+        request=((f"team-{n % 200}", n * 5 + m, f"set {n} - = -", n, 2, begun) for n in numbers for m in range(5)))
+    desk.make_list(file)
+
+
+def delays(reader: Reader, count: int) -> dict[str, float]:
+    """The milliseconds until the first view of so many keys stands, and those of the slowest of four letters. The best
+    of three pages counts: other work of the machine takes its time too."""
+    views, letters = list[float](), list[float]()
+    for _ in range(3):
+        reader.anew("find").reload(forgets=True)
+        reader.says(f"{count} of {count} keys", patience=60)
+        views.append(reader.execute("return performance.getEntriesByName('shown')[0].startTime"))
+        box = reader.seen("input[type='search']")
+        shown = [reader.driver.execute_async_script(LETTER, box, "tapes"[:length]) for length in range(2, 6)]
+        expect(shown[-1][1] == count // 10, f"of {count} keys {shown[-1][1]} are shown as those for tapes")
+        letters.append(max(milliseconds for milliseconds, _ in shown))
+    return {"the first view": min(views), "a letter": min(letters)}
+
+
+def many_keys(reader: Reader, folder: pathlib.Path) -> str:
+    """What a list of 100,000 keys takes, beside one of a tenth."""
+    taken = []
+    for count in (KEYS // 10, KEYS):
+        large_list(reader.desk, folder / f"{count}.keyreg", count)
+        taken.append(delays(reader, count))
+    few, many = taken
+    for name, milliseconds in many.items():
+        expect(milliseconds <= TIMES * few[name], f"{name}: {KEYS} keys took {many} ms, and a tenth of them {few}")
+    reader.with_list()
+    return f"of {KEYS} keys there stood after " + ", ".join(f"{many[name]:.0f} ms {name}" for name in many)

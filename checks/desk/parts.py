@@ -30,7 +30,8 @@ from serving import Served, free_port, head, received
 ZONE = "America/St_Johns"
 PASSWORDS = {"ann": "word-a", "bob": "word-b", "cat": "word-c", "dan": "word-d", "eve": "word-e", "office": "word-o"}
 # What comes in the place of an answer.
-ANSWERS = {"500": b'{"end":31,"name":"Store"}', "503": b'{"end":30,"name":"Memory"}', "502": b"<html>busy</html>"}
+ANSWERS = {"409": b'{"name":"Full","refused":20}', "500": b'{"end":31,"name":"Store"}',
+           "503": b'{"end":30,"name":"Memory"}', "502": b"<html>busy</html>"}
 
 
 class Relay(http.server.BaseHTTPRequestHandler):
@@ -111,9 +112,10 @@ class Desk:
     def start(self) -> None:
         self.served = Served(file=self.file, port=self.port)
 
-    def make_list(self) -> None:
+    def make_list(self, file: Optional[File] = None) -> None:
+        """The list of the register, or of another one in its place."""
         place = os.path.join(self.guard.list_folder, "list.json")
-        output_of([sys.executable, "-B", OFFICE / "list.py", self.file, place])
+        output_of([sys.executable, "-B", OFFICE / "list.py", file or self.file, place])
 
     def copy(self) -> str:
         """A copy of the register and its log, while nothing is sent."""

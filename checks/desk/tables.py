@@ -131,12 +131,15 @@ for (let place = 0; text.length; place++) {
 
 
 def full_store(reader: Reader, folder: pathlib.Path) -> None:
-    """A full store of the window is said, and nothing is sent."""
+    """A full store of the window is said, of a table and of a form, and nothing is sent."""
     before = len(reader.desk.line.posts)
     chosen(reader, folder, "master,ann,,,,into a full store")
     reader.execute(FILLS)
     reader.forget()
     reader.seen(".buttons button.send").click()
+    reader.says("store for this window is full", "#said")
+    fields = [("Type", "master"), ("Owner", "ann"), ("Purpose", "into a full store")]
+    reader.open("register").submit("register", fields)
     reader.says("store for this window is full", "#said")
     expect(len(reader.desk.line.posts) == before, "a request was sent without its number being kept")
     reader.reload(forgets=True)

@@ -36,10 +36,13 @@ def stays(reader: Reader) -> int:
     another page leaves its form. Gives a key's number."""
     fields = [("Type", "master"), ("Owner", reader.user), ("Purpose", LONG), ("Activation (UTC)", day(1)),
               ("Protect Stop (UTC)", day(9000))]
-    reader.anew("register").submit("register", fields)
-    reader.refused("PeriodTooLong")
-    has_values(reader, "register", type="master", owner=reader.user, purpose=LONG, activation=day(1),
-               protect_stop=day(9000))
+    # keyreg refuses both, and the second answer is that of a full register.
+    for answers, words in (([], ["PeriodTooLong"]), (["409"], ["Full", "has 1,000,000 keys, and takes no more"])):
+        reader.desk.line.todo = answers
+        reader.anew("register").submit("register", fields)
+        reader.refused(*words)
+        has_values(reader, "register", type="master", owner=reader.user, purpose=LONG, activation=day(1),
+                   protect_stop=day(9000))
     key = register(reader, "master", reader.user, LONG)
     reader.submit("set", edits=[("set", day(9)), ("set", day(5)), ("keep", "")])
     reader.refused("DateOrder")

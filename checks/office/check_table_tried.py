@@ -10,38 +10,29 @@ import io
 import json
 import pathlib
 import re
+import shutil
 import subprocess
 import sys
 import time
 from typing import Any, Iterable, Mapping, Sequence
 
 sys.path.insert(1, str(pathlib.Path(__file__).resolve().parents[1] / "shared"))
-from places import TOP
+from places import DESK
 from registers import IMPORT_COLUMNS, File, copy_files, new_register, run_program
 from register_rules import moment_of, text_of
-from script import expect, fresh_folder, verdict
+from script import expect, fresh_folder, output_of, verdict
 from tools import exported, run_tool, words_of
 
-CASES = TOP / "desk" / "tests" / "made.json"
+CASES, SHEETS = (json.loads((DESK / "tests" / f"{name}.json").read_text("utf-8")) for name in ("made", "sheets"))
 COLUMNS, DATES = list(IMPORT_COLUMNS), IMPORT_COLUMNS[2:5]
-NUMBER, FORMULA, CODE, DATE = "taken for a number", "taken for a formula", "another code", "taken for a date"
 START = "2026-02-01T00:00:00Z"
-# A key's column, its text, and what spreadsheets were seen to make of it.
-RECORDED = [
-    ("owner", "0042", "42", NUMBER), ("owner", "1e5", "100000", NUMBER), ("owner", "3.10", "3.1", NUMBER),
-    ("owner", ".5", "0.5", NUMBER), ("owner", "1e5", "1.00E+05", NUMBER), ("owner", "5.", "5", NUMBER),
-    ("owner", "12345678901234567890", "1.23456789012346E+019", NUMBER),
-    ("owner", "12345678901234567890", "1.23457E+19", NUMBER), ("purpose", "00123", "123", NUMBER),
-    ("purpose", "=1+1", "2", FORMULA), ("purpose", "=A1", "type", FORMULA), ("purpose", "=tapes", "#NAME?", FORMULA),
-    ("purpose", "@sum", "Err:509", FORMULA), ("purpose", "-tapes", "#NAME?", FORMULA),
-    ("purpose", "Schlüssel", "SchlÃ¼ssel", CODE), ("purpose", "Schlüssel", "Schl?ssel", CODE),
-    ("purpose", "Schlüssel", "Schl\ufffdssel", CODE), ("purpose", "鍵", "?", CODE), ("owner", "true", "TRUE", "truth"),
-    ("activation", START, "2026-02-01 00:00:00", DATE), ("activation", START, "02/01/26 12:00:00 AM", DATE),
-    ("activation", START, "02/01/2026", DATE), ("activation", START, "2026-02-01", DATE),
-    ("activation", START, "01.02.26", DATE), ("owner", "3-4", "4-Mar", DATE), ("owner", "3-4", "2026-03-04", DATE),
-    ("purpose", 'the "old" ones', "the “old” ones", "marks"),
-    ("purpose", "site A -- tapes", "site A -- tapes ", "marks"),
-]
+# A key's column, its text, what spreadsheets were seen to make of it, and what is said of that: the words behind a
+# colon or a comma are the desk's own.
+RECORDED = [(column, was, now, re.split("[:,]", how)[0]) for column, was, now, how in SHEETS["changed"]]
+# How LibreOffice reads a table: as it proposes, as Windows-1252, and as UTF-8 with each column as text.
+FILTER = "Text - txt - csv (StarCalc)"
+READINGS = {"as it proposes": [], "as Windows-1252": [f"--infilter={FILTER}:44,34,1"],
+            "as text": [f"--infilter={FILTER}:44,34,76,1,1/2/2/2/3/2/4/2/5/2/6/2"]}
 # What an import refuses for its form, and what is said of it.
 REFUSED = [
     ({"type": "Master"}, "none of the seven"), ({"owner": "two words"}, "no name"), ({"owner": "Müller"}, "no name"),
@@ -119,6 +110,29 @@ def recorded(folder: pathlib.Path) -> None:
             for key, (column, was, now, how) in enumerate(RECORDED, 1)))
 
 
+def by_libreoffice(folder: pathlib.Path) -> str:
+    """What LibreOffice makes of a table is reported; where it reads each column as text, the table comes back as it
+    was. Gives how many fields it changed."""
+    if not shutil.which("soffice"):
+        return "LibreOffice is not installed, and was left out"
+    owners, purposes = ["0042", "1e5", "3.10", ".5", "ann"], ["plain", "00123", "=1+1", "Schlüssel", "=A1"]
+    desk = Desk(folder, [{**KEY, "owner": owner, "purpose": purpose, "activation": START}
+                         for owner, purpose in zip(owners, purposes)])
+    put(desk.table, desk.keys)
+    made, counts = folder / "out" / desk.table.name, list[str]()
+    for way, reading in READINGS.items():
+        output_of(["soffice", "--headless", f"-env:UserInstallation=file://{folder}/profile", "--convert-to",
+                   f"csv:{FILTER}:44,34,76", "--outdir", made.parent, *reading, desk.table], timeout=120)
+        status, lines = checked(made, desk.export)
+        changed = re.findall(r"(?m)^row .* was '(.*)' and is ", "\n".join(lines))
+        wanted = {*owners[:4], "00123", "=1+1", *["Schlüssel"] * (way == "as Windows-1252")}
+        is_same = made.read_bytes() == desk.table.read_bytes()
+        expect(status == 1 and " 0 new" in lines[-1] and is_same == (way == "as text")
+               and (not changed if is_same else wanted <= set(changed)), f"{way}: {status}, {lines}")
+        counts.append(f"{len(changed)} fields read {way}")
+    return f"LibreOffice changed {', '.join(counts)}"
+
+
 def rows_reported(folder: pathlib.Path) -> None:
     """Rows that are keys already, that are refused, that stand twice, and new ones; an import answers as was said."""
     desk = Desk(folder, [KEY, {**KEY, "purpose": "another"}])
@@ -149,10 +163,9 @@ def rows_reported(folder: pathlib.Path) -> None:
 
 def known_again(folder: pathlib.Path) -> int:
     """Rows that are keys already, whatever dates they leave out: the cases that the desk judges too."""
-    given = json.loads(CASES.read_text(encoding="utf-8"))
     table, export = folder / "table.csv", folder / "export.csv"
-    put(export, [given["key"], given["ended"]], ["number", *COLUMNS, "state"])
-    cases = [*given["rows"], *given["endedRows"]]
+    put(export, [CASES["key"], CASES["ended"]], ["number", *COLUMNS, "state"])
+    cases = [*CASES["rows"], *CASES["endedRows"]]
     for case in cases:
         put(table, [dict(zip(COLUMNS, case["row"]))])
         status, lines = checked(table, export)
@@ -200,6 +213,7 @@ def all_changed(folder: pathlib.Path, count: int) -> list[float]:
 def main() -> None:
     with fresh_folder() as folder:
         recorded(folder)
+        print(by_libreoffice(folder))
         rows_reported(folder)
         known = known_again(folder)
         no_tables(folder)

@@ -20,7 +20,7 @@ from typing import Any
 sys.path.insert(1, str(pathlib.Path(__file__).resolve().parents[1] / "shared"))
 from places import PROGRAM
 from drawn_registers import DAY, FULL, HOSTILE, changed, drawn, first_version, made, rows_of
-from registers import File, copy_files, database, keyreg, new_register
+from registers import File, Life, copy_files, database, keyreg, new_register
 from register_rules import OF_VERSION_2
 from script import expect, fresh_folder, in_order, options, verdict
 from tools import run_tool, words_of
@@ -81,23 +81,14 @@ def killed_at_random(folder: pathlib.Path, lines: list[str], given: Any, chance:
     """How many calls were killed before their end, and how many requests the standby has at last."""
     register, standby, looks, going = folder / "office.keyreg", folder / "standby.keyreg", list[list[tuple]](), 0
     new_register(register)
-    with subprocess.Popen([PROGRAM, "run", "--file", register], stdin=subprocess.PIPE,
-                          stdout=subprocess.PIPE) as program:
-
-        def write() -> None:
-            for line in lines:
-                program.stdin.write(f"{line}\n".encode())
-                program.stdin.flush()
-                program.stdout.readline()
-            program.stdin.close()
-
-        writer = threading.Thread(target=write, daemon=True)
+    with Life(register) as life:
+        writer = threading.Thread(target=lambda: [*map(life.reply, lines)], daemon=True)
         writer.start()
         while going < given.kills and (writer.is_alive() or len(looks) < given.kills):
             going += killed(register, standby, chance.uniform(0, given.longest), chance)
             looks.append(kept(standby).get("request", []))
         writer.join()
-    expect(program.returncode == 0, "the register ended before all was given")
+    expect(life.returncode == 0, "the register ended before all was given")
     wanted, counts = rows_of(register), [len(rows) for rows in looks]
     count = len(wanted["request"])
     for rows in looks:
@@ -138,12 +129,9 @@ def no_standbys(folder: pathlib.Path) -> None:
     expect_end(3, "No such file", full, folder / "other.keyreg", program=folder / "no_program")
     expect_end(3, "could not be made", full, folder / "no_folder" / "other.keyreg")
     keyreg(["run", "--file", fresh])
-    with subprocess.Popen([PROGRAM, "run", "--file", fresh], stdin=subprocess.PIPE, stdout=subprocess.PIPE) as other:
-        other.stdin.write(b"none\n")
-        other.stdin.flush()
-        other.stdout.readline()
+    with Life(fresh) as life:
+        life.reply("none")
         expect_end(3, "ended with status 2", full, fresh)
-        other.stdin.close()
     bare = folder / "bare.keyreg"
     with database(bare) as connection:
         connection.execute("PRAGMA user_version = 1")

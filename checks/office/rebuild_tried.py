@@ -16,7 +16,7 @@ import sys
 from typing import Any
 
 sys.path.insert(1, str(pathlib.Path(__file__).resolve().parents[1] / "shared"))
-from drawn_registers import DAY, FULL, HOSTILE, changed, drawn, first_version, made, rows_of
+from drawn_registers import DAY, FULL, HOSTILE, anew, changed, drawn, first_version, made, rows_of
 from registers import STATES, File, copy_files, database, new_register
 from register_rules import OF_VERSION_2
 from script import expect, fresh_folder, in_order, options, verdict
@@ -111,20 +111,15 @@ def no_requests(copy: File) -> None:
     """Rows that are no requests become no line, and are reported."""
     put = "INSERT INTO request VALUES (?, ?, ?, 1, 1, 300)"
     two_lines = "register master bob - - - x\n300 office 900 set-period master 1 0"
-
-    def again(order: str = "") -> list[tuple[str]]:
-        return [(f"CREATE TABLE other AS SELECT * FROM request {order}",), ("DROP TABLE request",),
-                ("ALTER TABLE other RENAME TO request",)]
-
     rows = [("eve", 900, two_lines), ("eve", 900, ""), ("e e", 900, "advance"), ("eve", 0, "advance"),
             ("eve", 900, "register master bob - - - x\r")]
-    twice = [*again(), ("INSERT INTO request SELECT * FROM request WHERE number = 2",)]
+    twice = [*zip(anew("request")), ("INSERT INTO request SELECT * FROM request WHERE number = 2",)]
     lines = rebuilt(copy)[1]
     for text, statements in (*(("it is no request", [(put, row)]) for row in rows), ("of this number before", twice)):
         status, given, said = rebuilt(changed(copy, *statements))
         expect(status == 1 and any(text in line for line in said), f"{statements}: {status}, {said}")
         expect(given == lines, f"{statements}: other lines")
-    said = rebuilt(changed(copy, *again("ORDER BY rowid DESC")))[2]
+    said = rebuilt(changed(copy, *zip(anew("request", order="ORDER BY rowid DESC"))))[2]
     expect(any(line.startswith("order: ") for line in said), "rows that do not go by their moments are not reported")
 
 

@@ -16,7 +16,7 @@ from typing import Any, Iterator
 
 sys.path.insert(1, str(pathlib.Path(__file__).resolve().parents[1] / "shared"))
 from places import VERSION_1
-from drawn_registers import DAY, FULL, KINDS, at_one_moment, changed, drawn, made, rows_of
+from drawn_registers import DAY, FULL, KINDS, anew, at_one_moment, changed, drawn, made, rows_of
 from registers import File, answered_and_killed, columns_of, copy_files, database, keyreg, new_register
 from script import expect, fresh_folder, options, output_of, verdict
 from tools import many_requests, run_tool, words_of
@@ -49,12 +49,6 @@ def expect_told(file: File, status: int, pattern: str, *statements: str, since: 
 
 
 # ---- what is as the requests give
-
-
-def anew(table: str, columns: str) -> list[str]:
-    """Statements that make a table of the register anew: with these columns, and of no types."""
-    return [f"CREATE TABLE other AS SELECT {columns} FROM {table}", f"DROP TABLE {table}",
-            f"ALTER TABLE other RENAME TO {table}"]
 
 
 def untouched(folder: pathlib.Path, chance: random.Random) -> tuple[File, File]:
@@ -152,7 +146,7 @@ def planted(folder: pathlib.Path, first: File, full: File) -> int:
         (few, 1, "^request .'bob', 29.* state is 1", ["UPDATE request SET state = 1 WHERE command = 'destroy 2'"]),
         (few, 1, "^approval .2, 'cat'.* no row", ["DELETE FROM approval WHERE key_no = 2 AND name = 'cat'"])]
     changes += [(full, 1, "^request .'ann', 1.: its row is there 2 times",
-                 [*anew("request", "*"), f"INSERT INTO request SELECT {row} FROM request WHERE rowid = 1"])
+                 [*anew("request"), f"INSERT INTO request SELECT {row} FROM request WHERE rowid = 1"])
                 for row in ("*", "caller, number, 'advance', 0, 0, moment")]
     for file, status, told, statements in changes:
         expect_told(file, status, told, *statements)

@@ -25,19 +25,16 @@ PACKAGING = TOP / "packaging"
 PROMPT, PATIENCE = "now> ", 8
 # What is typed, each before one Tab, and the line that is to stand there.
 COMPLETED = (
-    ("keyreg im", "keyreg import "),
-    ("keyreg rep", "keyreg report "),
-    ("keyreg run --fi", "keyreg run --file"),
-    ("keyreg import --file x --fir", "keyreg import --file x --first"),
+    ("keyreg im", "keyreg import "), ("keyreg rep", "keyreg report "), ("keyreg run --fi", "keyreg run --file"),
+    ("keyreg import --file x --fir", "keyreg import --file x --first"), ("keyreg report --da", "keyreg report --days"),
     ("keyreg serve --file x --po", "keyreg serve --file x --port"),
-    ("keyreg report --da", "keyreg report --days"),
     ("keyreg run --file off", "keyreg run --file office.keyreg"),
     ("keyreg run --file=off", "keyreg run --file=office.keyreg"),
     ("keyreg report --days 3 --file=off", "keyreg report --days 3 --file=office.keyreg"),
     ("keyreg run --file fol", "keyreg run --file folder/"),
+    ("keyreg run --file=~/ho", "keyreg run --file=~/home.keyreg"),
     ("keyreg run --file=folder/ye", "keyreg run --file=folder/year.keyreg"),
     ("keyreg run --file=two", "keyreg run --file=two\\ words.keyreg"),
-    ("keyreg run --file=~/ho", "keyreg run --file=~/home.keyreg"),
 )
 # What is typed before two Tabs, and the choices that are to stand on the screen.
 CHOICES = (("keyreg ", "init run import export report serve"),

@@ -18,21 +18,25 @@ From the base on all is in a network of its own, in which the ports of the units
 import contextlib
 import ctypes
 import fcntl
+import os
 import pathlib
+import pty
 import re
 import shutil
 import socket
 import struct
 import subprocess
 import sys
+import termios
+import time
 import types
 from typing import Any, Iterator
 
 sys.path.insert(1, str(pathlib.Path(__file__).resolve().parents[1] / "shared"))
 from places import read, use
 import completion
-import document_commands
-from roots import MIRROR, PACKAGES, anchor_of, blocks_of, call, made_package, make_base
+from document_commands import anchor_of, compared
+from roots import MIRROR, PACKAGES, blocks_of, call, made_package, make_base
 from script import expect, fresh_folder, options, verdict
 from serving import begins_to_listen
 
@@ -144,7 +148,7 @@ def read_there(root: pathlib.Path, docs: pathlib.Path) -> None:
     (root / "tmp/reader").mkdir()
     texts = {f"/{(docs / name).relative_to(root)}": (docs / name).read_text("utf-8") for name in PAGES}
     shell = inside(root, "/tmp/reader", "HOME=/tmp/reader", "no_proxy=*", "bash", "-c")
-    wrong, count = document_commands.compared(texts, str(root), shell)
+    wrong, count = compared(texts, str(root), shell)
     fault(not wrong and count > 0, f"of {count} blocks of commands: {wrong}")
     shutil.rmtree(root / "tmp/reader")
 
@@ -163,6 +167,27 @@ def row_words(docs: pathlib.Path, name: str) -> str:
     """What the row of this name in the table of *Packages* has a person type; a name of a unit is no command."""
     row = re.search(rf"(?m)^\| {name} \| (.*) \|$", (docs / "docs/OPERATING.md").read_text("utf-8"))[1]
     return "\n".join(words for words in re.findall(r"`([^`]*)`", row) if " " in words)
+
+
+def in_terminal(words: list[str]) -> None:
+    """Calls a command in a terminal, and types the password as often as it is asked for: it is shown nowhere."""
+    process, terminal = pty.fork()
+    if not process:
+        os.execvp(words[0], words)
+    shown, typed = "", 0
+    with contextlib.suppress(OSError):
+        while piece := os.read(terminal, 4096):
+            shown += piece.decode(errors="replace")
+            while shown.lower().count("password:") > typed:
+                # What is typed before the terminal hides it is shown.
+                late = time.monotonic() + 5
+                while termios.tcgetattr(terminal)[3] & termios.ECHO and time.monotonic() < late:
+                    time.sleep(0.01)
+                os.write(terminal, f"{PASSWORD}\n".encode())
+                typed += 1
+    os.close(terminal)
+    status = os.waitstatus_to_exitcode(os.waitpid(process, 0)[1])
+    fault(status == 0 and typed > 0 and PASSWORD not in shown, f"in a terminal: {status}, asked {typed} times: {shown}")
 
 
 @contextlib.contextmanager
@@ -201,9 +226,7 @@ def desk(root: pathlib.Path, docs: pathlib.Path, units: pathlib.Path) -> None:
     list_words = unit_words(root, units / "keyreg-list.service")
     head = re.search(r"(?:^#     .*\n)+", (units / "keyreg.service").read_text(), re.M)[0]
     call_well(*as_root(root, re.sub(r"(?m)^#     ", "", head)))
-    # With the password that it asks for in a terminal.
-    words = "\n".join(blocks_of(docs / "docs/OPERATING.md")["the-desk"][0])
-    call_well(*as_root(root, words.replace("openssl passwd -6", f"openssl passwd -6 {PASSWORD}")))
+    in_terminal(as_root(root, "\n".join(blocks_of(docs / "docs/OPERATING.md")["the-desk"][0])))
     nginx = as_root(root, "exec nginx -g 'daemon off;'")
     call_well(*list_words)
     with running(unit_words(root, units / "keyreg.service"), 8420), running(nginx, DESK_PORT) as is_there:

@@ -1,11 +1,11 @@
 """A root with Debian's base, the package that goes into it, and the blocks of commands of a page."""
 import pathlib
-import re
 import subprocess
 import sys
 from typing import Any, Sequence
 
 from places import TOP
+from document_commands import anchor_of
 from script import output_of
 
 PACKAGES = TOP / "packages"
@@ -29,11 +29,6 @@ def make_base(root: pathlib.Path, base: str, mirror: str, more: Sequence[str]) -
     else:
         print("fetching Debian's base", file=sys.stderr)
         output_of(["debootstrap", "--variant=minbase", f"--include={','.join(more)}", "bookworm", root, mirror])
-
-
-def anchor_of(heading: str) -> str:
-    """How a link names a heading."""
-    return re.sub(r"[^\w -]", "", heading.lstrip("# ").lower()).replace(" ", "-")
 
 
 def blocks_of(page: pathlib.Path) -> dict[str, list[list[str]]]:

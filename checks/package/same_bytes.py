@@ -2,9 +2,10 @@
 """The package is made bit for bit the same anywhere: twice, in copies of the checkout in two folders, with other times
 of the files, another umask, zone, language, disk and number of cores, each of its files has the same bytes.
 
-    checks/package/same_bytes.py
+    checks/package/same_bytes.py [--other PROGRAM]
 
-Both are of the program that is built, or of KEYREG. It needs what ./package needs (`apt-get install dpkg binutils`).
+Both are of the program that is built, or of KEYREG; with --other the second is of another build of the same sources,
+which is compared too. It needs what ./package needs (`apt-get install dpkg binutils`).
 
 What another version of a tool (strip, xz, gzip, tar) would make is not seen here.
 """
@@ -16,7 +17,7 @@ from typing import Iterator, NamedTuple, Optional
 
 sys.path.insert(1, str(pathlib.Path(__file__).resolve().parents[1] / "shared"))
 from places import PROGRAM, TOP
-from script import fresh_folder, output_of, verdict
+from script import fresh_folder, options, output_of, verdict
 
 
 class Place(NamedTuple):
@@ -46,7 +47,7 @@ def difference(first: pathlib.Path, second: pathlib.Path) -> Iterator[str]:
                f"{len(os.path.commonprefix([one, other]))} on")
 
 
-def packaged(base: pathlib.Path, place: Place) -> pathlib.Path:
+def packaged(base: pathlib.Path, place: Place, program: pathlib.Path) -> pathlib.Path:
     """The folder of packages that a copy of the checkout, as git would take it, makes in a place of its own."""
     folder = base / place.folder
     names = output_of(["git", "ls-files", "-z", "--cached", "--others", "--exclude-standard"], cwd=TOP)
@@ -56,7 +57,7 @@ def packaged(base: pathlib.Path, place: Place) -> pathlib.Path:
         shutil.copyfile(TOP / name, folder / name)
         (folder / name).chmod((0o777 if os.access(TOP / name, os.X_OK) else 0o666) & ~place.umask)
         os.utime(folder / name, (MOMENT + place.shift, MOMENT + place.shift))
-    environment = {**os.environ, "SOURCE_DATE_EPOCH": str(MOMENT), "KEYREG": os.path.abspath(PROGRAM),
+    environment = {**os.environ, "SOURCE_DATE_EPOCH": str(MOMENT), "KEYREG": os.path.abspath(program),
                    **place.environment}
     output_of(["./package"], cwd=folder, env=environment,
               preexec_fn=lambda: place.cores and os.sched_setaffinity(0, place.cores))
@@ -65,10 +66,12 @@ def packaged(base: pathlib.Path, place: Place) -> pathlib.Path:
 
 
 def main() -> None:
+    programs = pathlib.Path(PROGRAM), pathlib.Path(options(__doc__, other=PROGRAM).other)
+    faults = [*difference(*programs)]
     with fresh_folder() as base:
-        first, second = (packaged(base, place) for place in PLACES)
+        first, second = (packaged(base, place, program) for place, program in zip(PLACES, programs))
         names = {path.name for folder in (first, second) for path in folder.iterdir()}
-        faults = [fault for name in sorted(names) for fault in difference(first / name, second / name)]
+        faults += [fault for name in sorted(names) for fault in difference(first / name, second / name)]
         summed = {line.split()[1] for line in (first / "SHA256SUMS").read_text().splitlines()}
         if summed != names - {"SHA256SUMS"}:
             faults.append(f"SHA256SUMS names {sorted(summed)} of {sorted(names)}")

@@ -61,8 +61,7 @@ def by_python(served: Served, method: str, path: str, fields: Sequence[str] = ()
         return head(f"HTTP/1.{reply.version - 10} {reply.status} {reply.reason}", *lines) + reply.read()
 
 
-def by_bytes(served: Served, method: str, path: str, fields: Sequence[str] = (),
-             body: Optional[bytes] = None) -> bytes:
+def by_bytes(served: Served, method: str, path: str, fields: Sequence[str] = (), body: Optional[bytes] = None) -> bytes:
     length = [] if body is None else [f"Content-Length: {len(body)}"]
     return served.raw(head(f"{method} {path} HTTP/1.1", "Host: localhost", *fields, *length) + (body or b""))
 

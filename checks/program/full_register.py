@@ -1,7 +1,7 @@
 #!/usr/bin/env python3
 """A register of 1000000 keys, which is full, and of more requests than that: it opens, its export and its report have
-every key, its first and last request are answered again, a further registration is refused 20, and the last key takes a
-request.
+every key, its first and last request are answered again, the last key takes a request, and a further registration is
+refused 20, over HTTP too.
 
     checks/program/full_register.py [--keys N]
 
@@ -13,9 +13,11 @@ import pathlib
 import sys
 
 sys.path.insert(1, str(pathlib.Path(__file__).resolve().parents[1] / "shared"))
+from answers import refusal_reply
 from registers import EXPORT_COLUMNS, UNSET, expect_replies, export_row, keyreg, write_register
 from register_rules import MOST_KEYS
-from script import fresh_folder, in_order, options, verdict
+from script import expect, fresh_folder, in_order, options, verdict
+from serving import Served, post_command
 
 # Advances after the registrations, of another caller.
 MORE = 100
@@ -50,6 +52,10 @@ def main() -> None:
             (f"100 eve 1 {COMMAND}", "refused 20 Full" if keys == MOST_KEYS else f"ok {keys + 1} Active 100"),
             (f"200 bob 1 assign {keys} fay", f"ok {keys} Active 200"),
         ])
+        with Served(file=str(file)) as served:
+            reply = served.raw(post_command("eve", 2, ("register", "master", "bob", None, None, None, "disks")))
+            is_right = reply == refusal_reply(20) if keys == MOST_KEYS else reply.startswith(b"HTTP/1.1 200 ")
+            expect(is_right, f"over HTTP one key more gets {reply}")
     verdict(f"a register of {keys} keys opens, is exported and reported whole, and answers")
 
 

@@ -13,17 +13,15 @@ are imported at once, and asked at the first and the last keys. It needs Linux.
 import itertools
 import pathlib
 import sys
-import time
 from typing import Any
 
 sys.path.insert(1, str(pathlib.Path(__file__).resolve().parents[1] / "shared"))
-from answers import get_reply, reply_line, served_since
-import first_version
-from registers import INDEXES, keyreg, new_register, sound_rows
+from answers import get_reply, reply_line
+from registers import INDEXES, keyreg, new_register, sound_rows, write_first_version
 from register_rules import PERIODS, Register, line
 from rules_shown import DAY, export_text, import_table, report_text, tables
 from script import expect, fresh_folder, in_memory, in_order, options, verdict
-from serving import Served, get, post_command
+from serving import Served, get
 
 KEYS, BEGUN, YEAR = 150, 1_000_000_000, 365 * DAY
 Exchanges = list[tuple[str, str]]
@@ -145,11 +143,7 @@ def look_at_serve(file: pathlib.Path, register: Register) -> Register:
     with Served(exchanges=len(requests) + 2 * len(keys + touched), file=str(file)) as served:
         look_at_keys(served, register, keys)
         for request in requests:
-            begun = int(time.time())
-            reply = served.raw(post_command(*request))
-            after = served_since(begun, register, *request)
-            expect(reply in after, f"{request}: {reply}, where {[*after]} is wanted")
-            register = after[reply]
+            _, register = served.answered(register, *request)
         look_at_keys(served, register, touched)
         expect((fault := served.ended()) is None, f"serve: {fault}")
     return register
@@ -173,7 +167,7 @@ def look_at_versions(folder: pathlib.Path) -> Office:
     """The office made by the program, and from a file of version 1."""
     office, made, first = Office(), folder / "made", folder / "first"
     first_requests(office)
-    first_version.write(first, INDEXES, tables(office.register))
+    write_first_version(first, INDEXES, tables(office.register))
     count = len(office.exchanges)
     later_requests(office)
     look_at_replies(first, office.exchanges[count:], "version 1, run")

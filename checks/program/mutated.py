@@ -19,12 +19,11 @@ import time
 from typing import Sequence
 
 sys.path.insert(1, str(pathlib.Path(__file__).resolve().parents[1] / "shared"))
-from answers import compact, request_object
 from command_day import SHORT
 from registers import copy_files, new_register, run_program, sound_rows
 from rules_shown import import_table
 from script import expect, fresh_folder, options, verdict
-from serving import Served, get, post
+from serving import Served, get, post_command
 
 PATIENCE = 20
 ERROR = re.compile(rb"(keyreg: (Memory|Store|Broken|NotARegister|NewerVersion|ReadFault|WriteFault|BadHeader)\n)?")
@@ -38,9 +37,9 @@ TABLE = import_table([
     ("master", "bob", None, None, None, 'the "blue" disks'),
     ("private-signature", "eve", 0, 13046400, 31536000, "code signing")]).encode()
 # A command of each kind, and the two that ask for a key.
+COMMANDS = {asked.request.word: asked.request.command for asked in SHORT}.values()
 HEADS = [get("/keys/1"), b"GET /keys/1/usage HTTP/1.0\r\n\r\n"] + [
-    post(compact(request_object(command)), "Caller: ann", f"Request-Number: {number}")
-    for number, command in enumerate({asked.request.word: asked.request.command for asked in SHORT}.values(), 1)]
+    post_command("ann", number, command) for number, command in enumerate(COMMANDS, 1)]
 PIECES = [
     b"\n", b"\r", b"\r\n", b"\0", b" ", b"  ", b",", b'"', b'""', b"-", b"=", b"0", b"01", b"253402300799",
     b"253402300800", b"4294967296", b"9007199254740992", b"18446744073709551616", b"\xff", b"\xc3\x28",

@@ -24,20 +24,18 @@ import pathlib
 import sqlite3
 import subprocess
 import sys
-import time
 from typing import NamedTuple, Optional, Sequence
 
 sys.path.insert(1, str(pathlib.Path(__file__).resolve().parents[1] / "shared"))
 from places import PROGRAM
-from answers import reply_line, served_since
+from answers import reply_line
 from command_day import SHORT
 from disk_cuts import AT_RANDOM, EXTREMES, PARTS, Choice, Disk, Event, Files, events_of, put, traced
-import first_version
-from registers import INDEXES, answered_and_killed, new_register, run_program, sound_rows
+from registers import INDEXES, answered_and_killed, new_register, run_program, sound_rows, write_first_version
 from register_rules import OF_VERSION_2, Register, Request, line
 from rules_shown import Rows, import_table, tables
 from script import expect, fresh_folder, options, verdict
-from serving import PATIENCE, Served, post_command
+from serving import PATIENCE, Served
 
 PROCESSES = 2
 # Of so many pairs of files one is given all requests again.
@@ -124,7 +122,7 @@ def migration(file: str) -> Recording:
     register = Register()
     for request in FIRST:
         reply_line(register, *request)
-    first_version.write(file, INDEXES, tables(register))
+    write_first_version(file, INDEXES, tables(register))
     return recorded(file, FIRST, AFTER)
 
 
@@ -146,11 +144,8 @@ def exchanges(file: str) -> Recording:
     replies, requests, register = [], [], Register()
     with Served(exchanges=len(asks), file=file, before=traced(trace)) as served:
         for ask in asks:
-            begun = int(time.time())
-            reply = served.raw(post_command(*ask))
-            after = served_since(begun, register, *ask)
-            expect(reply in after and reply.startswith(b"HTTP/1.1 200 "), f"exchanges: {reply}")
-            register = after[reply]
+            reply, register = served.answered(register, *ask)
+            expect(reply.startswith(b"HTTP/1.1 200 "), f"exchanges: {reply}")
             replies.append(reply)
             requests.append(Request(json.loads(reply.partition(b"\r\n\r\n")[2])["moment"], *ask))
         expect((fault := served.ended()) is None, f"exchanges: {fault}")

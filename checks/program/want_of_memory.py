@@ -29,11 +29,11 @@ from typing import Any, Callable, Iterable, Iterator, Optional, Union
 
 sys.path.insert(1, str(pathlib.Path(__file__).resolve().parents[1] / "shared"))
 from places import PROGRAM
-import first_version
 from answers import MEMORY, STORE, get_reply, served_since, register_of
 from command_day import SHORT
 from refusing import PATIENCE, End, Refusing, built
 from registers import APPROVED_ANEW_ROWS, copy_files, expect_replies, keyreg, new_register, run_program, sound_rows
+from registers import write_first_version
 from register_rules import Refused, Register, request_of
 from rules_shown import Rows, export_text, import_table, report_text, tables
 from script import expect, fresh_folder, options, verdict
@@ -233,7 +233,7 @@ PARTS: dict[str, Any] = {
     "init": Init(["init"], lambda file: None),
     "opening": Part(["serve", "--port", str(TAKEN.getsockname()[1]), "--exchanges", "1"], made_of_lines,
                     steps=STEPS[-1:], status=4, error=b"keyreg: ReadFault\n"),
-    "migration": Part(["run"], first_version.write, steps=[APPROVED_ANEW_ROWS]),
+    "migration": Part(["run"], write_first_version, steps=[APPROVED_ANEW_ROWS]),
     **{name: Exchange(asked) for name, asked in ASKED.items()},
 }
 # Where each process tries.

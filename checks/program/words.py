@@ -25,12 +25,12 @@ import time
 from typing import Any, Sequence
 
 sys.path.insert(1, str(pathlib.Path(__file__).resolve().parents[1] / "shared"))
-from answers import BAD, get_reply, served_since, register_of
+from answers import BAD, get_reply, register_of
 from places import PROGRAM, read
-from registers import APPROVED_ANEW, APPROVED_ANEW_ROWS, EXPORT_COLUMNS, IMPORT_COLUMNS, VERSION, File
-from registers import answered_and_killed, database, export_row, new_register, run_program, table_rows
+from registers import ACCEPTED, APPROVED_ANEW, APPROVED_ANEW_ROWS, EXPORT_COLUMNS, IMPORT_COLUMNS, VERSION, File
+from registers import Life, answered_and_killed, database, export_row, new_register, run_program, table_rows
 from script import expect, fresh_folder, options, verdict
-from serving import Served, begins_to_listen, free_port, get, listens, post_command
+from serving import Served, begins_to_listen, free_port, get, listens
 
 # So long, in seconds, a command may take, and so long a program is looked at that is not to end.
 PATIENCE, GLANCE = 30, 0.2
@@ -40,10 +40,9 @@ OPTIONS = {
     "serve": {"port": "8420", "exchanges": "1"},
 }
 HEADER, ROW, IMPORTED = ",".join(IMPORT_COLUMNS) + "\n", "master,bob,,,,spare\n", "ok 2 Pre-Active 110\n"
-LINES, REPLIES = ("".join(text + "\n" for text in texts) for texts in zip(*APPROVED_ANEW))
-# The same without the one that is refused: a request that comes again has its first reply.
-AGAIN, FIRST_REPLIES = ("".join(text + "\n" for text in texts)
-                        for texts in zip(*(pair for pair in APPROVED_ANEW if pair[1].startswith("ok "))))
+# Of those that are accepted each has its first reply where it comes again.
+LINES, REPLIES, AGAIN, FIRST_REPLIES = ("".join(text + "\n" for text in texts)
+                                        for exchanges in (APPROVED_ANEW, ACCEPTED) for texts in zip(*exchanges))
 EXPORTED = "".join(",".join(row) + "\n" for row in (EXPORT_COLUMNS, export_row(
     state="Destroyed-Compromised", destroyed="1970-01-01T00:01:48Z", compromised="1970-01-01T00:01:49Z",
     occurrence="1970-01-01T00:01:40Z")))
@@ -206,13 +205,10 @@ def look_at_strangers(folder: pathlib.Path) -> None:
 def look_at_held(folder: pathlib.Path) -> None:
     """A register that another program holds."""
     file = made(folder / "held")
-    with subprocess.Popen([PROGRAM, "run", "--file", file], stdin=subprocess.PIPE, stdout=subprocess.PIPE) as holder:
-        holder.stdin.write(b"200 zed 1 advance\n")
-        holder.stdin.flush()
-        holder.stdout.readline()
+    with Life(file) as life:
+        life.reply("200 zed 1 advance")
         for command in OPTIONS:
             look(words_for(command, file), STORE, given=LINES)
-        holder.stdin.close()
 
 
 # ---- streams and files that fail
@@ -351,7 +347,7 @@ def look_at_serve(folder: pathlib.Path) -> None:
     register, lines = register_of((100, "ann", 1, ("register", "master", "bob", None, None, None, "spare")))
     exchanges = [(get("/keys/1"), get_reply(register, 1, False)), (b"no request\r\n\r\n", BAD), (b"", b"")]
     for count, length in enumerate((100, 200, 300), 1):
-        file, begun = made(long_path(folder, length), lines[0]), int(time.time())
+        file = made(long_path(folder, length), lines[0])
         with Served(exchanges=count + 1, file=file) as served, socket.socket() as other:
             expect(other.connect_ex(("127.0.0.2", served.port)), "another address is served")
             for sent, wanted in exchanges[:count]:
@@ -359,8 +355,7 @@ def look_at_serve(folder: pathlib.Path) -> None:
                 expect(reply == wanted, f"serve {count + 1}: {reply} to {sent!r}")
                 time.sleep(GLANCE)
                 expect(not served.has_ended(), f"serve {count + 1} ended behind {sent!r}")
-            reply = served.raw(post_command("zed", 1, ("advance",)))
-            expect(reply in served_since(begun, register, "zed", 1, ("advance",)), f"at {length} bytes: {reply}")
+            served.answered(register, "zed", 1, ("advance",))
             fault = served.ended()
             expect(fault is None and not listens(served.port), f"serve {count + 1}: {fault}, or it listens still")
         kept = [row[:3] for row in table_rows(shutil.copy(file, folder / "alone"))["request"]]

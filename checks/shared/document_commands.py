@@ -32,6 +32,12 @@ class Fence(NamedTuple):
     text: str
 
 
+def anchor_of(heading: str) -> str:
+    """How a link names a heading, whose own links are their texts."""
+    text = re.sub(r"\[([^\]]*)\]\([^)]*\)", r"\1", heading.lstrip("# ")).strip().lower()
+    return re.sub(r"[^\w\- ]", "", text).replace(" ", "-")
+
+
 def fences_of(text: str) -> list[Fence]:
     return [Fence(text.count("\n", 0, fence.start()) + 2, fence[1].strip(), fence[2])
             for fence in re.finditer(r"(?ms)^```([^\n]*)\n(.*?)^```[^\n]*$", text)]

@@ -7,8 +7,7 @@ import random
 import sqlite3
 from typing import Iterable, Iterator, Sequence
 
-from first_version import write
-from registers import APPROVED_ANEW, INDEXES, File, copy_files, database, new_register
+from registers import APPROVED_ANEW, INDEXES, File, copy_files, database, new_register, write_first_version
 from script import expect
 
 DAY = 86400
@@ -49,10 +48,8 @@ def rows_of(file: File) -> dict[str, list[tuple]]:
 
 def first_version(file: str) -> str:
     """A file of version 1 with the rows of one of version 2 in which no request is of version 2 alone."""
-    first_file = f"{file}.first"
-    rows = {name: rows[::-1] for name, rows in rows_of(file).items()}
-    write(first_file, INDEXES, rows)
-    return first_file
+    write_first_version(f"{file}.first", INDEXES, {name: rows[::-1] for name, rows in rows_of(file).items()})
+    return f"{file}.first"
 
 
 def changed(file: str, *statements: tuple) -> str:
@@ -66,14 +63,19 @@ def changed(file: str, *statements: tuple) -> str:
     return other
 
 
+def anew(table: str, columns: str = "*", order: str = "") -> list[str]:
+    """Statements that make a table of the register anew: with these columns, in an order, and of no types."""
+    return [f"CREATE TABLE other AS SELECT {columns} FROM {table} {order}", f"DROP TABLE {table}",
+            f"ALTER TABLE other RENAME TO {table}"]
+
+
 # ---- drawn requests
 
 KINDS = ("data-encryption", "private-signature", "master")
 PEOPLE = ("ann", "bob", "cat", "dan", "eve", "office")
 
 
-def drawn(chance: random.Random, count: int, steps: Sequence[int],
-          purposes: Sequence[str] = ()) -> Iterator[str]:
+def drawn(chance: random.Random, count: int, steps: Sequence[int], purposes: Sequence[str] = ()) -> Iterator[str]:
     """Lines of all commands; many are refused. The moments go on by one of the steps."""
     moment, date = 1_700_000_000, lambda: chance.choice(["-", "-", moment + chance.randrange(-9, 900) * DAY])
     for number in range(1, count + 1):

@@ -5,7 +5,7 @@ import re
 import shutil
 import sqlite3
 import subprocess
-from typing import Any, Iterable, Iterator, Optional, Sequence, Union
+from typing import Any, Iterable, Iterator, Mapping, Optional, Sequence, Union
 
 from places import PROGRAM, VERSION_1
 import register_rules
@@ -42,8 +42,9 @@ CREATE TABLE period (kind INTEGER PRIMARY KEY, originator INTEGER NOT NULL, reci
 CREATE TABLE quorum (key_no INTEGER PRIMARY KEY REFERENCES keys(number), need INTEGER NOT NULL) STRICT;
 """
 
-# A worked row: each line with its reply.
+# A worked row: each line with its reply, and those that are accepted.
 APPROVED_ANEW = list(zip(*worked_rows()["approved anew by one who was removed"][1:]))
+ACCEPTED = [exchange for exchange in APPROVED_ANEW if exchange[1].startswith("ok ")]
 
 # Its rows, by the formats: type 7 is master, state 1 Pre-Active, 5 Destroyed, 6 Destroyed-Compromised; a compromise
 # without an occurrence gets the Initial Date.
@@ -101,14 +102,24 @@ def expect_replies(file: File, exchanges: Iterable[tuple[str, str]]) -> None:
     expect(replies == list(wanted), f"{file}: replies {replies}, not {list(wanted)}")
 
 
-def answered_and_killed(file: File, lines: Sequence[str]) -> None:
+class Life(subprocess.Popen):
+    """A run over a file, which no other program gets before the `with` ends it."""
+
+    def __init__(self, file: File) -> None:
+        super().__init__([PROGRAM, "run", "--file", file], stdin=subprocess.PIPE, stdout=subprocess.PIPE)
+
+    def reply(self, line: str) -> str:
+        self.stdin.write(f"{line}\n".encode())
+        self.stdin.flush()
+        return self.stdout.readline().decode().rstrip("\n")
+
+
+def answered_and_killed(file: File, lines: Iterable[str]) -> None:
     """Runs the lines over the file, and kills the program once it has answered them: they stand in the log."""
-    with subprocess.Popen([PROGRAM, "run", "--file", file], stdin=subprocess.PIPE, stdout=subprocess.PIPE) as process:
-        process.stdin.write("".join(line + "\n" for line in lines).encode())
-        process.stdin.flush()
-        for _ in lines:
-            process.stdout.readline()
-        process.kill()
+    with Life(file) as life:
+        for line in lines:
+            life.reply(line)
+        life.kill()
 
 
 def copy_files(file: Optional[File], other: File) -> File:
@@ -171,3 +182,10 @@ def write_register(file: File, latest: int, count: int, version: int = VERSION, 
             connection.executemany(f"INSERT INTO {name} VALUES ({cells})", of_table)
         connection.commit()
         connection.executescript(more)
+
+
+def write_first_version(file: File, more: str = "", tables: Mapping[str, Sequence[tuple]] = APPROVED_ANEW_ROWS) -> None:
+    """A file of version 1 with the rows of these tables, those of version 2 aside, and with what an office has."""
+    [(_, _, latest, count)] = tables["meta"]
+    rows = {name: tables[name][::-1] for name in APPROVED_ANEW_ROWS if name not in ("meta", "period", "quorum")}
+    write_register(file, latest, count, 1, more, **rows)

@@ -12,11 +12,12 @@ import socket
 import subprocess
 import tempfile
 import time
-from typing import Iterable, Optional
+from typing import Any, Iterable, Optional
 
-from answers import compact, request_object
+from answers import compact, request_object, served_since
 from places import PROGRAM
 from registers import keyreg, new_register
+from register_rules import Register
 from script import expect, in_memory
 
 # So long, in seconds, a start, a reply and an end may take.
@@ -102,6 +103,13 @@ class Served:
                 if ends:
                     connection.shutdown(socket.SHUT_WR)
             return received(connection)
+
+    def answered(self, register: Register, *request: Any) -> tuple[bytes, Register]:
+        """The reply to a request, which is that of the rules at a second since it was begun, and the register then."""
+        begun, reply = int(time.time()), self.raw(post_command(*request))
+        after = served_since(begun, register, *request)
+        expect(reply in after, f"{request}: {reply}, where {[*after]} is wanted")
+        return reply, after[reply]
 
     def has_ended(self) -> bool:
         return self.process.poll() is not None

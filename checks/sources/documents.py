@@ -24,6 +24,7 @@ The parts, all but the last where none is named:
 The program is the one that ./keyreg builds, or that KEYREG names.
 """
 import functools
+import itertools
 import os
 import pathlib
 import re
@@ -38,13 +39,15 @@ import contracts
 import definitions
 import theorem
 from contracts import Function, functions, stands_on
-from document_commands import first_look, wrong_outputs
+from document_commands import anchor_of, first_look, wrong_outputs
 from script import options, verdict
 use("bench")
 import costs_svg
 
 QUOTED = re.compile(r"`([^`\n]+)`")
 NAME = re.compile(r"`(\w+(?:::\w+)*)`")
+# A field or a variant of a type, and a ghost of a trait.
+MEMBER = re.compile(r"(?m)^ {4}(?:(?:pub(?:\([\w ]+\))? )?(\w+): |ghost (\w+)|([A-Z]\w*)(?:\(|,| \{))")
 # Brackets, and those within them.
 ASIDE = re.compile(r"\((?:[^()]|\([^()]*\))*\)")
 NUMBERS = {word: str(number) for number, word in enumerate(
@@ -91,11 +94,16 @@ def functions_named(text: str, owner: str = "") -> list[Function]:
 
 
 @functools.lru_cache
-def words_of_code() -> set[str]:
-    """Each word that the crates have outside comments, and the names of crates."""
-    paths = [path for form in ("src/**/*.rt", "specs/**/*.antt") for path in listed(f"crates/*/{form}")]
-    texts = [read("crates.txt"), *(re.sub(r"(?://|--).*", "", read(path)) for path in paths)]
-    return set().union(*(re.findall(r"\w+", text) for text in texts))
+def defined_names() -> set[str]:
+    """Each name that specs/ or the code define, or the code brings in by `use`, and those of modules and crates."""
+    names = {key.name for key in definitions.spec_keys()}.union(stands_on(), *stands_on().values())
+    names.update(*(re.findall(r"(?m)^ +pub (\w+) :", read(path)) for path in listed("crates/*/specs/**/*.antt")))
+    for function in functions():
+        names |= {function.name, *function.clauses}
+    for file in definitions.rust_files():
+        members = (MEMBER.findall("\n".join(file.item(at))) for at in file.items.values())
+        names.update(file.items, file.used, [pathlib.Path(file.place).stem], *itertools.chain.from_iterable(members))
+    return names
 
 
 def clause_lists(segment: str) -> Iterator[tuple[list[str], list[str]]]:
@@ -134,7 +142,7 @@ def unknown_names(line: str) -> Iterator[str]:
     for name in NAME.findall(line):
         last = name.split("::")[-1]
         is_call = "::" in name and last[0].islower() and last != "laws"
-        if not (functions_named(name) if is_call else last in words_of_code()):
+        if not (functions_named(name) if is_call else last in defined_names()):
             yield f"nothing is named `{name}`"
 
 
@@ -156,9 +164,9 @@ def promise_faults() -> Faults:
         for number, line in numbered(document):
             cell = (cells(line) or [""])[-1]
             lists += cell.count(" clause")
-            of_line = [*clause_faults(cell)]
-            if document == "docs/PROMISES.md":
-                of_line += unknown_names(line)
+            is_promise = document == "docs/PROMISES.md"
+            of_line = [*clause_faults(cell), *(unknown_names(line) if is_promise or " clause" in cell else [])]
+            if is_promise:
                 of_line += [f"a cell of more than {MOST_WORDS} words: {text}" for text in cells(line)
                             if len(text.split()) > MOST_WORDS]
             faults += [f"{document}:{number}: {fault}" for fault in of_line]
@@ -170,9 +178,7 @@ def promise_faults() -> Faults:
 
 def headings(path: str) -> set[str]:
     """The anchors of a document's headings."""
-    texts = (re.sub(r"[`*]", "", re.sub(r"\[([^\]]*)\]\([^)]*\)", r"\1", line.lstrip("#"))).strip().lower()
-             for _, line in numbered(path) if line.startswith("#"))
-    return {re.sub(r"[^\w\- ]", "", text).replace(" ", "-") for text in texts}
+    return {anchor_of(line) for _, line in numbered(path) if line.startswith("#")}
 
 
 def link_faults(document: str, target: str) -> Iterator[str]:
@@ -203,8 +209,7 @@ def path_faults() -> Faults:
     faults, count = list(install_faults()), 0
     for document in documents():
         for number, line in numbered(document):
-            links = [link or reference for link, reference in
-                     re.findall(r"\]\(([^)\s]+)\)|^\[[^\]]+\]: (\S+)", line)]
+            links = [link or reference for link, reference in re.findall(r"\]\(([^)\s]+)\)|^\[[^\]]+\]: (\S+)", line)]
             targets = [link for link in links if not link.startswith("http")]
             plain = re.sub(r"\[[^]]*\]\([^)]*\)|^\[.*\]: .*", "", line)
             paths = FILE.findall(plain) + [text.split()[0] for text in QUOTED.findall(line) if FOLDER.match(text)]

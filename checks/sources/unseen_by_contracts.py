@@ -7,13 +7,12 @@
   lines of MARKED alone, in a pattern or as a field, and so are the calls that set one. These are the turns of
   crates/streams, each a function of a few lines. So it is with what came of listening, accepting and asking for the
   moment.
-- Whether memory gave out: the end 30, and the error that becomes it, is told in the places of TOLD, behind a call that
-  asks for memory, or where a count of bytes would pass 2^64. None asks for room beforehand, so that no more is asked
-  for than a value needs.
+- Whether memory gave out: the end 30, and the error that becomes it, is told in PLACES, behind a call that asks for
+  memory, or where a count of bytes would pass 2^64. None asks for room beforehand, so that no more is asked for than a
+  value needs.
 - Whether a call of the database was refused, which no contract of `sqlite`'s ties to what it left: the end 31, the
-  refusal and the errors that become it, and the mark of a broken desk, are made in the places of REFUSED, each behind
-  such a call, or behind a row that no register holds. The one `sqlite::Error` that is made here is that of rows past
-  2^64.
+  refusal and the errors that become it, and the mark of a broken desk, are made in PLACES, each behind such a call, or
+  behind a row that no register holds. The one `sqlite::Error` that is made here is that of rows past 2^64.
 - How often a connection was called: each function of `Counted` makes the calls of CALLS, once.
 - What a crate of the program touches of the machine. A function reaches a file, a connection, a clock or the program's
   words only through what it is given: the calls of `std` that do take the runtime, or a value under one of its bounds.
@@ -56,46 +55,35 @@ MARKED = {
 # The most lines of the body of a turn, and of what it calls.
 TURNS, MOST_LINES = "crates/streams/src/watched/turns.rt", 14
 
-# In how many places a file makes an end, an error or a refusal that says that memory gave out. One that is handed on
-# under another name counts, one that is looked at does not: a value counts, and no pattern of a match, nor of an
-# `if let`, nor a type.
-TOLD = {
-    "disk_files/src/disk_files.rt": 1,
-    "http_messages/src/asking.rt": 3,
-    "http_messages/src/route.rt": 2,
-    "key_rows/src/export.rt": 3,
-    "keyreg/src/main.rt": 1,
-    "memory_disk/src/lib.rt": 1,
-    "register_desk/src/end.rt": 2,
-    "register_desk/src/memory.rt": 1,
-    "register_desk/src/opening.rt": 1,
-    "register_http/src/exchanging.rt": 1,
-    "register_program/src/faults.rt": 3,
-    "register_report/src/importing.rt": 2,
-    "register_report/src/table_writing.rt": 1,
-    "register_store/src/error.rt": 3,
-    "row_checks/src/reading.rt": 1,
+# In how many places a file makes an end, an error or a refusal that says that memory gave out, and in how many one that
+# says that a call of the database was refused. One that is handed on under another name counts, one that is looked at
+# does not: a value counts, and no pattern of a match, nor of an `if let`, nor a type.
+PLACES = {
+    "disk_files/src/disk_files.rt": (1, 2),
+    "http_messages/src/asking.rt": (3, 0),
+    "http_messages/src/route.rt": (2, 0),
+    "key_rows/src/export.rt": (3, 0),
+    "keyreg/src/main.rt": (1, 0),
+    "memory_disk/src/lib.rt": (1, 0),
+    "register_desk/src/desk.rt": (0, 1),
+    "register_desk/src/desk/applying.rt": (0, 2),
+    "register_desk/src/desk/listing.rt": (0, 2),
+    "register_desk/src/desk/look_ups.rt": (0, 2),
+    "register_desk/src/end.rt": (2, 1),
+    "register_desk/src/memory.rt": (1, 1),
+    "register_desk/src/opening.rt": (1, 1),
+    "register_desk/src/rows.rt": (0, 1),
+    "register_http/src/exchanging.rt": (1, 0),
+    "register_program/src/faults.rt": (3, 1),
+    "register_report/src/importing.rt": (2, 0),
+    "register_report/src/table_writing.rt": (1, 1),
+    "register_store/src/counted.rt": (0, 3),
+    "register_store/src/error.rt": (3, 4),
+    "register_store/src/stored_key.rt": (0, 1),
+    "row_checks/src/reading.rt": (1, 4),
 }
 MEMORY = re.compile(r"\b(?:End|OpenRefusal|AskFault|StoreError|CheckError|RowsError)::Memory\b"
                     r"(?!\)*\s*(?:=>|=[^=]|\|)|\.fmt)|(?<![<,:] )(?<!<)\bAllocError\b(?!>)")
-# In how many places it tells so that a call of the database was refused.
-REFUSED = {
-    "disk_files/src/disk_files.rt": 2,
-    "register_desk/src/desk.rt": 1,
-    "register_desk/src/desk/applying.rt": 2,
-    "register_desk/src/desk/listing.rt": 2,
-    "register_desk/src/desk/look_ups.rt": 2,
-    "register_desk/src/end.rt": 1,
-    "register_desk/src/memory.rt": 1,
-    "register_desk/src/opening.rt": 1,
-    "register_desk/src/rows.rt": 1,
-    "register_program/src/faults.rt": 1,
-    "register_report/src/table_writing.rt": 1,
-    "register_store/src/counted.rt": 3,
-    "register_store/src/error.rt": 4,
-    "register_store/src/stored_key.rt": 1,
-    "row_checks/src/reading.rt": 4,
-}
 REFUSAL = re.compile(r"\b(?:(?:End|OpenRefusal)::Store|StoreError::NoRegister"
                      r"|(?:StoreError|CheckError|CreateError|RowsError)::Database|(?<!\w)Error::SqliteFailure)\b"
                      r"(?!(?:\([^()]*\))?\)*\s*(?:=>|=[^=]|\|)|\.fmt)"
@@ -163,12 +151,13 @@ def place_faults() -> Iterator[str]:
     lines = [(path, line) for path in listed("crates/*/src/**/*.rt") if not path.startswith("crates/test_")
              for line in lines_of(path) if "use " not in line and "ensures" not in line]
     yield from (f"{path} asks for room: {line.strip()}" for path, line in lines if ROOM.search(line))
-    for what, word, wanted in (("want of memory", MEMORY, TOLD), ("a refused call", REFUSAL, REFUSED)):
+    for at, (what, word) in enumerate((("want of memory", MEMORY), ("a refused call", REFUSAL))):
         told = [(path, line.strip()) for path, line in lines for _ in word.findall(line)]
         counts = collections.Counter(path.removeprefix("crates/") for path, _ in told)
-        for file in sorted({*counts, *wanted}):
-            if counts[file] != wanted.get(file, 0):
-                yield f"{file} tells {what} in {counts[file]} places, and not in {wanted.get(file, 0)}:"
+        for file in sorted({*counts, *PLACES}):
+            wanted = PLACES.get(file, (0, 0))[at]
+            if counts[file] != wanted:
+                yield f"{file} tells {what} in {counts[file]} places, and not in {wanted}:"
                 yield from (f"    {line}" for path, line in told if path == f"crates/{file}")
 
 
@@ -184,9 +173,9 @@ def call_faults() -> Iterator[str]:
 def main() -> None:
     options(__doc__)
     faults = [*mark_faults(), *place_faults(), *call_faults(), *given_faults()]
-    verdict(f"marks of streams, {sum(TOLD.values())} places that make want of memory, {sum(REFUSED.values())} a "
-            f"refused call, {len(CALLS)} functions that call a connection, {len(GIVEN)} words of the machine: "
-            f"{len(faults)} faults", faults)
+    memory, refused = map(sum, zip(*PLACES.values()))
+    verdict(f"marks of streams, {memory} places that make want of memory, {refused} a refused call, {len(CALLS)} "
+            f"functions that call a connection, {len(GIVEN)} words of the machine: {len(faults)} faults", faults)
 
 
 main()

@@ -16,12 +16,11 @@ import sys
 
 sys.path.insert(1, str(pathlib.Path(__file__).resolve().parents[1] / "shared"))
 from places import VERSION_1
-import first_version
-from registers import APPROVED_ANEW, APPROVED_ANEW_ROWS, INDEXES, STATES, VERSION
-from registers import are_sound, database, expect_replies, keyreg, new_register, run_program, sound_rows, write_register
+from registers import ACCEPTED, APPROVED_ANEW, APPROVED_ANEW_ROWS, INDEXES, STATES, VERSION
+from registers import are_sound, database, expect_replies, keyreg, new_register, run_program, sound_rows
+from registers import write_first_version, write_register
 from script import expect, fresh_folder, options, verdict
 
-ACCEPTED = [(line, reply) for line, reply in APPROVED_ANEW if reply.startswith("ok ")]
 # Requests after those of *approved anew*.
 MORE = [
     ("110 bob 6 assign 1 eve", "ok 1 Destroyed-Compromised 110"),
@@ -123,7 +122,7 @@ def look_at_migration(file: pathlib.Path, goes_on: list[tuple[str, str]]) -> Non
 def migrated(folder: pathlib.Path) -> str:
     for place, more in enumerate(TAKEN):
         file = folder / f"taken_{place}.keyreg"
-        first_version.write(file, more)
+        write_first_version(file, more)
         look_at_migration(file, GOES_ON)
     # The file that a program of version 1 wrote.
     file = folder / "version_1.keyreg"
@@ -136,7 +135,7 @@ def migrated(folder: pathlib.Path) -> str:
 def refused(folder: pathlib.Path) -> str:
     for place, (more, name) in enumerate(REFUSED.items()):
         file = folder / f"refused_{place}.keyreg"
-        first_version.write(file, more)
+        write_first_version(file, more)
         before, content = dump(file), file.read_bytes()
         done = run_program(["run", "--file", file], b"200 ann 9 advance\n")
         end = (done.returncode, done.stdout, done.stderr)

@@ -23,8 +23,8 @@ import subprocess
 import sys
 
 sys.path.insert(1, str(pathlib.Path(__file__).resolve().parents[1] / "shared"))
-from places import OFFICE, PROGRAM
-from registers import copy_files, database, keyreg, new_register, run_program, table_rows
+from places import OFFICE
+from registers import Life, copy_files, database, keyreg, new_register, run_program, table_rows
 from register_rules import Register, request_of
 from rules_shown import Rows, tables
 from script import expect, fresh_folder, options, verdict
@@ -58,13 +58,11 @@ def as_taken(file: str) -> Rows:
 def killed_at(file: str, lengths: list[int]) -> dict[int, str]:
     """A life that goes on to these lengths, and copies of its files at each. The kill leaves what was taken last."""
     copies, place = {}, BEFORE
-    with subprocess.Popen([PROGRAM, "run", "--file", file], stdin=subprocess.PIPE, stdout=subprocess.PIPE) as life:
+    with Life(file) as life:
         for length in lengths:
             for place in range(place + 1, BEFORE + length + 1):
-                life.stdin.write(f"{line_at(place)}\n".encode())
-                life.stdin.flush()
-                reply = life.stdout.readline()
-                expect(reply.startswith(b"ok "), f"request {place}: {reply}")
+                reply = life.reply(line_at(place))
+                expect(reply.startswith("ok "), f"request {place}: {reply}")
             copies[length] = str(copy_files(file, f"{file}.{length}"))
         life.kill()
     for end in ("", "-wal"):

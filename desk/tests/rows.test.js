@@ -4,7 +4,7 @@ import {beforeEach, test} from "node:test";
 import {csvOf, records, tableOf} from "../csv.js";
 import {learnRegistered, take} from "../list.js";
 import {judgedRows} from "../rows.js";
-import {Store, cases, listOf} from "./shared.js";
+import {Store, listOf, madeCases} from "./shared.js";
 
 const HEAD = "type,owner,activation,protect_stop,deactivation,purpose";
 const bytes = (text) => new TextEncoder().encode(text);
@@ -42,14 +42,11 @@ test("what is given back has its reasons, and is a table again", () => {
   assert.deepEqual(tableOf(bytes(text)).rows, [rows[0], [...rows[1], "", "", ""]]);
 });
 
-const made = cases("made.json");
-for (const [key, rows] of [[made.key, made.rows], [made.ended, made.endedRows]]) {
-  for (const {case: name, row, made: isMade} of rows) {
-    test(`a row of a table that is a key already: ${name}`, () => {
-      take(listOf([key]));
-      assert.equal(sorts([row])[0] === "twice", isMade);
-    });
-  }
+for (const {case: name, row, made, key} of madeCases()) {
+  test(`a row of a table that is a key already: ${name}`, () => {
+    take(listOf([key]));
+    assert.equal(sorts([row])[0] === "twice", made);
+  });
 }
 
 test("a row is a key already right after it was registered, also behind the list", () => {

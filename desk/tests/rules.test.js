@@ -3,7 +3,7 @@ import assert from "node:assert/strict";
 import {test} from "node:test";
 import {isOverdue, judged, mayHaveMade, spansOf} from "../rules.js";
 import {momentOf, textFault} from "../words.js";
-import {cases} from "./shared.js";
+import {cases, madeCases} from "./shared.js";
 
 for (const {case: name, key, spans} of cases("spans.json")) {
   test(`a line: ${name}`, () => {
@@ -17,13 +17,10 @@ const keyOf = ([type, owner, activation, stop, end, purpose]) =>
 const fields = ({type, owner, activation, protect_stop: stop, deactivation: end, purpose}) =>
   [type, owner, activation, stop, end, purpose];
 
-const made = cases("made.json");
-for (const [key, rows] of [[made.key, made.rows], [made.ended, made.endedRows]]) {
-  for (const {case: name, row, made: isMade} of rows) {
-    test(`a row that is a key already: ${name}`, () => {
-      assert.equal(mayHaveMade(keyOf(row), keyOf(fields(key)), momentOf(made.moment)), isMade);
-    });
-  }
+for (const {case: name, row, made, key, moment} of madeCases()) {
+  test(`a row that is a key already: ${name}`, () => {
+    assert.equal(mayHaveMade(keyOf(row), keyOf(fields(key)), momentOf(moment)), made);
+  });
 }
 
 test("a key is overdue from its Protect Stop Date on, while it is Active", () => {

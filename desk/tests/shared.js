@@ -4,6 +4,12 @@ import {momentOf} from "../words.js";
 
 export const cases = (name) => JSON.parse(readFileSync(new URL(name, import.meta.url), "utf-8"));
 
+// The rows of made.json, which are a key already or are none, each with the key and the moment.
+export function madeCases() {
+  const {moment, key, rows, ended, endedRows} = cases("made.json");
+  return [...rows.map((row) => ({moment, key, ...row})), ...endedRows.map((row) => ({moment, key: ended, ...row}))];
+}
+
 const DATES = ["initial", "activation", "protect_stop", "deactivation", "destroyed", "compromised", "occurrence"];
 const TYPES = ["data-encryption", "authentication", "key-wrapping", "private-signature", "private-authentication",
   "private-transport", "master"];
