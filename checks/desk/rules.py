@@ -78,9 +78,10 @@ def commands_of(text: str, all_states: list[str]) -> Iterator[tuple[str, dict[st
 
 def tables_of(text: str) -> dict[str, dict[str, Any]]:
     """The tables of the document, by the desk's names for them."""
-    states = re.search(r"The states are (.*?) and `([^`]*)` \(the", text, re.DOTALL)
-    states = [*re.findall("`([^`]*)`", states[1]), states[2]]
+    states = re.findall("`([^`]*)`", re.search(r"The states are (.*?`) \(the", text, re.DOTALL)[1])
     reasons = re.search(r"Revocation Reason: (.*?)\.\s", text, re.DOTALL)[1]
+    later = re.search(r"custodians in it\. It has (?:neither|none of) (.*?), so each", text, re.DOTALL)[1]
+    later = {"-".join(name.lower().split()) for name in re.split(r",\s|\s(?:nor|and)\s", later)}
     commands = dict(commands_of(text, states))
     for kinds, members in rows_under(text, "| `kind` | The other members |"):
         for kind in re.findall('`"([^"]*)"`', kinds):
@@ -92,7 +93,7 @@ def tables_of(text: str) -> dict[str, dict[str, Any]]:
         "REFUSALS": {number: name.strip("`") for number, name, *_ in rows_under(text, "| No. | Name | Where |")},
         "REASONS": {number: " ".join(name.split())
                     for number, name in re.findall(r"(\d)\s+([A-Z][A-Za-z\s]*?)(?:,|$)", reasons)},
-        "COMMANDS": commands,
+        "COMMANDS": commands, "SINCE": {word: 1 + (word in later) for word in {*commands, *later}},
         "RANGES": {"date": [0, LAST]} | {
             field: [*map(int, re.search(rf"{words}\s+from\s+(\d+)\s+to\s+(\d+)", text).groups())]
             for field, words in (
@@ -103,15 +104,16 @@ def tables_of(text: str) -> dict[str, dict[str, Any]]:
 
 def tables_of_rules() -> dict[str, dict[str, Any]]:
     """The same of office/register_rules.py and checks/shared/answers.py, which have no reasons."""
-    commands = {word: {"who": who, "states": [STATES[state] for state in states] or None}
-                for word, (_, who, states, _) in {**COMMANDS, "revoke for compromise": FOR_COMPROMISE}.items()}
+    rows = {**COMMANDS, "revoke for compromise": FOR_COMPROMISE}
+    commands = {word: {"who": row.who, "states": [STATES[state] for state in row.states] or None}
+                for word, row in rows.items()}
     for word, members in MEMBERS.items():
         commands[word]["members"] = sorted(members)
     return {
         "STATES": dict(enumerate(STATES[1:])),
         "PERIODS": {kind: [*months] for kind, months in PERIODS.items()},
         "REFUSALS": {str(number): name for number, name in enumerate(REFUSALS, 1)},
-        "COMMANDS": commands,
+        "COMMANDS": commands, "SINCE": {word: row.since for word, row in rows.items()},
         "RANGES": {field: [*ends] for field, ends in RANGES.items() if field not in ("edit", "number")},
     }
 

@@ -9,9 +9,8 @@ from typing import Callable, Iterable, Iterator, Optional, Sequence
 
 from registers import APPROVED_ANEW, INDEXES, File, copy_files, database, new_register, write_first_version
 from register_rules import COMMANDS, COMPROMISES, OFFICE, line
+from rules_shown import DAY
 from script import expect
-
-DAY = 86400
 
 # Rows in each table, a moment apart: periods, needs, custodians and approvals that stand.
 FULL = [line for line, _ in APPROVED_ANEW] + [
