@@ -3,7 +3,7 @@ import {el, field, freshId, plain, replace, select, shown} from "./dom.js";
 import {allNames, judgement, list} from "./list.js";
 import {now} from "./register.js";
 import {COMPROMISES, PERIODS, RANGES, REASONS, SETTABLE, wrongMembers} from "./rules.js";
-import {TELLS, TITLES, localText, momentOf, momentText, refusalText, textFault, utcText} from "./words.js";
+import {WORDS, localText, momentOf, momentText, refusalText, textFault, utcText} from "./words.js";
 
 const NAME = "A name has 1 to 64 letters of ASCII, digits, and - _ . @";
 const NO_DATE = "The date is not whole: the time is lacking, or a part of the day";
@@ -193,10 +193,10 @@ const LAST = ["destroy", "revoke"];
 
 // A form of a command. `desk` has the user's name as `me`, and `send`, which sends the command and shows its answer.
 export function commandForm(kind, {desk, key, isOwners = true}) {
-  const fields = fieldsOf(kind, {key, isOwners, desk});
+  const fields = fieldsOf(kind, {key, isOwners, desk}), {title, tells} = WORDS[kind];
   const before = el("div", {class: "foretold"}), sentence = el("code", {class: "sentence"});
   const sure = LAST.includes(kind) ? el("input", {type: "checkbox", required: true, id: freshId("sure")}) : null;
-  const button = el("button", {type: "submit", class: "send"}, TITLES[kind]);
+  const button = el("button", {type: "submit", class: "send"}, title);
   let isTried = false;
   const command = () => {
     const members = Object.fromEntries(fields.map(({member, value}) => [member, value()]));
@@ -220,9 +220,9 @@ export function commandForm(kind, {desk, key, isOwners = true}) {
     else if (open) open.sure.focus();
     else desk.send(body);
   };
-  const form = el("form", {class: `command ${kind}`, novalidate: !sure, "aria-label": TITLES[kind], onsubmit: submit,
+  const form = el("form", {class: `command ${kind}`, novalidate: !sure, "aria-label": title, onsubmit: submit,
     oninput: look, onchange: look, onkeyup: look, onfocusout: look},
-  TELLS[kind] ? el("p", {}, TELLS[kind]) : null,
+  tells ? el("p", {}, tells) : null,
   fields.map(({element}) => element),
   sure ? el("div", {class: "sure"}, sure, el("label", {for: sure.id}, "I know that nothing takes this back")) : null,
   before, el("p", {class: "sends"}, "Sends ", sentence), button);

@@ -4,7 +4,7 @@ import {commandForm, keepingForms} from "./forms.js";
 import {keyAt, latest, learnKey, learntOf, list, periodOf, requestsOf} from "./list.js";
 import {AnotherUser, Unanswered, keyOf, now} from "./register.js";
 import {COMMANDS, SETTABLE, barred, isLong, isOverdue, spansOf, stateAt, usageAt} from "./rules.js";
-import {TITLES, away, moment, refusalText, requestText, state, utcText} from "./words.js";
+import {WORDS, away, moment, refusalText, requestText, state, utcText} from "./words.js";
 
 // Each date with its words and its letter.
 const DATES = [
@@ -100,8 +100,7 @@ function usage(key, told, at, desk) {
 
 // ---- what the reader may do
 
-const KINDS = ["activate", "set", "approve", "withdraw", "destroy", "revoke", "add-custodian", "remove-custodian",
-  "set-quorum", "assign"];
+const KINDS = Object.keys(COMMANDS).filter((kind) => COMMANDS[kind].members?.key);
 
 function ruleFor(kind, key, me, at) {
   if (kind !== "revoke") return {bar: barred(COMMANDS[kind], me, key, at), isOwners: true};
@@ -125,7 +124,7 @@ function acts(key, desk, at) {
       : idle(kind, key, desk.me);
     if (why) not.push([kind, why]);
     else {
-      const title = kind === "revoke" && !isOwners ? "Tell a compromise" : TITLES[kind];
+      const {title} = WORDS[isOwners ? kind : "revoke for compromise"];
       may.push(el("details", {class: "act", name: "act", "data-kind": kind}, el("summary", {}, title),
         commandForm(kind, {desk, key, isOwners})));
     }
@@ -133,7 +132,7 @@ function acts(key, desk, at) {
   return el("section", {class: "acts", "aria-labelledby": "acts"}, el("h2", {id: "acts"}, "What you may do"),
     may.length ? may : el("p", {}, "Nothing of this key is yours to do now."),
     not.length ? el("details", {class: "not"}, el("summary", {}, "What you may not do now, and why"),
-      el("dl", {}, not.map(([kind, why]) => [el("dt", {}, TITLES[kind]), el("dd", {}, why)]))) : null);
+      el("dl", {}, not.map(([kind, why]) => [el("dt", {}, WORDS[kind].title), el("dd", {}, why)]))) : null);
 }
 
 // ---- the whole

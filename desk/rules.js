@@ -30,46 +30,31 @@ const [PRE_ACTIVE, ACTIVE, DEACTIVATED, COMPROMISED, DESTROYED, DESTROYED_COMPRO
 const NOT_DESTROYED = [PRE_ACTIVE, ACTIVE, DEACTIVATED, COMPROMISED];
 const AT_REST = [PRE_ACTIVE, DEACTIVATED, COMPROMISED];
 
-// Who may give a command, and of a key in which states; null where it names none.
-export const COMMANDS = {
-  "register": {who: "anybody", states: null},
-  "activate": {who: "owner", states: [PRE_ACTIVE]},
-  "set": {who: "owner", states: [PRE_ACTIVE, ACTIVE]},
-  "revoke": {who: "owner", states: [ACTIVE]},
-  "revoke for compromise": {who: "anybody", states: [PRE_ACTIVE, ACTIVE, DEACTIVATED, DESTROYED]},
-  "assign": {who: "owner", states: STATES},
-  "add-custodian": {who: "owner", states: STATES},
-  "remove-custodian": {who: "owner", states: NOT_DESTROYED},
-  "approve": {who: "custodian", states: AT_REST},
-  "withdraw": {who: "custodian", states: NOT_DESTROYED},
-  "destroy": {who: "owner", states: AT_REST},
-  "set-quorum": {who: "owner", states: STATES},
-  "set-period": {who: "office", states: null},
-  "advance": {who: "anybody", states: null},
-};
+const DATES = {activation: "date", protect_stop: "date", deactivation: "date"};
+const EDITS = {activation: "edit", protect_stop: "edit", deactivation: "edit"};
 
-// The members of a command beside its kind, each with what its value is.
-export const MEMBERS = {
-  "register": {
-    type: "type",
-    owner: "name",
-    activation: "date",
-    protect_stop: "date",
-    deactivation: "date",
-    purpose: "purpose",
+// Who may give a command; of a key in which states, null where it names none; its members beside its kind, each with
+// what its value is. A key's page has them in this order. A revocation for a compromise is no kind of its own, and goes
+// by its own row for who and states.
+export const COMMANDS = {
+  "register": {who: "anybody", states: null, members: {type: "type", owner: "name", ...DATES, purpose: "purpose"}},
+  "activate": {who: "owner", states: [PRE_ACTIVE], members: {key: "key"}},
+  "set": {who: "owner", states: [PRE_ACTIVE, ACTIVE], members: {key: "key", ...EDITS}},
+  "approve": {who: "custodian", states: AT_REST, members: {key: "key"}},
+  "withdraw": {who: "custodian", states: NOT_DESTROYED, members: {key: "key"}},
+  "destroy": {who: "owner", states: AT_REST, members: {key: "key"}},
+  "revoke": {who: "owner", states: [ACTIVE], members: {key: "key", reason: "reason", occurrence: "date"}},
+  "revoke for compromise": {who: "anybody", states: [PRE_ACTIVE, ACTIVE, DEACTIVATED, DESTROYED]},
+  "add-custodian": {who: "owner", states: STATES, members: {key: "key", name: "name"}},
+  "remove-custodian": {who: "owner", states: NOT_DESTROYED, members: {key: "key", name: "name"}},
+  "set-quorum": {who: "owner", states: STATES, members: {key: "key", need: "need"}},
+  "assign": {who: "owner", states: STATES, members: {key: "key", owner: "name"}},
+  "set-period": {
+    who: "office",
+    states: null,
+    members: {type: "type", originator: "originator", recipient: "recipient"},
   },
-  "activate": {key: "key"},
-  "set": {key: "key", activation: "edit", protect_stop: "edit", deactivation: "edit"},
-  "revoke": {key: "key", reason: "reason", occurrence: "date"},
-  "assign": {key: "key", owner: "name"},
-  "add-custodian": {key: "key", name: "name"},
-  "remove-custodian": {key: "key", name: "name"},
-  "approve": {key: "key"},
-  "withdraw": {key: "key"},
-  "destroy": {key: "key"},
-  "set-quorum": {key: "key", need: "need"},
-  "set-period": {type: "type", originator: "originator", recipient: "recipient"},
-  "advance": {},
+  "advance": {who: "anybody", states: null, members: {}},
 };
 
 export const RANGES = {
@@ -128,7 +113,7 @@ function isOf(what, value) {
 
 // The members of a command that have no value of theirs.
 export function wrongMembers(command) {
-  const members = MEMBERS[command.kind];
+  const members = COMMANDS[command.kind]?.members;
   if (!members) return ["kind"];
   const wrong = Object.entries(members).filter(([name, what]) => !isOf(what, command[name])).map(([name]) => name);
   if (command.kind === "revoke" && command.occurrence !== null && !COMPROMISES.includes(command.reason)) {
@@ -234,9 +219,9 @@ export function isLong(key, [originator, recipient]) {
 
 // ---- the judgement
 
-function ruleOf(command) {
-  const isCompromise = command.kind === "revoke" && COMPROMISES.includes(command.reason);
-  return COMMANDS[isCompromise ? "revoke for compromise" : command.kind];
+// By which row a command goes.
+export function rowOf({kind, reason}) {
+  return kind === "revoke" && COMPROMISES.includes(reason) ? "revoke for compromise" : kind;
 }
 
 // Why a caller may not give a command of this rule now, whatever else it says; null where the rule lets it.
@@ -298,7 +283,7 @@ function changed(key, command, caller, moment, period) {
 export function judged(command, {caller, moment, latest, key, periods, count}) {
   if (wrongMembers(command).length) return refusal(1);
   if (isSet(latest) && moment < latest) return refusal(3, {latest});
-  const rule = ruleOf(command);
+  const rule = COMMANDS[rowOf(command)];
   if (command.kind === "advance") return {key: null};
   if (command.kind === "set-period") return barred(rule, caller, null, moment) ?? {key: null};
   const period = periods && (periods[command.type ?? key?.type] ?? PERIODS[command.type ?? key?.type]);

@@ -1,6 +1,6 @@
 // What the desk says: moments, commands and refusals in words.
 import {el, plain} from "./dom.js";
-import {COMPROMISES, CONTROL, DAY, HALF, MOST_BYTES, MOST_LETTERS, NO_NAME, RANGES, REASONS, bytesOf} from "./rules.js";
+import {CONTROL, DAY, HALF, MOST_BYTES, MOST_LETTERS, NO_NAME, RANGES, REASONS, bytesOf, rowOf} from "./rules.js";
 
 // ---- moments
 
@@ -86,33 +86,71 @@ export function state(word, isOverdue = false) {
   return isOverdue ? el("span", {}, made, " ", el("strong", {class: "overdue"}, "overdue")) : made;
 }
 
-export const TITLES = {
-  "register": "Register a key",
-  "activate": "Activate now",
-  "set": "Set dates",
-  "revoke": "Revoke",
-  "assign": "Give to another owner",
-  "add-custodian": "Add a custodian",
-  "remove-custodian": "Remove a custodian",
-  "approve": "Approve the destruction",
-  "withdraw": "Withdraw the approval",
-  "destroy": "Destroy",
-  "set-quorum": "Set the approvals needed",
-  "set-period": "Set the periods of a type",
-  "advance": "Bring the register to now",
-};
-
-export const TELLS = {
-  "activate": "The key becomes Active at this moment. Its other dates are cut to the period of its type.",
-  "set": "Each date is kept, cleared or set. A cleared one follows from the type's period, where an Activation stands.",
-  "revoke": "The key is Deactivated at once. After a compromise, which anybody may tell, it is Compromised for good.",
-  "assign": "Another name owns the key from then on, and gives its commands.",
-  "add-custodian": "A custodian may approve the destruction. The owner is none.",
-  "remove-custodian": "Its approval ends with it.",
-  "approve": "Your approval stands until you withdraw it. The owner destroys the key once enough stand.",
-  "withdraw": "Your approval ends.",
-  "destroy": "The record says from then on that the key is destroyed. There is no way back.",
-  "set-quorum": "How many custodians have to approve before the key is destroyed.",
+// What the page says of each command: the title of its form and what that tells, what one that the register kept did,
+// and why a key's state is none for it.
+export const WORDS = {
+  "register": {title: "Register a key", did: "registered"},
+  "activate": {
+    title: "Activate now",
+    tells: "The key becomes Active at this moment. Its other dates are cut to the period of its type.",
+    did: "activated",
+    wrongState: "only a Pre-Active key is activated",
+  },
+  "set": {
+    title: "Set dates",
+    tells: "Each date is kept, cleared or set. "
+      + "A cleared one follows from the type's period, where an Activation stands.",
+    did: "set dates",
+    wrongState: "dates are set of a Pre-Active or an Active key alone",
+  },
+  "approve": {
+    title: "Approve the destruction",
+    tells: "Your approval stands until you withdraw it. The owner destroys the key once enough stand.",
+    did: "approved the destruction",
+    wrongState: "a destruction is approved of a Pre-Active, Deactivated or Compromised key: revoke an Active one first",
+  },
+  "withdraw": {
+    title: "Withdraw the approval",
+    tells: "Your approval ends.",
+    did: "withdrew the approval",
+    wrongState: "no approval of a destroyed key ends",
+  },
+  "destroy": {
+    title: "Destroy",
+    tells: "The record says from then on that the key is destroyed. There is no way back.",
+    did: "destroyed",
+    wrongState: "a Pre-Active, a Deactivated or a Compromised key is destroyed: revoke an Active one first",
+  },
+  "revoke": {
+    title: "Revoke",
+    tells: "The key is Deactivated at once. After a compromise, which anybody may tell, it is Compromised for good.",
+    did: "revoked",
+    wrongState: "only an Active key is revoked, but for a compromise",
+  },
+  "revoke for compromise": {title: "Tell a compromise", wrongState: "it is compromised already"},
+  "add-custodian": {
+    title: "Add a custodian",
+    tells: "A custodian may approve the destruction. The owner is none.",
+    did: "added the custodian",
+  },
+  "remove-custodian": {
+    title: "Remove a custodian",
+    tells: "Its approval ends with it.",
+    did: "removed the custodian",
+    wrongState: "a destroyed key keeps its custodians",
+  },
+  "set-quorum": {
+    title: "Set the approvals needed",
+    tells: "How many custodians have to approve before the key is destroyed.",
+    did: "set the approvals needed to",
+  },
+  "assign": {
+    title: "Give to another owner",
+    tells: "Another name owns the key from then on, and gives its commands.",
+    did: "given to",
+  },
+  "set-period": {title: "Set the periods of a type"},
+  "advance": {title: "Bring the register to now"},
 };
 
 const edited = (value) => (value === "keep" ? "kept" : value === null ? "cleared" : utcText(value));
@@ -139,7 +177,7 @@ export function commandText(command) {
     const {type, originator, recipient} = command;
     return `Periods of ${type}: ${originator} months of protecting, ${recipient} of processing after`;
   }
-  return kind === "advance" ? TITLES.advance : `${TITLES[kind]}:${of}`;
+  return kind === "advance" ? WORDS.advance.title : `${WORDS[kind].title}:${of}`;
 }
 
 const dateOf = (text) => (/^\d+$/.test(text) ? utcText(Number(text)) : text === "=" ? "kept" : "none");
@@ -147,28 +185,18 @@ const dateOf = (text) => (/^\d+$/.test(text) ? utcText(Number(text)) : text === 
 // A kept request's text, without its key, in words.
 export function requestText(text) {
   const [word, ...rest] = text.split(" ");
-  if (word === "register") return "registered";
+  const did = WORDS[word]?.did ?? word;
+  if (word === "register") return did;
   if (word === "set") {
     const [activation, stop, end] = rest.map(dateOf);
-    return `set dates: Activation ${activation}, Protect Stop ${stop}, Deactivation ${end}`;
+    return `${did}: Activation ${activation}, Protect Stop ${stop}, Deactivation ${end}`;
   }
   if (word === "revoke") {
     const when = rest[1] === "-" ? "" : `, compromised ${dateOf(rest[1])}`;
-    return `revoked: ${REASONS[rest[0]]}${when}`;
+    return `${did}: ${REASONS[rest[0]]}${when}`;
   }
-  return [DID[word] ?? word, ...rest].join(" ");
+  return [did, ...rest].join(" ");
 }
-
-const DID = {
-  "activate": "activated",
-  "assign": "given to",
-  "add-custodian": "added the custodian",
-  "remove-custodian": "removed the custodian",
-  "approve": "approved the destruction",
-  "withdraw": "withdrew the approval",
-  "destroy": "destroyed",
-  "set-quorum": "set the approvals needed to",
-};
 
 // ---- values
 
@@ -195,20 +223,6 @@ export function textFault(member, text) {
 
 // ---- refusals
 
-function wrongState(command, answer) {
-  const isCompromise = command.kind === "revoke" && COMPROMISES.includes(command.reason);
-  const why = {
-    "activate": "only a Pre-Active key is activated",
-    "set": "dates are set of a Pre-Active or an Active key alone",
-    "approve": "a destruction is approved of a Pre-Active, Deactivated or Compromised key: revoke an Active one first",
-    "destroy": "a Pre-Active, a Deactivated or a Compromised key is destroyed: revoke an Active one first",
-    "withdraw": "no approval of a destroyed key ends",
-    "remove-custodian": "a destroyed key keeps its custodians",
-    "revoke": isCompromise ? "it is compromised already" : "only an Active key is revoked, but for a compromise",
-  }[command.kind];
-  return `The key is ${answer.state}, and ${why}.`;
-}
-
 // What a refusal says, and what would be accepted.
 export function refusalText(answer, command) {
   const {limit} = answer;
@@ -220,7 +234,7 @@ export function refusalText(answer, command) {
     4: `There is no key ${command.key}.`,
     5: "Only the owner of the key may do this, and you are not.",
     6: "Only a custodian of the key may do this, and you are not.",
-    7: answer.state ? wrongState(command, answer) : "",
+    7: answer.state ? `The key is ${answer.state}, and ${WORDS[rowOf(command)].wrongState}.` : "",
     8: "The Activation of an Active key, and a Protect Stop that is reached, stay as they are: keep them.",
     9: "The dates have to be in order: Activation, Protect Stop, Deactivation.",
     10: `The usage period is longer than the type's: the latest moment that is accepted is `

@@ -152,23 +152,40 @@ class Key(NamedTuple):
         return {ACTIVE: "yes", DEACTIVATED: "special", COMPROMISED: "special"}.get(self.state(moment), "no")
 
 
-# ---- what a request does to a key
+# ---- commands, and what a request does to a key
+
+class Command(NamedTuple):
+    """What its fields are, who may give it and in which states of the key that it names, and its first version."""
+    fields: tuple[str, ...]
+    who: str
+    states: Sequence[int] = ()
+    since: int = 1
+
 
 OFFICE, COMPROMISES = "office", (2, 3)
-# Who may give a command that names a key, and in which states. A revocation stands in `look_at`.
-WHO = {
-    "activate": ("owner", (PRE_ACTIVE,)), "set": ("owner", (PRE_ACTIVE, ACTIVE)), "assign": ("owner", ALL),
-    "add-custodian": ("owner", ALL), "remove-custodian": ("owner", NOT_DESTROYED), "approve": ("custodian", STILL),
-    "withdraw": ("custodian", NOT_DESTROYED), "destroy": ("owner", STILL), "set-quorum": ("owner", ALL),
+COMMANDS = {
+    "register": Command(("type", "name", "date", "date", "date", "purpose"), "anybody"),
+    "activate": Command(("key",), "owner", (PRE_ACTIVE,)),
+    "set": Command(("key", "edit", "edit", "edit"), "owner", (PRE_ACTIVE, ACTIVE)),
+    "revoke": Command(("key", "reason", "date"), "owner", (ACTIVE,)),
+    "assign": Command(("key", "name"), "owner", ALL),
+    "add-custodian": Command(("key", "name"), "owner", ALL),
+    "remove-custodian": Command(("key", "name"), "owner", NOT_DESTROYED),
+    "approve": Command(("key",), "custodian", STILL),
+    "withdraw": Command(("key",), "custodian", NOT_DESTROYED),
+    "destroy": Command(("key",), "owner", STILL),
+    "set-quorum": Command(("key", "need"), "owner", ALL, since=2),
+    "set-period": Command(("type", "originator", "recipient"), "office", since=2),
+    "advance": Command((), "anybody"),
 }
+# The row of a revocation for a compromise.
+FOR_COMPROMISE = COMMANDS["revoke"]._replace(who="anybody", states=(PRE_ACTIVE, ACTIVE, DEACTIVATED, DESTROYED))
 
 
 def look_at(key: Key, request: "Request") -> None:
     """Refuses a caller who may not give the command, and a state that it is not for."""
-    if request.word == "revoke" and request.values[0] in COMPROMISES:
-        who, states = "anybody", (PRE_ACTIVE, ACTIVE, DEACTIVATED, DESTROYED)
-    else:
-        who, states = WHO.get(request.word, ("owner", (ACTIVE,)))
+    is_compromise = request.word == "revoke" and request.values[0] in COMPROMISES
+    _, who, states, _ = FOR_COMPROMISE if is_compromise else COMMANDS[request.word]
     refuse(who == "owner" and request.caller != key.owner, "NotOwner")
     refuse(who == "custodian" and request.caller not in key.custodians, "NotCustodian")
     state = key.state(request.moment)
@@ -232,17 +249,9 @@ def after(key: Optional[Key], request: "Request", period: tuple[int, int], versi
 
 NUMBER, NAME = re.compile("0|[1-9][0-9]{0,15}"), re.compile("[A-Za-z0-9._@-]{1,64}")
 NO_PURPOSE = re.compile("[\0-\x1f\x7f\ud800-\udfff]")
-FORMS = {
-    "register": ("type", "name", "date", "date", "date", "purpose"), "activate": ("key",),
-    "set": ("key", "edit", "edit", "edit"), "revoke": ("key", "reason", "date"), "assign": ("key", "name"),
-    "add-custodian": ("key", "name"), "remove-custodian": ("key", "name"), "approve": ("key",), "withdraw": ("key",),
-    "destroy": ("key",), "set-quorum": ("key", "need"), "set-period": ("type", "originator", "recipient"),
-    "advance": (),
-}
 GREATEST_NUMBER, LONGEST_LINE = 9007199254740991, 1024
 RANGES = {"key": (1, 4294967295), "date": (0, LAST), "edit": (0, LAST), "need": (2, 5), "reason": (1, 7),
           "originator": (1, 1200), "recipient": (0, 1200), "number": (1, GREATEST_NUMBER)}
-OF_VERSION_2 = ("set-period", "set-quorum")
 
 
 class Request(NamedTuple):
@@ -265,7 +274,7 @@ class Request(NamedTuple):
     @property
     def named(self) -> Optional[int]:
         """The number of the key that it names, or None."""
-        return self.command[1] if FORMS[self.command[0]][:1] == ("key",) else None
+        return self.command[1] if COMMANDS[self.command[0]].fields[:1] == ("key",) else None
 
     @property
     def values(self) -> tuple:
@@ -295,9 +304,9 @@ def field_of(form: str, text: str) -> Any:
 def command_of(text: str, version: int = 2) -> tuple:
     """The command of its text; ValueError where it is none."""
     word, *rest = text.split(" ", 1)
-    if word not in FORMS or version == 1 and word in OF_VERSION_2:
+    if word not in COMMANDS or version < COMMANDS[word].since:
         raise ValueError(text)
-    forms = FORMS[word]
+    forms = COMMANDS[word].fields
     fields = rest[0].split(" ", max(len(forms) - 1, 0)) if rest else []
     if len(fields) != len(forms):
         raise ValueError(text)
@@ -347,10 +356,10 @@ class Register:
 
     def accept(self, request: Request) -> tuple[int, int]:
         """Does what a request says that is no repeat and not behind; the key and the state of its reply."""
+        refuse(COMMANDS[request.word].who == "office" and request.caller != OFFICE, "NotOffice")
         if request.word == "advance":
             return 0, 0
         if request.word == "set-period":
-            refuse(request.caller != OFFICE, "NotOffice")
             self.set_periods[request.values[0]] = request.values[1:]
             return 0, 0
         is_new, number = request.word == "register", request.named

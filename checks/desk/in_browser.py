@@ -31,7 +31,7 @@ import looks
 import tables
 import typed
 from parts import Desk, Reader
-from register_rules import FORMS
+from register_rules import COMMANDS
 from script import expect, fresh_folder, options, output_of, verdict
 
 # What Chromium itself writes to the console: of each refusal, and of what was broken on purpose.
@@ -95,7 +95,7 @@ def whole(here: Office, folder: pathlib.Path, parts: Sequence[str], rows: int) -
     if "day" in parts:
         day.whole_day(*readers)
         given = {command.split(" ")[0] for reader in readers for _, _, command in reader.said}
-        expect(given == set(FORMS), f"the day of the pages lacks {set(FORMS) - given}")
+        expect(given == set(COMMANDS), f"the day of the pages lacks {set(COMMANDS) - given}")
     if "breaks" in parts:
         breaks.all_breaks(ann, bob, here.reader("ann"))
     if "typed" in parts:

@@ -20,15 +20,15 @@ from typing import Any, Iterator, Optional
 sys.path.insert(1, str(pathlib.Path(__file__).resolve().parents[1] / "shared"))
 from places import DESK, read
 from answers import MEMBERS, request_object, shown, usage
-from registers import STATES
-from register_rules import LAST, PERIODS, RANGES, REFUSALS, WHO, Refused, Register, Request, moment_of
+from drawn_registers import DAY, PEOPLE, drawn_command
+from register_rules import (
+    COMMANDS, FOR_COMPROMISE, LAST, OFFICE, PERIODS, RANGES, REFUSALS, STATES, Refused, Register, Request, moment_of)
 from script import expect, fresh_folder, options, output_of, verdict
 
-DAY, FIRST = 86400, 1_700_000_000
+FIRST = 1_700_000_000
 # The last days of months, of leap years too: a month more has no such day often.
 MONTH_ENDS = [moment_of(f"{year}-{day}T23:59:59Z") for year in range(2023, 2033)
               for day in ("01-31", "02-29", "03-31", "05-30", "08-29", "12-31") if day != "02-29" or year % 4 == 0]
-TYPES, PEOPLE = list(PERIODS), ("ann", "bob", "cat", "dan", "eve", "office")
 # What node runs: the tables, then for each line of a request a line with its judgement.
 JUDGE = """
 import {createInterface} from "node:readline";
@@ -76,49 +76,60 @@ def commands_of(text: str, all_states: list[str]) -> Iterator[tuple[str, dict[st
         yield word, {"who": who.split()[-1], "states": states_of(states, all_states)}
 
 
-def ranges_of(text: str) -> dict[str, list[int]]:
-    """The ranges of the fields of a request line."""
-    ranges = {"date": [0, LAST]}
-    for form, words in (("key", "A key is a number"), ("need", "a need one"), ("reason", "a reason one"),
-                        ("originator", "originator months are a number"), ("recipient", "recipient months one")):
-        ranges[form] = list(map(int, re.search(rf"{words}\s+from\s+(\d+)\s+to\s+(\d+)", text).groups()))
-    return ranges
-
-
-def look_at_tables(of_desk: dict[str, Any]) -> int:
-    """Compares the tables of desk/rules.js, of office/register_rules.py and of checks/shared/answers.py with the
-    document's; how many there are."""
-    text = read("docs/SPECIFICATION.md")
-    states = re.search(r"The states are (.*?) and `([^`]*)` \(the", text, re.DOTALL)
-    states = [*re.findall("`([^`]*)`", states[1]), states[2]]
+def tables_of(text: str) -> dict[str, dict[str, Any]]:
+    """The tables of the document, by the desk's names for them."""
+    states = re.findall("`([^`]*)`", re.search(r"The states are (.*?`) \(the", text, re.DOTALL)[1])
     reasons = re.search(r"Revocation Reason: (.*?)\.\s", text, re.DOTALL)[1]
-    of_document = {
-        "STATES": states,
+    later = re.search(r"custodians in it\. It has (?:neither|none of) (.*?), so each", text, re.DOTALL)[1]
+    later = {"-".join(name.lower().split()) for name in re.split(r",\s|\s(?:nor|and)\s", later)}
+    commands = dict(commands_of(text, states))
+    for kinds, members in rows_under(text, "| `kind` | The other members |"):
+        for kind in re.findall('`"([^"]*)"`', kinds):
+            commands.setdefault(kind, {})["members"] = sorted(set(re.findall("`([a-z_]*)`", members)))
+    return {
+        "STATES": dict(enumerate(states)),
         "PERIODS": {kind: [int(first), int(last)] for kinds, first, last in
                     rows_under(text, "| Key type | Originator months |") for kind in re.findall("`([^`]*)`", kinds)},
         "REFUSALS": {number: name.strip("`") for number, name, *_ in rows_under(text, "| No. | Name | Where |")},
         "REASONS": {number: " ".join(name.split())
                     for number, name in re.findall(r"(\d)\s+([A-Z][A-Za-z\s]*?)(?:,|$)", reasons)},
-        "COMMANDS": dict(commands_of(text, states)),
-        "MEMBERS": {kind: sorted(set(re.findall("`([a-z_]*)`", members)))
-                    for kinds, members in rows_under(text, "| `kind` | The other members |")
-                    for kind in re.findall('`"([^"]*)"`', kinds)},
-        "RANGES": ranges_of(text),
+        "COMMANDS": commands, "SINCE": {word: 1 + (word in later) for word in {*commands, *later}},
+        "RANGES": {"date": [0, LAST]} | {
+            field: [*map(int, re.search(rf"{words}\s+from\s+(\d+)\s+to\s+(\d+)", text).groups())]
+            for field, words in (
+                ("key", "A key is a number"), ("need", "a need one"), ("reason", "a reason one"),
+                ("originator", "originator months are a number"), ("recipient", "recipient months one"))},
     }
-    of_rules = {
-        "STATES": list(STATES.values())[1:], "PERIODS": {kind: list(months) for kind, months in PERIODS.items()},
+
+
+def tables_of_rules() -> dict[str, dict[str, Any]]:
+    """The same of office/register_rules.py and checks/shared/answers.py, which have no reasons."""
+    rows = {**COMMANDS, "revoke for compromise": FOR_COMPROMISE}
+    commands = {word: {"who": row.who, "states": [STATES[state] for state in row.states] or None}
+                for word, row in rows.items()}
+    for word, members in MEMBERS.items():
+        commands[word]["members"] = sorted(members)
+    return {
+        "STATES": dict(enumerate(STATES[1:])),
+        "PERIODS": {kind: [*months] for kind, months in PERIODS.items()},
         "REFUSALS": {str(number): name for number, name in enumerate(REFUSALS, 1)},
-        "MEMBERS": {word: sorted(members) for word, members in MEMBERS.items()},
-        "RANGES": {form: list(RANGES[form]) for form in of_document["RANGES"]},
-        # Who registers, advances and sets periods is no table of the rules.
-        "COMMANDS": of_document["COMMANDS"] | {
-            word: {"who": who, "states": [STATES[state] for state in states]} for word, (who, states) in WHO.items()},
+        "COMMANDS": commands, "SINCE": {word: row.since for word, row in rows.items()},
+        "RANGES": {field: [*ends] for field, ends in RANGES.items() if field not in ("edit", "number")},
     }
-    of_desk["MEMBERS"] = {word: sorted(members) for word, members in of_desk["MEMBERS"].items()}
-    for whose, tables in (("desk/rules.js", of_desk), ("the rules", of_rules)):
-        for name in of_document.keys() & tables.keys():
-            expect(tables[name] == of_document[name],
-                   f"{name} of {whose} is\n  {tables[name]}\nand of the document\n  {of_document[name]}")
+
+
+def look_at_tables(of_desk: dict[str, Any]) -> int:
+    """Compares the tables of desk/rules.js and of the rules with the document's; how many there are."""
+    text = read("docs/SPECIFICATION.md")
+    of_document, of_rules = tables_of(text), tables_of_rules()
+    of_desk["STATES"] = dict(enumerate(of_desk["STATES"]))
+    for command in of_desk["COMMANDS"].values():
+        command |= {"members": sorted(command["members"])} if "members" in command else {}
+    faults = [f"{name} of {whose}, {row}: {tables[name].get(row)}, and of the document {table.get(row)}"
+              for whose, tables in (("desk/rules.js", of_desk), ("the rules", of_rules))
+              for name, table in of_document.items() if name in tables
+              for row in {**table, **tables[name]} if tables[name].get(row) != table.get(row)]
+    expect(not faults, "\n".join(faults))
     for name, value, words in (("LAST_MOMENT", LAST, str(LAST)), ("GREATEST_NUMBER", 2**53 - 1, str(2**53 - 1)),
                                ("MOST_KEYS", 10**6, str(10**6)), ("MOST_CUSTODIANS", 16, "up to 16 *custodians*")):
         expect(of_desk[name] == value and words in text, f"{name} is {of_desk[name]}, and not {value}")
@@ -127,7 +138,7 @@ def look_at_tables(of_desk: dict[str, Any]) -> int:
 
 # ---- drawn requests
 
-def drawn_command(chance: random.Random, moment: int, keys: int) -> tuple:
+def command_at(chance: random.Random, moment: int, keys: int) -> tuple:
     """A command of any kind, with dates about the moment and now and then at the ends of the range."""
     def date() -> Optional[int]:
         near = [None, moment + chance.randrange(-900, 1900) * DAY, moment + chance.randrange(-9, 9)]
@@ -135,21 +146,13 @@ def drawn_command(chance: random.Random, moment: int, keys: int) -> tuple:
         return chance.choice(chance.choices([near, MONTH_ENDS, far], [75, 19, 6])[0])
 
     key, name = chance.randint(1, keys + 1 if chance.random() < 0.05 else max(keys, 1)), chance.choice(PEOPLE)
-    reason, kind = chance.choice([1, 1, 2, 3, 4, 5, 6, 7]), chance.choice(TYPES)
+    kind = chance.choice(list(PERIODS))
     occurrence = chance.choice([None, moment - chance.randrange(9 * DAY), moment + chance.randrange(-1, 3)])
     if chance.random() < 0.02:
         name = chance.choice(["x" * 64, f"more-{chance.randrange(20)}"])
     if chance.random() < 0.01:
         return ("register", kind, name, LAST - chance.randrange(3 * 366 * DAY), None, None, "late")
-    texts = {
-        "register": (kind, name, date(), date(), date(), f"key {chance.randrange(10**6)}"),
-        "activate": (key,), "set": (key, *(chance.choice(["=", "=", date()]) for _ in range(3))),
-        "revoke": (key, reason, occurrence if reason in (2, 3) else None), "assign": (key, name),
-        "add-custodian": (key, name), "remove-custodian": (key, name), "approve": (key,), "withdraw": (key,),
-        "destroy": (key,), "set-quorum": (key, chance.randint(2, 5)),
-        "set-period": (kind, chance.choice([1, 12, 24, 1200]), chance.choice([0, 12, 36, 1200])), "advance": ()}
-    [word] = chance.choices(list(texts), [9, 6, 9, 7, 3, 12, 4, 12, 4, 9, 3, 2, 1])
-    return (word, *texts[word])
+    return drawn_command(chance, date, occurrence, key, name, kind, f"key {chance.randrange(10**6)}")
 
 
 def drawn(chance: random.Random, count: int) -> Iterator[tuple[Register, Request]]:
@@ -163,18 +166,18 @@ def drawn(chance: random.Random, count: int) -> Iterator[tuple[Register, Request
         dates = [(date, place) for place, key in list(register.keys.items())[-9:]
                  for date in (key.activation, key.stop, key.end)
                  if date is not None and register.latest <= date < register.latest + 999 * DAY]
-        command = drawn_command(chance, moment, len(register.keys))
+        command = command_at(chance, moment, len(register.keys))
         if dates and chance.random() < 0.2:
             moment, place = chance.choice(dates)
             command = chance.choice([command, ("set", place, "=", chance.choice([None, moment + DAY]), "="),
                                      ("approve", place), ("destroy", place)])
-        caller = chance.choice(PEOPLE)
+        caller, who = chance.choice(PEOPLE), COMMANDS[command[0]].who
         # Most come from somebody who may send them.
         key = register.keys.get(Request(moment, caller, number, command).named)
-        if command[0] == "set-period" and chance.random() < 0.7:
-            caller = "office"
+        if who == "office" and chance.random() < 0.7:
+            caller = OFFICE
         elif key and chance.random() < 0.75:
-            people = sorted(key.custodians) if command[0] in ("approve", "withdraw") else [key.owner]
+            people = sorted(key.custodians) if who == "custodian" else [key.owner]
             caller = chance.choice(people or [caller])
         yield register, Request(moment, caller, number, command)
 
@@ -200,10 +203,10 @@ def judged(register: Register, request: Request) -> tuple[dict[str, Any], dict[s
 
 
 def main() -> None:
-    given = options(__doc__, requests=10_000, seed=69)
+    given, counts = options(__doc__, requests=10_000, seed=69), collections.Counter()
+    count = look_at_tables(*node([]))
     cases = [judged(*found) for found in drawn(random.Random(given.seed), given.requests)]
-    tables, *judgements = node([known for known, _ in cases])
-    count, counts = look_at_tables(tables), collections.Counter()
+    _, *judgements = node([known for known, _ in cases])
     for (known, wanted), judgement in zip(cases, judgements, strict=True):
         expect(judgement == wanted, f"{json.dumps(known)}\n  is judged\n{judgement}\n  and the rules say\n{wanted}")
         counts[wanted["judged"].get("name", "accepted")] += 1

@@ -21,7 +21,7 @@ sys.path.insert(1, str(pathlib.Path(__file__).resolve().parents[1] / "shared"))
 from places import PROGRAM
 from drawn_registers import DAY, FULL, HOSTILE, changed, drawn, first_version, made, rows_of
 from registers import File, Life, copy_files, database, keyreg, new_register
-from register_rules import OF_VERSION_2
+from register_rules import COMMANDS
 from script import expect, fresh_folder, in_order, options, verdict
 from tools import run_tool, words_of
 
@@ -105,7 +105,7 @@ def killed_at_random(folder: pathlib.Path, lines: list[str], given: Any, chance:
 
 def of_first_version(folder: pathlib.Path, chance: random.Random) -> None:
     """A standby of a file of version 1 has its requests, in a file of version 2."""
-    lines = [line for line in drawn(chance, 60, (0, DAY), HOSTILE) if line.split(" ")[3] not in OF_VERSION_2]
+    lines = [line for line in drawn(chance, 60, (0, DAY), HOSTILE) if COMMANDS[line.split(" ")[3]].since == 1]
     first, standby = first_version(made(folder, "first", lines)[0]), folder / "of_first.keyreg"
     expect_end(0, " in all", first, standby)
     in_order(rows_of(standby)["request"], rows_of(first)["request"], "a standby of version 1")

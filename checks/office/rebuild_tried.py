@@ -18,7 +18,7 @@ from typing import Any
 sys.path.insert(1, str(pathlib.Path(__file__).resolve().parents[1] / "shared"))
 from drawn_registers import DAY, FULL, HOSTILE, anew, changed, drawn, first_version, made, rows_of
 from registers import STATES, File, copy_files, database, new_register
-from register_rules import OF_VERSION_2
+from register_rules import COMMANDS
 from script import expect, fresh_folder, in_order, options, verdict
 from tools import exported, many_requests, run_tool
 
@@ -175,7 +175,7 @@ def main() -> None:
     with fresh_folder(2**28) as folder:
         for place in range(given.registers):
             lines, is_first = list(drawn(chance, given.lines, STEPS[place // 2 % len(STEPS)], HOSTILE)), place % 2
-            lines = [line for line in lines if not is_first or line.split(" ")[3] not in OF_VERSION_2]
+            lines = [line for line in lines if not is_first or COMMANDS[line.split(" ")[3]].since == 1]
             copy, _ = made(folder, f"drawn_{place}", lines)
             copy = first_version(copy) if is_first else copy
             requests += whole(folder, copy)

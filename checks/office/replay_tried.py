@@ -16,8 +16,10 @@ from typing import Any, Iterator
 
 sys.path.insert(1, str(pathlib.Path(__file__).resolve().parents[1] / "shared"))
 from places import VERSION_1
+from command_day import SHORT
 from drawn_registers import DAY, FULL, KINDS, anew, at_one_moment, changed, drawn, made, rows_of
 from registers import File, answered_and_killed, columns_of, copy_files, database, keyreg, new_register
+from register_rules import COMMANDS, command_text
 from script import expect, fresh_folder, options, output_of, verdict
 from tools import many_requests, run_tool, words_of
 
@@ -137,8 +139,8 @@ def planted(folder: pathlib.Path, first: File, full: File) -> int:
         (full, 1, "the rules refuse it, NotOwner", [put("ann", 900, "assign 3 bob")]),
         (full, 1, "it is none by the rules of version 2", [put("bob", 900, "activate 01")]),
         (full, 1, "quorum: a table of version 2", ["UPDATE meta SET version = 1"]),
-        (first, 1, "it is none by the rules of version 1", [put("office", 900, "set-quorum 9 3")]),
-        (first, 1, "it is none by the rules of version 1", [put("office", 900, "set-period master 6 0")]),
+        *((first, 1, "it is none by the rules of version 1", [put("zed", 900, command_text(asked.request.command))])
+          for asked in SHORT if COMMANDS[asked.request.word].since > 1),
         # The ninth custodian of version 1.
         (first, 1, "'fay', 906.* the rules refuse it, TooManyCustodians",
          [put("fay", 900 + place, f"add-custodian 9 name{place}") for place in range(7)]),

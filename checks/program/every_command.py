@@ -25,7 +25,7 @@ from places import PROGRAM, read
 from answers import reply_line
 from command_day import DAY, SHORT, Asked, alone
 from registers import keyreg
-from register_rules import COMPROMISES, FORMS, Key, Register
+from register_rules import COMMANDS, COMPROMISES, Key, Register
 from script import options, verdict
 
 HAS_PROGRAM = os.access(PROGRAM, os.X_OK)
@@ -100,7 +100,7 @@ def main() -> None:
     days = {"the day": DAY, "the short day": SHORT, "steps": steps, "requests": trials}
     faults = [fault for name, day in days.items() for fault in day_faults(name, day)]
     faults += [f"office/register_rules.py: {word} is a command there or in the document alone"
-               for word in sorted(set(FORMS) ^ (KINDS - {FOR_COMPROMISE}))]
+               for word in sorted(set(COMMANDS) ^ (KINDS - {FOR_COMPROMISE}))]
     faults += [*table_faults(STEPS, steps), *table_faults(TRIALS, trials), *step_faults(steps)]
     faults += [] if HAS_PROGRAM else [f"no program at {PROGRAM}, so it was not asked: ./keyreg </dev/null builds it"]
     verdict(f"{len(DAY)} lines with {len(KINDS)} kinds of request, of which tables of crates have {len(steps)} and "

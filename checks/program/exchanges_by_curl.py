@@ -30,7 +30,7 @@ from answers import BAD, LENGTH_REQUIRED, NO_ROUTE, TOO_LARGE
 from answers import compact, get_reply, not_allowed, register_of, request_object, served_since
 from command_day import SHORT
 from openapi import example_faults, is_command, unmet
-from register_rules import ACTIVE, DEACTIVATED, FORMS, GREATEST_NUMBER, LAST, Register
+from register_rules import ACTIVE, COMMANDS, DEACTIVATED, GREATEST_NUMBER, LAST, Register
 from rules_tried import look_at_rules
 from script import expect, options, verdict
 from serving import ADVANCE, MOST_BODY, MOST_HEAD, Served, get, head, post, post_command
@@ -131,9 +131,9 @@ def commands() -> None:
     later = int(time.time()) + DAY - SHORT[0].request.moment
     with compared() as both:
         for way, (request, *_) in zip(itertools.cycle(WAYS), SHORT):
-            is_date = [request.word in ("register", "set") and form in ("date", "edit") for form in FORMS[request.word]]
-            values = [value + later if moves and isinstance(value, int) else value
-                      for moves, value in zip(is_date, request.command[1:])]
+            moves, fields = request.word in ("register", "set"), COMMANDS[request.word].fields
+            values = [value + later if moves and field in ("date", "edit") and isinstance(value, int) else value
+                      for field, value in zip(fields, request.command[1:])]
             both.post(request.caller, request.number, (request.word, *values), way=way)
             both.get(request.named or 1, way)
 

@@ -21,14 +21,15 @@ from typing import Sequence
 sys.path.insert(1, str(pathlib.Path(__file__).resolve().parents[1] / "shared"))
 from command_day import SHORT
 from registers import copy_files, new_register, run_program, sound_rows
+from register_rules import REFUSALS
 from rules_shown import import_table
 from script import expect, fresh_folder, options, verdict
 from serving import Served, get, post_command
 
 PATIENCE = 20
 ERROR = re.compile(rb"(keyreg: (Memory|Store|Broken|NotARegister|NewerVersion|ReadFault|WriteFault|BadHeader)\n)?")
-LINE = re.compile(rb"(ok ([1-9][0-9]*|0) ([A-Z][-A-Za-z]*|-) [0-9]+"
-                  rb"|refused ([1-9]|1[0-9]|2[01]) [A-Za-z]+( [a-z]+=[-A-Za-z0-9]+)*)\n")
+REFUSED = "|".join(f"{number} {name}" for number, name in enumerate(REFUSALS, 1)).encode()
+LINE = re.compile(rb"(ok ([1-9][0-9]*|0) ([A-Z][-A-Za-z]*|-) [0-9]+|refused (%b)( [a-z]+=[-A-Za-z0-9]+)*)\n" % REFUSED)
 REPLY = re.compile(rb"HTTP/1\.1 (200|400|404|405|409|411|413|500|503) [A-Za-z ]+\r\n")
 
 DAY = "".join(f"{asked.text}\n" for asked in SHORT).encode()

@@ -32,7 +32,7 @@ from answers import reply_line
 from command_day import SHORT
 from disk_cuts import AT_RANDOM, EXTREMES, PARTS, Choice, Disk, Event, Files, events_of, put, traced
 from registers import INDEXES, answered_and_killed, new_register, run_program, sound_rows, write_first_version
-from register_rules import OF_VERSION_2, Register, Request, line
+from register_rules import COMMANDS, Register, Request, line
 from rules_shown import Rows, import_table, tables
 from script import expect, fresh_folder, options, verdict
 from serving import PATIENCE, Served
@@ -48,7 +48,7 @@ APPROVED = next(place for place, request in enumerate(DAY, 1) if request.word ==
 DAY[APPROVED:APPROVED] = [DAY[APPROVED - 1], Request(DAY[APPROVED - 1].moment, "bob", 99, ("destroy", 1))]
 # What a file of version 1 has of the day, and what is asked of it then: the repeat, the refusal, and what it has not.
 FIRST = DAY[:APPROVED]
-AFTER = DAY[APPROVED:APPROVED + 4] + [request for request in DAY if request.word in OF_VERSION_2]
+AFTER = DAY[APPROVED:APPROVED + 4] + [request for request in DAY if COMMANDS[request.word].since > 1]
 # What is accepted of it at any moment of the clock.
 OF_CUSTODY = ("register", "add-custodian", "remove-custodian", "approve", "withdraw")
 # So many rows that the log is copied before the last is answered, which comes after a thousand of its frames.

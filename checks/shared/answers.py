@@ -4,8 +4,8 @@ import json
 import time
 from typing import Any, Optional
 
-from registers import STATES
-from register_rules import REFUSALS, Refused, Register, Request, line
+from registers import IMPORT_COLUMNS, STATES
+from register_rules import COMMANDS, REFUSALS, Refused, Register, Request, line
 
 
 def reply_line(register: Register, *request: Any) -> str:
@@ -27,13 +27,10 @@ def register_of(*requests: tuple) -> tuple[Register, list[str]]:
 
 # ---- JSON
 
-MEMBERS = {
-    "register": ("type", "owner", "activation", "protect_stop", "deactivation", "purpose"),
-    "activate": ("key",), "approve": ("key",), "withdraw": ("key",), "destroy": ("key",),
-    "set": ("key", "activation", "protect_stop", "deactivation"),
+# The members of a command beside its kind, which have the names of its fields, but for those of four.
+MEMBERS = {word: command.fields for word, command in COMMANDS.items()} | {
+    "register": IMPORT_COLUMNS, "set": ("key", "activation", "protect_stop", "deactivation"),
     "revoke": ("key", "reason", "occurrence"), "assign": ("key", "owner"),
-    "add-custodian": ("key", "name"), "remove-custodian": ("key", "name"), "advance": (),
-    "set-quorum": ("key", "need"), "set-period": ("type", "originator", "recipient"),
 }
 
 

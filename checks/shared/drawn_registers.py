@@ -5,12 +5,12 @@ import os
 import pathlib
 import random
 import sqlite3
-from typing import Iterable, Iterator, Sequence
+from typing import Callable, Iterable, Iterator, Optional, Sequence
 
 from registers import APPROVED_ANEW, INDEXES, File, copy_files, database, new_register, write_first_version
+from register_rules import COMMANDS, COMPROMISES, OFFICE, line
+from rules_shown import DAY
 from script import expect
-
-DAY = 86400
 
 # Rows in each table, a moment apart: periods, needs, custodians and approvals that stand.
 FULL = [line for line, _ in APPROVED_ANEW] + [
@@ -71,29 +71,33 @@ def anew(table: str, columns: str = "*", order: str = "") -> list[str]:
 
 # ---- drawn requests
 
-KINDS = ("data-encryption", "private-signature", "master")
-PEOPLE = ("ann", "bob", "cat", "dan", "eve", "office")
+KINDS, PEOPLE = ("data-encryption", "private-signature", "master"), ("ann", "bob", "cat", "dan", "eve", "office")
+
+
+def drawn_command(chance: random.Random, date: Callable[[], Optional[int]], occurrence: Optional[int], key: int,
+                  name: str, kind: str, purpose: str) -> tuple:
+    """A command of any kind about this key, name and type, each as often as its row says."""
+    reason = chance.choice([1, 1, 2, 3, 4, 5, 6, 7])
+    rows = [
+        (9, "register", kind, name, date(), date(), date(), purpose),
+        (6, "activate", key), (9, "set", key, *(chance.choice(["=", "=", date()]) for _ in range(3))),
+        (7, "revoke", key, reason, occurrence if reason in COMPROMISES else None), (3, "assign", key, name),
+        (12, "add-custodian", key, name), (4, "remove-custodian", key, name),
+        (12, "approve", key), (4, "withdraw", key), (9, "destroy", key), (3, "set-quorum", key, chance.randint(2, 5)),
+        (2, "set-period", kind, chance.choice([1, 12, 24, 1200]), chance.choice([0, 12, 36, 1200])), (1, "advance")]
+    [(_, *command)] = chance.choices(rows, [often for often, *_ in rows])
+    return tuple(command)
 
 
 def drawn(chance: random.Random, count: int, steps: Sequence[int], purposes: Sequence[str] = ()) -> Iterator[str]:
     """Lines of all commands; many are refused. The moments go on by one of the steps."""
-    moment, date = 1_700_000_000, lambda: chance.choice(["-", "-", moment + chance.randrange(-9, 900) * DAY])
+    moment, date = 1_700_000_000, lambda: chance.choice([None, None, moment + chance.randrange(-9, 900) * DAY])
     for number in range(1, count + 1):
         moment += chance.choice(steps)
         key, name, who = chance.randint(1, 2 + number // 8), chance.choice(PEOPLE[:5]), chance.choice(PEOPLE)
-        edits = " ".join(str(chance.choice(["=", "=", date()])) for _ in range(3))
-        reason, purpose = chance.randint(1, 7), chance.choice(purposes or [f"key {number}"])
-        texts = [
-            f"register {chance.choice(KINDS)} {name} {date()} {date()} {date()} {purpose}",
-            f"activate {key}", f"set {key} {edits}",
-            f"revoke {key} {reason} {chance.choice(['-', moment - DAY]) if reason in (2, 3) else '-'}",
-            f"assign {key} {name}", f"add-custodian {key} {name}", f"remove-custodian {key} {name}",
-            f"approve {key}", f"approve {key}",
-            f"withdraw {key}", f"destroy {key}", f"set-quorum {key} {chance.randint(2, 3)}",
-            f"set-period {chance.choice(KINDS)} {chance.randint(1, 40)} {chance.randint(0, 40)}", "advance"]
-        weights = [3, 2, 3, 1, 1, 4, 1, 4, 4, 1, 4, 1, 1, 1]
-        text = chance.choices(texts, weights)[0]
-        yield f"{moment} {'office' if text.startswith('set-period') else who} {number} {text}"
+        command = drawn_command(chance, date, chance.choice([None, moment - DAY]), key, name, chance.choice(KINDS),
+                                chance.choice(purposes or [f"key {number}"]))
+        yield line(moment, OFFICE if COMMANDS[command[0]].who == "office" else who, number, command)
 
 
 def at_one_moment(keys: int, people: Sequence[str] = ("cat", "dan", "eve")) -> list[str]:

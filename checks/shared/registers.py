@@ -14,15 +14,10 @@ from worked_rows import worked_rows
 
 File = Union[str, os.PathLike]
 
-# The texts of the key types by their codes, and of the states; 0 stands where a reply names no state.
-TYPES = dict(enumerate(register_rules.TYPES, 1))
-STATES = dict(enumerate(register_rules.STATES))
-
-# A date that is not set.
-UNSET = register_rules.UNSET
-
-# The version of the tables.
-VERSION = 2
+# The texts of the key types and of the states by their codes, of which 0 stands where a reply names no state; a date
+# that is not set; the version of the tables.
+TYPES, STATES = dict(enumerate(register_rules.TYPES, 1)), dict(enumerate(register_rules.STATES))
+UNSET, VERSION = register_rules.UNSET, 2
 
 # The columns of an export, in their order, each with its cell of a key of which no more is said; those that are dates;
 # and the columns of an import.
@@ -46,27 +41,15 @@ CREATE TABLE quorum (key_no INTEGER PRIMARY KEY REFERENCES keys(number), need IN
 APPROVED_ANEW = list(zip(*worked_rows()["approved anew by one who was removed"][1:]))
 ACCEPTED = [exchange for exchange in APPROVED_ANEW if exchange[1].startswith("ok ")]
 
-# Its rows, by the formats: type 7 is master, state 1 Pre-Active, 5 Destroyed, 6 Destroyed-Compromised; a compromise
-# without an occurrence gets the Initial Date.
+# Its rows, by the formats: type 7 is master, state 6 Destroyed-Compromised; a compromise without an occurrence gets the
+# Initial Date. A request has its line's parts, and of its reply the key and the state.
 APPROVED_ANEW_ROWS = {
     "meta": [(1, VERSION, 109, 1)],
     "keys": [(1, 7, "bob", "spare", 6, 100, UNSET, UNSET, UNSET, 108, 109, 100)],
-    "custodian": [(1, "cat"), (1, "dan")],
-    "approval": [(1, "cat"), (1, "dan")],
-    "request": [
-        ("ann", 1, "register master bob - - - spare", 1, 1, 100),
-        ("bob", 1, "add-custodian 1 cat", 1, 1, 101),
-        ("bob", 2, "add-custodian 1 dan", 1, 1, 102),
-        ("bob", 3, "remove-custodian 1 dan", 1, 1, 105),
-        ("bob", 4, "add-custodian 1 dan", 1, 1, 106),
-        ("bob", 5, "destroy 1", 1, 5, 108),
-        ("cat", 1, "approve 1", 1, 1, 103),
-        ("dan", 1, "approve 1", 1, 1, 104),
-        ("dan", 2, "approve 1", 1, 1, 107),
-        ("zed", 1, "revoke 1 2 -", 1, 6, 109),
-    ],
-    "period": [],
-    "quorum": [],
+    "custodian": [(1, "cat"), (1, "dan")], "approval": [(1, "cat"), (1, "dan")],
+    "request": sorted((caller, int(number), text, 1, register_rules.STATES.index(reply.split(" ")[2]), int(moment))
+                      for (moment, caller, number, text), reply in ((line.split(" ", 3), of) for line, of in ACCEPTED)),
+    "period": [], "quorum": [],
 }
 
 
