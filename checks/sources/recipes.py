@@ -30,7 +30,7 @@ ITEM = re.compile(r"[A-Za-z_][\w:]*(\(\))?")
 DOCUMENT = re.compile(r"\bdocs/[\w.]*\w|\bREADME\b")
 LINK = re.compile(r"\(#([\w-]+)\)")
 SUFFIXES = (".rt", ".antt", ".edit")
-INNER = ("", "src", "src/tests", "proofs", "specs", "must-fail", "more-must-fail")
+INNER = ("", "src", "src/tests", "proofs", "specs", "must-fail")
 
 
 class Kind(NamedTuple):
@@ -46,7 +46,8 @@ ALWAYS = {
     "the recipes": "docs/RECIPES.md checks/sources/recipes.py",
     "the page that checks/sources/theorem.py makes": "docs/DEFINITIONS.md",
     "proofs, of which a red one leads there": "crates/*/proofs/*",
-    "wrong bodies, of which rt and wrong_bodies.py name those whose lines changed": "crates/*/*must-fail/*",
+    "wrong bodies, of which rt and wrong_bodies.py name those whose lines changed":
+        "crates/*/must-fail/* crates/*/more-must-fail.edits",
 }
 KINDS = (
     Kind("Add a command", r"\b[Ww]ithdraw\b", {
