@@ -74,7 +74,7 @@ KINDS = (
         "one name stands for others": "checks/program/words.py",
     }, ("Add a version of the tables",)),
     Kind("Add a column", r"\boccurrence (INTEGER|= \?)|compromised\W+occurrence\b|\bcompromise_occurrence\b", {
-        "the date, which commands set": "crates/*_core/* crates/test_plain_register/* crates/test_core/*",
+        "the date, which commands set": "crates/*_core/* crates/test_core/*",
         "tables of version 1": "*/migrations.rt",
     }, ("Add a column to the export",)),
     Kind("Add a column to the export",

@@ -1,10 +1,9 @@
-//! The worked rows: what a run writes, against the rows, the plain program and what is shown of a
-//! key.
+//! The worked rows: what a run writes, against the rows, and what is shown of a key.
 use crate::calls::{Call, Called};
 use crate::memory_desk::MemoryDesk;
 use lifecycle_core::Dates;
 use moment_core::Moment;
-use register_core::{Name, Refusal, Reply, Request, read_request, reply_line};
+use register_core::Name;
 use register_desk::{End, Finish, Outcome, Record, Watched, run_in_memory};
 use std::alloc::{AllocError, Global};
 use std::test::Fail;
@@ -23,89 +22,19 @@ fn outcome_of(row: &WorkedRow, input: &[u8], output: &[u8]) -> Outcome {
     }
 }
 
-/// The lines of the answers.
-fn lines_of(alloc: Global, answers: &[Result<Reply, Refusal>]) -> Result<Vec<u8>, AllocError> {
-    let mut lines = Vec::new(alloc);
-    for answer in answers {
-        lines.extend_from_slice(reply_line(answer).as_bytes())?;
-    }
-    Ok(lines)
-}
-
-/// Whether one of the requests has the caller and the number of this one.
-fn has_number_of(history: &[Request], request: &Request) -> bool {
-    for other in history {
-        if other.caller == request.caller && other.number == request.number {
-            return true;
-        }
-    }
-    false
-}
-
-/// The requests that were accepted: of each caller and number the first that was answered with a
-/// reply.
-fn history_of(
-    alloc: Global,
-    items: &[Option<Request>],
-    answers: &[Result<Reply, Refusal>],
-) -> Result<Vec<Request>, AllocError> {
-    let mut history = Vec::new(alloc);
-    for (item, answer) in items.iter().zip(answers) {
-        if let (Some(request), Ok(_)) = (item, answer) {
-            if !has_number_of(&history, request) {
-                history.push(*request)?;
-            }
-        }
-    }
-    Ok(history)
-}
-
-/// Whether the plain program answers so, and comes to this moment, in seconds, and number of keys.
-/// It shares with the product the proved functions that read a line and write a reply, find the
-/// first refusal that holds, and give the dates that a command leaves and their state.
-fn is_plain(
-    alloc: Global,
-    row: &WorkedRow,
-    output: &[u8],
-    stands: (u64, u32),
-) -> Result<bool, AllocError> {
-    let items: Vec<Option<Request>> = row
-        .lines
-        .iter()
-        .map(|(request, _)| read_request(request.as_bytes()))
-        .collect(alloc)?;
-    if items.len() > 20 {
-        return Ok(false);
-    }
-    let answers = test_plain_register::answers(alloc, &items)?;
-    let history = history_of(alloc, &items, &answers)?;
-    if history.len() > 20 {
-        return Ok(false);
-    }
-    let came_to = (
-        test_plain_register::latest(&history).seconds(),
-        test_plain_register::count(&history),
-    );
-    Ok(stands == came_to && lines_of(alloc, &answers)?.as_slice() == output)
-}
-
-/// What a run over this input does, and where an empty register stands after it.
-fn ran(alloc: Global, input: &[u8]) -> Result<(Called, (u64, u32)), Fail> {
+/// What a run over this input does, from an empty register.
+fn ran(alloc: Global, input: &[u8]) -> Result<Called, Fail> {
     let mut desk = MemoryDesk::new(alloc)?;
-    let called = desk.make_call(Call::Run, input);
-    Ok((called, desk.stands()))
+    Ok(desk.make_call(Call::Run, input))
 }
 
-/// Whether a run over the row does and writes what it should, as does the plain program.
+/// Whether a run over the row does and writes what it should.
 fn is_run(alloc: Global, row: &WorkedRow) -> Result<bool, Fail> {
     let input = input_of(alloc, row)?;
     let output = output_of(alloc, row.lines)?;
-    let (called, stands) = ran(alloc, &input)?;
-    Ok(
-        called.outcome == outcome_of(row, &input, &output)
-            && called.output.as_slice() == output.as_slice()
-            && is_plain(alloc, row, &output, stands)?,
-    )
+    let called = ran(alloc, &input)?;
+    Ok(called.outcome == outcome_of(row, &input, &output)
+        && called.output.as_slice() == output.as_slice())
 }
 
 /// The dates after the Initial Date, in seconds.
