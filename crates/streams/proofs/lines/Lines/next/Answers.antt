@@ -1,4 +1,4 @@
-use Rattle.std.proofs.Common.{◌≡◌, ◌++◌, length, rules, arith}
+use Rattle.std.proofs.Common.{◌≡◌, ◌++◌, ◌∙◌, length, rules, arith}
 use Rattle.streams.proofs.LinesLemmas.{CutsLine-at_line_feed, CutsRest-at_end, Begun-refilled, Takes-more}
 use Rattle.streams.proofs.LinesLemmas.{work_left-after_turn}
 use Rattle.streams.proofs.lines.Lines.next.Goals as goal
@@ -75,7 +75,7 @@ loop-self-preserved g c =
       );
       within = read.within;
       bounded = λ before. most;
-      sound = search rules;
-      turns = search rules;
+      sound = c.in_ok-refill.ensures.sound ∙ c.loop-self.invariant.sound;
+      turns = omega (arith, read.turns, c.loop-self.invariant.turns);
       work = omega (arith, less, c.loop-self.invariant.work);
     }
