@@ -1,13 +1,16 @@
 -- What is known of a query while its rows are read one at a time.
-use Rattle.std.proofs.Common.{◌≡◌, ℕ, List, [], OnOk, Result, sym, subst, arith}
+use Rattle.std.proofs.Common.{◌≡◌, ℕ, List, [], OnOk, Result, Ok, Err, sym, subst, arith}
 use Rattle.sqlite_trees.specs.declared.store.Store as store
 use Rattle.sqlite.specs.declared.error.Error.TheVariants.{SqlInputError}
+use Rattle.sqlite.specs.declared.error.Error.{Error}
 use Rattle.sqlite.specs.State.{State, HasCleanDisk, IsUnchanged, IsNotRun, FailsToQuery, Shown, Survives}
 use Rattle.sqlite.specs.State.{CommitsShowing}
 use Rattle.sqlite.specs.{Order.Row, Given.HasGiven, Given.HasBegun, Held.Held, Held.state}
 use Rattle.sqlite_resolve.specs.declared.error.CompileError.{CompileError}
 use Rattle.sqlite.proofs.{Callers.never_commits, Callers.unchanged_then, StateLemmas.survives_weaker}
 use Rattle.sql_steps.proofs.Asking.{never_input}
+use Rattle.row_checks.specs.declared.error.RowsError.{RowsError}
+use Rattle.row_checks.specs.declared.error.RowsError.TheVariants.{Refused, Memory, NoMeaning, Database}
 use Rattle.row_checks.specs.ShownRows.{IsQuery, HasNoMeaning, ShowsAll, ShowsFirst}
 
 -- ---- a text that has no meaning
@@ -89,3 +92,23 @@ no_meaning_from sql a b c same none = grind (arith, unchanged_then)
 pub all_to : (sql : List ℕ) (P : List Row → Type 0) (a b c : State) → IsQuery sql → ShowsAll sql P a b
     → IsUnchanged b c → ShowsAll sql P a c
 all_to sql P a b c query all same = grind (arith, shown_to, unchanged_then)
+
+-- ---- the errors
+
+-- no value is an error, and no two errors are one
+pub ok_no_err : {T E : Type 0} {x : T} {e : E} → ◌≡◌ {A = Result T E} (Ok x) (Err e) → ⊥
+ok_no_err is = absurd (cc)
+
+abbrev pub IsSame : RowsError → RowsError → Type 0
+IsSame a b = ◌≡◌ {A = Result (Unit {0}) RowsError} (Err a) (Err b)
+
+pub database_no_other : {cause : Error}
+    → (IsSame (Database cause) Refused → ⊥) × (IsSame (Database cause) Memory → ⊥)
+    × (IsSame (Database cause) NoMeaning → ⊥)
+database_no_other = (λ is. absurd (cc), λ is. absurd (cc), λ is. absurd (cc))
+
+pub refused_no_other : (IsSame Refused Memory → ⊥) × (IsSame Refused NoMeaning → ⊥)
+refused_no_other = (λ is. absurd (cc), λ is. absurd (cc))
+
+pub memory_no_other : (IsSame Memory Refused → ⊥) × (IsSame Memory NoMeaning → ⊥)
+memory_no_other = (λ is. absurd (cc), λ is. absurd (cc))

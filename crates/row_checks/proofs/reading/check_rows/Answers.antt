@@ -3,6 +3,7 @@ use Rattle.sqlite.specs.{Held.Held, Held.state, State.HasCleanDisk, State.Surviv
 use Rattle.row_checks.specs.{declared.error.RowsError.TheVariants.Refused, ShownRows.ShowsAll, ShownRows.ShowsFirst}
 use Rattle.sqlite.proofs.{Callers.unchanged_then, StateLemmas.survives_then}
 use Rattle.row_checks.proofs.RowByRow.{commits_none, no_meaning, carry, at_start, first_from, met_from}
+use Rattle.row_checks.proofs.RowByRow.{database_no_other}
 use Rattle.row_checks.proofs.reading.check_rows.Goals as goal
 
 pub returns-in-Ok-clause-met : goal.returns-in-Ok-clause-met
@@ -35,9 +36,9 @@ returns-in-Err g c =
     record {
       idle = refused.mode c.requires.idle;
       met = λ clean begun. tt;
-      meaning = λ clean is. absurd (cc);
-      refused = λ clean begun is. absurd (cc);
-      memory = λ clean is. absurd (cc);
+      meaning = λ clean is. absurd (database_no_other.2 is);
+      refused = λ clean begun is. absurd (database_no_other.0 is);
+      memory = λ clean is. absurd (database_no_other.1 is);
       survives = commits_none c.args.sql.now [] _ _ c.requires.query refused.survives;
     }
 
