@@ -1,6 +1,6 @@
 -- What answers a body answers the input that it stands in.
-use Rattle.std.proofs.Common.{◌≡◌, ◌≢◌, ℕ, ◌+◌, ◌≤◌, List, [], ◌++◌, length, take, min, Option, Some, None, sym, ap}
-use Rattle.std.proofs.Common.{subst, ◌∙◌, arith, append_assoc, length-append, length-take}
+use Rattle.std.proofs.Common.{◌≡◌, ◌≢◌, ℕ, Bool, true, false, ◌+◌, ◌≤◌, List, [], ◌++◌, length, take, min}
+use Rattle.std.proofs.Common.{Option, Some, None, sym, ap, subst, ◌∙◌, arith, append_assoc, length-append, length-take}
 use Rattle.std.proofs.lemmas.List.{take-append-le, append-nil, take_min}
 use Rattle.std.specs.Prelude.{IfOk, IsSomeAnd, IsUtf8, Ok}
 use Rattle.std.specs.Io.KnownBytes.{Consumes, IsAtEnd}
@@ -41,6 +41,12 @@ module _ (n : ℕ) (caller : List ℕ) (serial : ℕ) (after : List ℕ) where
         text = subst IsUtf8 e utf8;
         value = sym (ap read e) ∙ is_v ∙ ap (λ w. Some w) same;
       })
+
+-- ---- faults of the reader
+
+-- a reader that did not fail tells nothing
+pub untold : {P : Type 0} (before now : Bool) → now ≡ before → before ≡ false → now ≡ true → P
+untold before now same sound failed = absurd (cc)
 
 -- ---- a body of which a part was read with the head
 

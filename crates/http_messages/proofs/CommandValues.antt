@@ -72,7 +72,7 @@ date_again : (date : Option ℕ) → date_in (date_data date) ≡ date
 date_again None = refl
 date_again (Some date) = refl
 
-one_date : (a b : Option ℕ) → date_data a ≡ date_data b → a ≡ b
+pub one_date : (a b : Option ℕ) → date_data a ≡ date_data b → a ≡ b
 one_date a b e = sym (date_again a) ∙ ap date_in e ∙ date_again b
 
 abbrev edit_in : Data → Edit
@@ -97,6 +97,9 @@ one_period a b e f =
 
 one_reason : (a b : Reason) → reason_code a ≡ reason_code b → a ≡ b
 one_reason a b e = one_text reasons a b (ap decimal e)
+
+pub one_reason_data : (a b : Reason) → number (unsigned (reason_code a)) ≡ number (unsigned (reason_code b)) → a ≡ b
+one_reason_data a b e = one_reason a b cc
 
 -- ---- fields and commands
 

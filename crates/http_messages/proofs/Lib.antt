@@ -6,4 +6,5 @@ pub mod Inputs
 pub mod HeadLaws
 pub mod NoFloats
 pub mod CommandValues
+pub mod NamedMembers
 pub mod OneAnswer

@@ -1,6 +1,9 @@
 //! The command that a JSON value is: first its kind, and then the members of the fields of that
 //! kind's shape.
 ghost use Rattle.std.specs.Prelude.{◌≡◌, ◌≢◌, ℕ, List, [], ◌∷◌, codes, Option, IfSome, IfNone};
+ghost use Rattle.std.specs.Prelude.{◌<◌, ◌≤◌, length, map};
+ghost use Rattle.std.specs.List.{zip};
+ghost use Rattle.http_messages.specs.declared.command_value.TheConstants.{MAX_MEMBERS};
 ghost use Rattle.serde_json.specs.Data.{Data, Members, string, member, no_members};
 ghost use Rattle.serde_json.specs.View.{view, members_view};
 ghost use Rattle.period_core.specs.{declared.key_type.KeyType.KeyType, Period.Period};
@@ -50,19 +53,36 @@ fn next_named<'v>(members: &mut Iter<'v, String, Value>, name: &str) -> Option<&
     }
 }
 
-/// The value of the last member, if there is one member left and it has this name.
-fn last_named<'v>(members: &mut Iter<'v, String, Value>, name: &str) -> Option<&'v Value>
-    ensures found { IfSome result (λ value.
-        members_view members.old ≡ member name.now (view value.now) no_members) }
-    ensures none { IfNone result ((d : Data) →
-        members_view members.old ≢ member name.now d no_members) }
+/// The most members that a command has.
+const MAX_MEMBERS: usize = 7;
+
+/// The values of members. Past the last member's stand values that say nothing.
+struct MemberValues<'v> {
+    values: [&'v Value; MAX_MEMBERS],
+}
+
+/// The values of the members, where these are their names.
+fn values_named<'v>(members: &'v Map<String, Value>, names: &[&str]) -> Option<MemberValues<'v>>
+    requires some { 0 < length names.now }
+    requires few { length names.now ≤ MAX_MEMBERS }
+    ensures found { IfSome result (λ found. members_view members.now.entries
+        ≡ members_of (zip (map (λ name. name.now) names.now)
+        (map (λ value. view value.now) found.values))) }
+    ensures room { IfSome result (λ found. length found.values ≡ MAX_MEMBERS) }
+    ensures none { IfNone result ((values : List Data) → length values ≡ length names.now →
+        members_view members.now.entries
+        ≢ members_of (zip (map (λ name. name.now) names.now) values)) }
 {
-    let value = next_named(members, name)?;
-    if members.next().is_none() {
-        Some(value)
-    } else {
-        None
+    let mut rest = members.iter();
+    let first = next_named(&mut rest, names[0])?;
+    let mut values = [first; MAX_MEMBERS];
+    for at in 1..names.len() {
+        values[at] = next_named(&mut rest, names[at])?;
     }
+    if rest.next().is_some() {
+        return None;
+    }
+    Some(MemberValues { values })
 }
 
 /// No fields: there is no member beside the kind.
@@ -72,7 +92,7 @@ fn empty_fields_of(members: &Map<String, Value>) -> Option<Fields>
     ensures none { IfNone result ((kind : Data) →
         members_view members.now.entries ≢ fields_members kinds.Advance kind Nothing) }
 {
-    let _kind = last_named(&mut members.iter(), "kind")?;
+    let MemberValues { values: _ } = values_named(members, &["kind"])?;
     Some(Fields::Nothing)
 }
 
@@ -83,10 +103,8 @@ fn lone_key_of(members: &Map<String, Value>) -> Option<u32>
     ensures none { IfNone result ((key : ℕ) (kind : Data) → IsKeyNumber key →
         members_view members.now.entries ≢ fields_members kinds.Activate kind (Key key)) }
 {
-    let mut rest = members.iter();
-    let key = key_number_of(next_named(&mut rest, "key")?)?;
-    let _kind = last_named(&mut rest, "kind")?;
-    Some(key)
+    let MemberValues { values } = values_named(members, &["key", "kind"])?;
+    key_number_of(values[0])
 }
 
 /// The key of members that name a key, and the value of the one more, which has this name.
@@ -98,10 +116,9 @@ fn key_and_value_of<'v>(members: &'v Map<String, Value>, name: &str) -> Option<(
         members_view members.now.entries ≢ members_of ((codes "key", number_data key)
         ∷ (codes "kind", kind) ∷ (name.now, value) ∷ [])) }
 {
-    let mut rest = members.iter();
-    let key = key_number_of(next_named(&mut rest, "key")?)?;
-    let _kind = next_named(&mut rest, "kind")?;
-    let value = last_named(&mut rest, name)?;
+    let MemberValues { values } = values_named(members, &["key", "kind", name])?;
+    let [key, _, value, ..] = values;
+    let key = key_number_of(key)?;
     Some((key, value))
 }
 
@@ -114,11 +131,11 @@ fn type_and_period_fields_of(members: &Map<String, Value>) -> Option<Fields>
         members_view members.now.entries
         ≢ fields_members kinds.SetPeriod kind (TypeAndPeriod type period)) }
 {
-    let mut rest = members.iter();
-    let _kind = next_named(&mut rest, "kind")?;
-    let originator = next_named(&mut rest, "originator")?;
-    let recipient = next_named(&mut rest, "recipient")?;
-    let key_type = last_named(&mut rest, "type")?;
+    let MemberValues { values } = values_named(
+        members,
+        &["kind", "originator", "recipient", "type"],
+    )?;
+    let [_, originator, recipient, key_type, ..] = values;
     let kind = key_type_of(key_type)?;
     let period = period_of_months(originator, recipient)?;
     Some(Fields::TypeAndPeriod { kind, period })
@@ -134,11 +151,8 @@ fn revocation_fields_of(members: &Map<String, Value>) -> Option<Fields>
         members_view members.now.entries
         ≢ fields_members kinds.Revoke kind (Revocation key reason occurrence)) }
 {
-    let mut rest = members.iter();
-    let key = next_named(&mut rest, "key")?;
-    let _kind = next_named(&mut rest, "kind")?;
-    let occurrence = next_named(&mut rest, "occurrence")?;
-    let reason = last_named(&mut rest, "reason")?;
+    let MemberValues { values } = values_named(members, &["key", "kind", "occurrence", "reason"])?;
+    let [key, _, occurrence, reason, ..] = values;
     let key = key_number_of(key)?;
     let occurrence = date_of(occurrence)?;
     let reason = reason_of(reason)?;
@@ -163,12 +177,11 @@ fn date_edit_fields_of(members: &Map<String, Value>) -> Option<Fields>
         ≢ fields_members kinds.SetDates kind
         (DateEdits key activation protect_stop deactivation)) }
 {
-    let mut rest = members.iter();
-    let activation = next_named(&mut rest, "activation")?;
-    let deactivation = next_named(&mut rest, "deactivation")?;
-    let key = next_named(&mut rest, "key")?;
-    let _kind = next_named(&mut rest, "kind")?;
-    let protect_stop = last_named(&mut rest, "protect_stop")?;
+    let MemberValues { values } = values_named(
+        members,
+        &["activation", "deactivation", "key", "kind", "protect_stop"],
+    )?;
+    let [activation, deactivation, key, _, protect_stop, ..] = values;
     Some(Fields::DateEdits {
         key: key_number_of(key)?,
         activation: edit_of(activation)?,
@@ -186,14 +199,27 @@ fn registration_fields_of(members: &Map<String, Value>) -> Option<Fields>
         members_view members.now.entries
         ≢ fields_members kinds.Register kind (fields.Registration new)) }
 {
-    let mut rest = members.iter();
-    let activation = next_named(&mut rest, "activation")?;
-    let deactivation = next_named(&mut rest, "deactivation")?;
-    let _kind = next_named(&mut rest, "kind")?;
-    let owner = next_named(&mut rest, "owner")?;
-    let protect_stop = next_named(&mut rest, "protect_stop")?;
-    let purpose = next_named(&mut rest, "purpose")?;
-    let key_type = last_named(&mut rest, "type")?;
+    let MemberValues { values } = values_named(
+        members,
+        &[
+            "activation",
+            "deactivation",
+            "kind",
+            "owner",
+            "protect_stop",
+            "purpose",
+            "type",
+        ],
+    )?;
+    let [
+        activation,
+        deactivation,
+        _,
+        owner,
+        protect_stop,
+        purpose,
+        key_type,
+    ] = values;
     Some(Fields::Registration(Registration {
         kind: key_type_of(key_type)?,
         owner: name_of(owner)?,
