@@ -2,12 +2,16 @@
 """What the gate costs, in minutes of processor time by crate.
 
     bench/gate_minutes.py [--edits] [WORDS..]
+    bench/gate_minutes.py --edits --anew --write
 
 Runs `rt ci` with these words, and prints a row for each crate after that; with --edits a line in seconds for each wrong
 body as well. A crate's proof, the proof of its tests, and its wrong bodies are kept apart. To these count the proof
 that they begin with, and the one more after them, with which `rt` sees that nothing has changed. A row has what was
 done in this run: with --anew among the words, or on a machine that has nothing kept, that is all. Where `rt` is ended
 early, it prints what was done. It needs Linux, for /proc.
+
+With --write, which wants --anew, docs/GATE.md gets the table: the commit and the machine that it is of, the rows in the
+order of crates.txt, and the sums. It is written where `rt ci` passed and each crate was proved, over a commit.
 """
 import collections
 import contextlib
@@ -16,11 +20,16 @@ import pathlib
 import re
 import subprocess
 import sys
+import textwrap
 import time
 from typing import Iterator, NamedTuple, Optional
 
 TOP = pathlib.Path(__file__).resolve().parents[1]
+PAGE = TOP / "docs" / "GATE.md"
+# Between these the page has what is written here.
+BEGIN, END = "<!-- Written by bench/gate_minutes.py. -->\n", "<!-- Up to here. -->\n"
 TICKS = os.sysconf("SC_CLK_TCK")
+KINDS = ("proof", "tests", "edits")
 
 
 class Label(NamedTuple):
@@ -94,34 +103,100 @@ class Watch:
         for pid, seconds in now.items():
             self.used[pid] = max(self.used[pid], seconds)
 
-    def lines(self, has_edits: bool) -> Iterator[str]:
-        """A row for each crate, and behind it its wrong bodies."""
-        yield "| Crate | Proof | Tests | Edits | Number |\n|---|---|---|---|---|"
-        checks = [(self.labels[pid], seconds) for pid, seconds in self.used.items()]
-        for crate in sorted({label.crate for label, _ in checks}):
-            minutes, edits = collections.Counter[str](), list[tuple[float, str]]()
-            for label, seconds in checks:
-                if label.crate == crate:
-                    minutes[label.kind] += seconds / 60
-                    edits += [(seconds, label.edit)] * (label.kind == "edits")
-            cells = [f"{minutes[kind]:.1f}" if minutes[kind] else "" for kind in ("proof", "tests", "edits")]
-            yield f"| `{crate}` | {' | '.join(cells)} | {len({name for _, name in edits if name}) or ''} |"
-            yield from (f"    {seconds:6.1f} {name or '(begin or end)'}"
-                        for seconds, name in sorted(edits, reverse=True) if has_edits)
+    def costs(self) -> dict[str, "Cost"]:
+        """What each crate's checks have used."""
+        costs = collections.defaultdict[str, Cost](Cost)
+        for pid, seconds in self.used.items():
+            crate, kind, edit = self.labels[pid]
+            costs[crate].minutes[kind] += seconds / 60
+            costs[crate].edits += [(seconds, edit)] * (kind == "edits")
+        return costs
+
+
+class Cost:
+    """The minutes of a crate by the kind of a check, and the seconds of each wrong body with its name; of the proof
+    before them and the one after them the name is empty."""
+
+    def __init__(self) -> None:
+        self.minutes, self.edits = collections.Counter[str](), list[tuple[float, str]]()
+
+    def number(self) -> int:
+        return len({name for _, name in self.edits if name})
+
+    def edit_lines(self) -> Iterator[str]:
+        for seconds, name in sorted(self.edits, reverse=True):
+            yield f"    {seconds:6.1f} {name or '(begin or end)'}"
+
+
+def row(name: str, minutes: dict[str, float], number: int, form: str) -> str:
+    cells = [format(minutes[kind], form) if minutes[kind] else "" for kind in KINDS]
+    return f"| {name} | {' | '.join(cells)} | {number or ''} |".replace("|  ", "| ")
+
+
+def table(costs: dict[str, Cost], order: list[str], has_edits: bool) -> Iterator[str]:
+    """A row for each crate, behind it its wrong bodies, and the sums."""
+    yield "| Crate | Proof | Tests | Edits | Number |\n|---|---|---|---|---|"
+    for crate in order:
+        yield row(f"`{crate}`", costs[crate].minutes, costs[crate].number(), ".1f")
+        yield from costs[crate].edit_lines() if has_edits else ()
+    sums = {kind: sum(cost.minutes[kind] for cost in costs.values()) for kind in KINDS}
+    yield row("all", sums, sum(cost.number() for cost in costs.values()), ".0f")
+
+
+# ---- the page
+
+
+def git(*words: str) -> str:
+    return subprocess.run(["git", *words], cwd=TOP, capture_output=True, text=True, check=True).stdout.strip()
+
+
+def crates() -> list[str]:
+    return re.findall(r"(?m)^(\w+)(?: staticlib)?:", (TOP / "crates.txt").read_text(encoding="utf-8"))
+
+
+def machine() -> str:
+    models = re.findall(r"(?m)^model name\s*: (.*)$", pathlib.Path("/proc/cpuinfo").read_text(encoding="utf-8"))
+    return f"{len(os.sched_getaffinity(0))} cores ({models[0] if models else 'of no name'})"
+
+
+def whole(costs: dict[str, Cost]) -> list[str]:
+    """The crates of which a proof is missing."""
+    return [crate for crate in crates() if crate not in costs or not costs[crate].minutes["proof"]]
+
+
+def write(costs: dict[str, Cost], commit: str, clock: float) -> None:
+    """Puts the table into the page, in the place of the one before."""
+    first = sum(cost.minutes["proof"] for crate, cost in costs.items() if not crate.startswith("test_"))
+    all_of = sum(minutes for cost in costs.values() for minutes in cost.minutes.values())
+    lines = [*textwrap.wrap(f"In minutes of processor time from nothing, over commit {commit} on {machine()}. A crate's "
+                            "edits hold the proof that they begin with, and one check more after them.", 120), "",
+             *table(costs, crates(), False), "",
+             f"Together {all_of:.0f} minutes; by the clock {clock / 60:.0f}. The crates of a first `./keyreg` are "
+             f"{first:.0f} of them."]
+    page = PAGE.read_text(encoding="utf-8")
+    before, after = page.index(BEGIN) + len(BEGIN), page.index(END)
+    PAGE.write_text(page[:before] + "\n".join(lines) + "\n" + page[after:], encoding="utf-8")
 
 
 def main() -> None:
-    words = [word for word in sys.argv[1:] if word != "--edits"]
+    words, writes = [word for word in sys.argv[1:] if word not in ("--edits", "--write")], "--write" in sys.argv
+    if writes and ("--anew" not in words or git("status", "--porcelain", "--", "crates", "crates.txt")):
+        sys.exit("--write wants --anew, and crates as a commit has them")
+    commit = git("rev-parse", "--short=8", "HEAD") if writes else ""
     child, begun = subprocess.Popen(["rt", "ci", *words], cwd=TOP), time.monotonic()
     watch = Watch(child.pid)
     while child.poll() is None:
         watch.look()
         time.sleep(0.2)
-    wall, used = time.monotonic() - begun, os.times()
-    print(*watch.lines("--edits" in sys.argv), sep="\n")
+    clock, used, costs = time.monotonic() - begun, os.times(), watch.costs()
+    print(*table(costs, sorted(costs), "--edits" in sys.argv), sep="\n")
     print(f"together: {sum(watch.used.values()) / 60:.0f} processor minutes, "
           f"{(used.children_user + used.children_system) / 60:.0f} with all that `rt` did besides")
-    print(f"by the clock: {wall / 60:.0f} minutes")
+    print(f"by the clock: {clock / 60:.0f} minutes")
+    if writes and (child.returncode or whole(costs)):
+        sys.exit(f"not written: `rt ci` ended with {child.returncode}, and of {whole(costs)} no proof was seen")
+    if writes:
+        write(costs, commit, clock)
     sys.exit(child.returncode)
 
 

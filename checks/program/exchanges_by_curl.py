@@ -214,6 +214,7 @@ KEY = get("/keys/1")
 HEADERS = [f"F{place}: {place}" for place in range(63)]
 SPARE = MOST_HEAD - len(get("/keys/1", "Fill: "))
 FIRST = ("POST /requests HTTP/1.1", "Host: localhost")
+TAKEN = post(ADVANCE, *ANN)
 
 
 def heads() -> None:
@@ -224,17 +225,23 @@ def heads() -> None:
             b"": [b""],
             shown: [b"GET /keys/1 HTTP/1.0\r\n\r\n", b"\r\n" + KEY, KEY.replace(b"\r\n", b"\n"), KEY + get("/keys/2"),
                     head("GET /keys/1 HTTP/1.1", "Host:"), get("/keys/1", "Content-Length: x"),
-                    get("/keys/1", *HEADERS), get("/keys/1", "Fill: " + "x" * SPARE) + b"x" * 5000],
+                    get("/keys/1", *HEADERS), get("/keys/1", "Fill: " + "x" * SPARE) + b"x" * 5000,
+                    b"\r\n\r\nGET /keys/1 HTTP/1.1\nhOST:\n\n", head("GET /keys/1 HTTP/1.0", "Host: a", "Host: b")],
             BAD: [head("GET /nothing HTTP/1.1"), head("PUT /requests HTTP/1.1"), KEY[:-1], b"\0" * 100,
                   get("/keys/1", "host: b"), get("/keys/1", *HEADERS, "Last: 1"), get("/keys/1", "Name : x"),
                   head("GET /keys/1 HTTP/2.0", "Host: a"), head("GET /keys/1", "Host: a"),
+                  head("GET /nothing HTTP/1.1", "Host: a", "host: b"), b"100 ann 1 advance\n",
+                  KEY.replace(b"localhost", b"localhost\r\n folded"),
+                  head(FIRST[0], "Host: a", "Host: b", *ANN, "Content-Length: 18") + ADVANCE,
+                  # Each proper prefix of a request that would be taken.
+                  *(TAKEN[:length] for length in range(1, len(TAKEN))),
                   get("/keys/1", "Fill: " + "x" * MOST_HEAD)[:MOST_HEAD - 1],
                   *(head(*FIRST, *ANN, f"Content-Length: {length}") + ADVANCE
                     for length in ("", "x", "+18", "18, 18", "0", "17", "19", "18\r\ncontent-length: 18")),
                   *(post(ADVANCE, f"Caller: {caller}", ANN[1]) for caller in ("", "a b", "\u00e4nn", "a" * 65)),
                   *(post(ADVANCE, ANN[0], f"Request-Number: {number}")
                     for number in ("", "0", "01", GREATEST_NUMBER + 1)),
-                  post(ADVANCE, ANN[0]), post(ADVANCE, *ANN, "CALLER: bob"), post(b"x"),
+                  post(ADVANCE, ANN[0]), post(ADVANCE, ANN[1]), post(ADVANCE, *ANN, "CALLER: bob"), post(b"x"),
                   post(ADVANCE, *ANN, *HEADERS[:61])],
             LENGTH_REQUIRED: [head(*FIRST), head(*FIRST, *ANN, "Transfer-Encoding: chunked"),
                               head(*FIRST, "TRANSFER-ENCODING: x", "Content-Length: 18", "Content-Length: 18")],
@@ -271,23 +278,24 @@ NO_NAME = ["null", '""', '"a b"', '"' + "a" * 65 + '"', '"\u00e4"', '"a\\n"']
 NO_DATE = ["1.0", "1e0", "-1", "-0", "253402300800", "true", '"5"', '"Keep"']
 # What no member may be, as it stands in the text.
 WRONG = {
-    "key": ["0", "4294967296", "1.0", "-0", "null", '"1"'], "owner": NO_NAME, "name": NO_NAME,
+    "key": ["0", "4294967296", "18446744073709551617", "1.0", "-0", "null", '"1"'], "owner": NO_NAME, "name": NO_NAME,
     "purpose": ["null", '""', '" x"', '"x "', '"' + "x" * 201 + '"', '"' + "\u00e9" * 101 + '"', '"a\\nb"',
                 '"\\u007f"', '"\\ud800"'],
     "type": ["null", '"Master"', '"public"', "[]"], "reason": ["0", "8", "2.0", "null", '"2"'],
     "need": ["1", "6", "2.0", "null", '"2"'], "originator": ["0", "1201", "1.0", "null", '"1"'],
     "recipient": ["-1", "1201", "1.0", "null", '"1"'], "activation": NO_DATE, "protect_stop": NO_DATE,
-    "deactivation": NO_DATE, "occurrence": [*NO_DATE, '"keep"'], "kind": ["null", '"Advance"', '"list"', "[]"],
+    "deactivation": NO_DATE, "occurrence": [*NO_DATE, '"keep"'], "kind": ["null", "11", '"Advance"', '"list"', "[]"],
 }
 NO_BODIES = [
     b"", b"advance", b'"advance"', b"null", b'[{"kind":"advance"}]', b"{}", ADVANCE[:-1], ADVANCE + b"x",
     b'{"kind":"advance",}', b"\xef\xbb\xbf" + ADVANCE, b"[" * 1000, b'{"kind":"advance\xff"}', b'{"Kind":"advance"}',
-    b'{"kind":"advance","kind":"x"}',
+    b'{"kind":"advance","kind":"x"}', b'{"kind":"adv\nance"}',
     *(compact({"kind": "revoke", "key": 1, "reason": reason, "occurrence": 5}) for reason in (1, 4, 5, 6, 7)),
 ]
 # Other spellings of a command than the usual one, each with the command.
 SPELLINGS = [
     (b' \t\r\n{ "kind" :\n"adv\\u0061nce" } \r\n', ("advance",)),
+    (b'{"kind":"destroy","kind":"advance"}', ("advance",)),
     (b'{"kind":"assign","key":"x","owner":7,"owner":"bob","key":1}', ("assign", 1, "bob")),
     (b'{"purpose":"a\\u00e9\\"\\\\\\/b\\ud83d\\udd11","deactivation":7,"type":"master","protect_stop":7,"owner":"bob",'
      b'"activation":null,"kind":"register"}', ("register", "master", "bob", None, 7, 7, "a\u00e9\"\\/b\U0001f511")),

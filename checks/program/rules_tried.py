@@ -5,7 +5,7 @@ from answers import compact, post_reply, register_of, reply_line, shown, usage
 from places import read
 from register_rules import LAST, Register, request_of
 from script import expect
-from worked_rows import worked_rows
+from worked_rows import exchanges_of, worked_rows
 
 # Lines that are no request, by the bounds of the fields; of the last purpose a byte less would do.
 NO_REQUESTS = [
@@ -31,13 +31,12 @@ def look_at_rules() -> None:
         expect(reply_to(Register(), text) == "refused 1 BadLine", f"the rules take {text!r}")
     request_of(f"{LAST} {'a' * 64} 9007199254740991 register master bob - - - {'ü' * 100}")
     rows = worked_rows()
-    expect(len(rows) >= 30, f"no more than {len(rows)} worked rows are lines with a reply each")
-    for name, (before, lines, wanted) in rows.items():
+    expect(len(rows) >= 36, f"no more than {len(rows)} worked rows are lines with a reply each")
+    for name in rows:
+        lines, wanted = zip(*exchanges_of(name))
         register = Register()
-        while before:
-            lines, wanted, before = rows[before].lines + lines, rows[before].replies + wanted, rows[before].before
         replies = [reply_to(register, text) for text in lines]
-        expect(replies == wanted, f"the rules give {replies} for *{name}*")
+        expect(replies == list(wanted), f"the rules give {replies} for *{name}*")
     worked = read("docs/WORKED.md")
     advanced = re.search(r"(?s)```\n(HTTP/1.1 200 OK\n.*?)\n```", worked)[1].replace("\n", "\r\n").encode()
     expect(post_reply(Register(), 100, "ann", 1, ("advance",)) == advanced, "the rules' reply to *advanced*")

@@ -27,18 +27,14 @@ from typing import Any, Sequence
 sys.path.insert(1, str(pathlib.Path(__file__).resolve().parents[1] / "shared"))
 from answers import BAD, get_reply, register_of
 from places import PROGRAM, read
-from registers import ACCEPTED, APPROVED_ANEW, APPROVED_ANEW_ROWS, EXPORT_COLUMNS, IMPORT_COLUMNS, VERSION, File
-from registers import Life, answered_and_killed, database, export_row, new_register, run_program, table_rows
+from registers import ACCEPTED, APPROVED_ANEW, APPROVED_ANEW_ROWS, EXPORT_COLUMNS, IMPORT_COLUMNS, OPTIONS, VERSION
+from registers import File, Life, answered_and_killed, database, export_row, new_register, run_program, table_rows
+from registers import words_for
 from script import expect, fresh_folder, options, verdict
 from serving import Served, begins_to_listen, free_port, get, listens
 
 # So long, in seconds, a command may take, and so long a program is looked at that is not to end.
 PATIENCE, GLANCE = 30, 0.2
-OPTIONS = {
-    "init": {}, "run": {}, "export": {}, "report": {"days": "7"},
-    "import": {"moment": "110", "caller": "imp", "first": "1"},
-    "serve": {"port": "8420", "exchanges": "1"},
-}
 HEADER, ROW, IMPORTED = ",".join(IMPORT_COLUMNS) + "\n", "master,bob,,,,spare\n", "ok 2 Pre-Active 110\n"
 # Of those that are accepted each has its first reply where it comes again.
 LINES, REPLIES, AGAIN, FIRST_REPLIES = ("".join(text + "\n" for text in texts)
@@ -56,11 +52,28 @@ BAD_VALUE, STORE, STRANGER, NEWER, FULL_DISK, READ_FAULT, WRITE_FAULT, BAD_HEADE
         (1, "BadValue"), (2, "Store"), (2, "NotARegister"), (2, "NewerVersion"), (3, "Store"), (4, "ReadFault"),
         (4, "WriteFault"), (4, "BadHeader")))
 
-# The greatest value that an option has, or one that looks like another option, and a value that it has not.
+# The greatest value that an option has, or one that looks like another option, and values that it has not.
 VALUES = {
-    "moment": ("253402300799", "253402300800"), "caller": ("--first", "a b"), "first": ("9007199254740991", "0"),
-    "days": ("36500", "36501"), "port": ("65535", "65536"), "exchanges": ("1000000", "1000001"),
+    "moment": ("253402300799", ("", "0100", "+1", "1970-01-01T00:00:00Z", "253402300800")),
+    "caller": ("--first", ("", "a b", "\u00e4nn", "a" * 65)),
+    "first": ("9007199254740991", ("", "0", "01", "9007199254740992", "18446744073709551617")),
+    "days": ("36500", ("", "-1", "00", "1.5", "36501", "4294967296")),
+    "port": ("65535", ("", "0", "08420", "65536")), "exchanges": ("1000000", ("", "0", "-1", "1000001")),
 }
+# What is said first of words that are no command, or ask for help.
+REQUIRED, FILE = "error: the following required arguments were not provided:", "'--file <FILE>'"
+FIRST_LINES = [
+    (["--help"], "The register of cryptographic keys: owners, purposes and lifecycles"),
+    (["run", "--help"], "Applies the request lines of standard input, and writes their reply lines"),
+    (["import", "--help"], "Registers a key for each row of the CSV of standard input, and writes the reply lines"),
+    (["show"], "error: unrecognized subcommand 'show'"),
+    (["--"], f"error: '{os.path.basename(PROGRAM)}' requires a subcommand but one was not provided"),
+    (["init"], REQUIRED), (["export"], REQUIRED), (["report", "--file", "a"], REQUIRED),
+    (["run", "--file"], f"error: a value is required for {FILE} but none was supplied"),
+    (["run", "--file", "a", "b"], "error: unexpected argument 'b' found"),
+    (["init", "--file", "a", "--file", "b"], f"error: the argument {FILE} cannot be used multiple times"),
+    (["--file", "a"], "error: unexpected argument '--file' found"),
+]
 
 
 def look(words: Sequence[Any], wanted: End, output: str = "", given: Any = "", **how: Any) -> None:
@@ -72,12 +85,6 @@ def look(words: Sequence[Any], wanted: End, output: str = "", given: Any = "", *
     expect(done.returncode == wanted[0] and (is_claps or error == wanted[1]) and written == output,
            f"{str(words)[:400]}: status {done.returncode}, {error[:400]!r}, {written[:400]!r}, "
            f"where {wanted}, {output[:400]!r} are wanted")
-
-
-def words_for(command: str, file: File, **values: str) -> list[str]:
-    """The words of a command over a file, with these values in the place of the usual ones."""
-    pairs = {"file": str(file), **OPTIONS[command], **values}
-    return [command, *itertools.chain.from_iterable((f"--{name}", value) for name, value in pairs.items())]
 
 
 def made(file: File, lines: str = LINES) -> File:
@@ -105,6 +112,9 @@ def look_at_wrong_words(folder: pathlib.Path) -> None:
             look([*whole[:place], word.encode() + b"\xff", *whole[place + 1:]], BAD_VALUE, given=LINES)
     for words in wrong:
         look(words, CLAPS, given=LINES)
+    for words, first in FIRST_LINES:
+        said = run_program(words, LINES.encode()).stderr.decode()
+        expect(said.startswith(f"{first}\n"), f"{words}: {said!r} does not begin with {first!r}")
     # The newest version of CHANGES, that of the tables, and the program logic that README names.
     newest = re.search(r"^## ([0-9.]+)$", read("CHANGES.md"), re.M)[1]
     logic = re.search(r"logic ([0-9a-f]{16})", read("README.md"))[1]
@@ -116,9 +126,10 @@ def look_at_wrong_words(folder: pathlib.Path) -> None:
 def look_at_values(folder: pathlib.Path) -> None:
     """A bad value is found before the file is looked at; a good one is none, so that the file is."""
     for command, values in OPTIONS.items():
-        for name, (good, bad) in ((name, VALUES[name]) for name in values):
+        for name, (good, wrong) in ((name, VALUES[name]) for name in values):
             look(words_for(command, folder / "missing", **{name: good}), STORE, given=HEADER + ROW)
-            look(words_for(command, folder / "missing", **{name: bad}), BAD_VALUE, given=HEADER + ROW)
+            for bad in wrong:
+                look(words_for(command, folder / "missing", **{name: bad}), BAD_VALUE, given=HEADER + ROW)
     expect(os.listdir(folder) == [], f"values made {os.listdir(folder)}")
 
 
@@ -126,8 +137,8 @@ def look_at_values(folder: pathlib.Path) -> None:
 
 # Names that look like options or other kinds of a path, or that these end early or read otherwise: a query, a fragment,
 # an escape, spaces before and behind, and the end of a log's name.
-ODD_NAMES = ("-file", "--help", "a b", "\u05de\u05e4\u05ea\u05d7", "none:memory:", "my file:x", "a?b", "a#b", "a%41",
-             "a ", " a", "  a  ", "a-wal")
+ODD_NAMES = ("-", "-file", "--help", "a b", "\u05de\u05e4\u05ea\u05d7", "none:memory:", "my file:x", "a?b", "a#b",
+             "a%41", "a ", " a", "  a  ", "a-wal")
 
 
 def look_at_life(folder: pathlib.Path, file: str) -> None:
@@ -180,6 +191,7 @@ def look_at_no_files(folder: pathlib.Path) -> None:
 # how `init` ends over them.
 STRANGERS = {
     "empty": (b"", STRANGER, WELL), "text": (b"hello, this is a text and no database\n" * 200, STORE, STORE),
+    "short_text": (b"no database\n", STORE, STORE), "zeros": (b"\0" * 8192, STORE, STORE),
     "other": ("CREATE TABLE notes (note TEXT)", STRANGER, WELL),
     "table_of_the_name": ("CREATE TABLE quorum (note TEXT)", STRANGER, STRANGER),
     "newer": ("UPDATE meta SET version = 3", NEWER, STRANGER),
@@ -197,9 +209,13 @@ def look_at_strangers(folder: pathlib.Path) -> None:
                 made(file)
             with database(file) as connection:
                 connection.execute(made_by)
+        before = file.read_bytes()
         for command in ("run", "export", "report", "import", "serve"):
             look(words_for(command, file), opened, given=HEADER + ROW)
+        # An empty file may have become an empty database.
+        expect(not before or file.read_bytes() == before, f"{name}: a file that is no register changed")
         look(["init", "--file", file], begun)
+        expect(begun == WELL or file.read_bytes() == before, f"{name}: a file in which none is made changed")
 
 
 def look_at_held(folder: pathlib.Path) -> None:
@@ -231,6 +247,11 @@ def look_at_streams(folder: pathlib.Path) -> None:
     for words in ([], run, imports):
         look(words, READ_FAULT, given=unread)
     os.close(unread)
+    # Where the fault can be named nowhere, its status tells of it.
+    with open("/dev/full", "wb") as full:
+        for words, status in (([], 4), (run, 4), (words_for("export", folder / "gone"), 2), (["show"], 1)):
+            done = run_program(words, LINES.encode(), stdout=full, stderr=full)
+            expect(done.returncode == status, f"{words}, both outputs full: status {done.returncode}, not {status}")
     look(imports, READ_FAULT, given=HEADER.encode() + b"\xff,b,,,,p\n")
     look(imports, BAD_HEADER, given=EXPORTED)
     look(run, WELL, given="200 ann 1 advance")

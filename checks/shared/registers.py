@@ -1,5 +1,6 @@
 """What the checks over files share: runs of the program, and the tables of docs/SPECIFICATION.md."""
 import contextlib
+import itertools
 import os
 import re
 import shutil
@@ -10,7 +11,7 @@ from typing import Any, Iterable, Iterator, Mapping, Optional, Sequence, Union
 from places import PROGRAM, VERSION_1
 import register_rules
 from script import expect
-from worked_rows import worked_rows
+from worked_rows import exchanges_of
 
 File = Union[str, os.PathLike]
 
@@ -38,7 +39,7 @@ CREATE TABLE quorum (key_no INTEGER PRIMARY KEY REFERENCES keys(number), need IN
 """
 
 # A worked row: each line with its reply, and those that are accepted.
-APPROVED_ANEW = list(zip(*worked_rows()["approved anew by one who was removed"][1:]))
+APPROVED_ANEW = exchanges_of("approved anew by one who was removed")
 ACCEPTED = [exchange for exchange in APPROVED_ANEW if exchange[1].startswith("ok ")]
 
 # Its rows, by the formats: type 7 is master, state 6 Destroyed-Compromised; a compromise without an occurrence gets the
@@ -51,6 +52,20 @@ APPROVED_ANEW_ROWS = {
                       for (moment, caller, number, text), reply in ((line.split(" ", 3), of) for line, of in ACCEPTED)),
     "period": [], "quorum": [],
 }
+
+
+# The options of each command of the program beside its file, each with a value that serves.
+OPTIONS = {
+    "init": {}, "run": {}, "export": {}, "report": {"days": "7"},
+    "import": {"moment": "110", "caller": "imp", "first": "1"},
+    "serve": {"port": "8420", "exchanges": "1"},
+}
+
+
+def words_for(command: str, file: File, **values: str) -> list[str]:
+    """The words of a command over a file, with these values in the place of the usual ones."""
+    pairs = {"file": str(file), **OPTIONS[command], **values}
+    return [command, *itertools.chain.from_iterable((f"--{name}", value) for name, value in pairs.items())]
 
 
 def export_row(**cells: Any) -> list[str]:
