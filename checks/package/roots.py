@@ -1,10 +1,11 @@
 """A root with Debian's base, the package that goes into it, and the blocks of commands of a page."""
+import os
 import pathlib
 import subprocess
 import sys
 from typing import Any, Sequence
 
-from places import TOP
+from places import PROGRAM, TOP
 from document_commands import anchor_of
 from script import output_of
 
@@ -18,7 +19,7 @@ def call(*words: Any, **more: Any) -> subprocess.CompletedProcess:
 
 def made_package() -> pathlib.Path:
     """The package of Debian, made of the program."""
-    output_of([TOP / "package"])
+    output_of([TOP / "package"], env={**os.environ, "KEYREG": PROGRAM})
     return next(PACKAGES.glob("*.deb"))
 
 

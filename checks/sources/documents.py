@@ -261,16 +261,16 @@ def kit_faults() -> list[str]:
 
 
 def stale_faults() -> Faults:
-    table, reply = read("crates/register_store/src/table.rt"), read("crates/register_core/src/reply.rt")
+    table, reply = read("crates/register_tables/src/table.rt"), read("crates/register_core/src/reply.rt")
     kinds = re.search(r"ALL: &'static \[CommandKind\] = &\[(.*?)\];",
                       read("crates/register_requests/src/command_fields.rt"), re.S)[1].count("CommandKind::")
-    steps = re.search(r"KeepsToSteps S\.Store (\d+) self", read("crates/register_desk/src/desk/applying.rt"))[1]
+    steps = re.search(r"KeepsToSteps S\.Store (\d+) self", read("crates/desk_core/src/desk/applying.rt"))[1]
     tables = re.search(r"TABLES: \[TableName; (\d+)\]", table)[1]
     counted = ((r"\b(\w+) tables of a (?:database|register)", tables), (r"\b(?:the|all) (\w+) tables\b", tables),
                (r"\b(\w+) commands\b", str(kinds)),
                (r"takes at most (\w+) steps", steps), (r"bound on steps is (\w+)", steps))
-    names_of = "".join(map(read, listed("crates/register_store/s*/**/*.*")))
-    ends = read("crates/register_desk/src/end.rt") + read("crates/register_desk/src/opening.rt")
+    names_of = "".join(map(read, listed("crates/register_tables/s*/**/*.*")))
+    ends = read("crates/desk_core/src/end.rt") + read("crates/desk_core/src/opening.rt")
     # What a document names so, and what there is of it.
     named = ((r"keys_by_\w+", set(re.findall(r"keys_by_\w+", names_of))),
              (r"`keyreg: (\w+)`", {*re.findall(r'"([A-Z]\w+)"', ends), "BadValue"}),

@@ -44,7 +44,7 @@ def write_program(text: str) -> None:
 
 
 def rt() -> None:
-    """Is `rt version`, or `rt lib --jobs N` and `rt run --jobs N` in the folder of a crate. It shuts others out of the
+    """Is `rt version`, or `rt lib --jobs N` and `rt run --jobs N --backend B` in the folder of a crate. It shuts others out of the
     folders of the crate and of all below it, as the kit's does, but waits for none."""
     if sys.argv[1:] == ["version"]:
         print(f"another-kit logic {os.environ['LOGIC']}")
@@ -150,20 +150,22 @@ class Copy:
         if renewed:
             os.utime(self.top / renewed)
 
-    def built(self, what: str, called: Called, cores: int = len(os.sched_getaffinity(0))) -> Iterator[str]:
-        """Faults of a call that was to build all crates once, on so many cores, and to run the program."""
+    def built(self, what: str, called: Called, cores: int = len(os.sched_getaffinity(0)),
+              backend: str = "rattle") -> Iterator[str]:
+        """Faults of a call that was to build all crates once, each by one job, on so many cores, the program by this
+        compiler, and to run it."""
         if called[:2] != (0, WANTED) or self.left() or sorted(self.begun()) != sorted(CRATES):
             yield f"{what}: {called}, begun {self.begun()}, left {self.left()}"
-        proved, jobs = set[str](), dict[str, int]()
+        proved, proving = set[str](), set[str]()
         for kind, crate, *rest in self.entries():
             if kind == "ended":
                 proved.add(crate)
-                jobs.pop(crate, None)
+                proving.discard(crate)
                 continue
-            jobs[crate] = int(rest[3])
-            is_rt = rest[1:3] == ["run" if crate == "keyreg" else "lib", "--jobs"] and 1 <= jobs[crate] <= 4
-            if not is_rt or not below(crate) <= proved or sum(jobs.values()) > cores:
-                yield f"{what}: rt {rest[1:]} for {crate}: before it {below(crate) - proved}, {jobs} on {cores} cores"
+            proving.add(crate)
+            wanted = ["run", "--jobs", "1", "--backend", backend] if crate == "keyreg" else ["lib", "--jobs", "1"]
+            if rest[1:] != wanted or not below(crate) <= proved or len(proving) > cores:
+                yield f"{what}: rt {rest[1:]} for {crate}: before it {below(crate) - proved}, {proving} on {cores} cores"
 
     def built_again(self, what: str) -> Iterator[str]:
         self.order(renewed=None)
@@ -201,13 +203,20 @@ def without_the_kit(copy: Copy) -> Iterator[str]:
 def what_makes_it_build(copy: Copy) -> Iterator[str]:
     """A source of the program's, also one that changed during the build before, and nothing else."""
     for path in ("README.md", "checks/sources/first_build.py", "keyreg", "crates/test_program/src/lib.rt",
-                 next((copy.top / "crates/register_store/must-fail").iterdir())):
+                 next((copy.top / "crates/register_tables/must-fail").iterdir())):
         copy.order(renewed=path)
         if (called := copy.call()) != (0, WANTED, "") or copy.begun():
             yield f"{path} changed: {called}"
-    for path in ("crates/keyreg/src/main.rt", "crates.txt", "crates/register_store/specs/Held.antt"):
+    for path in ("crates/keyreg/src/main.rt", "crates.txt", "crates/register_tables/specs/Held.antt"):
         copy.order(renewed=path)
         yield from copy.built(f"{path} changed", copy.call())
+    for backend in ("llvm", "rattle"):
+        copy.order(renewed=None)
+        yield from copy.built(f"by {backend}", copy.call(KEYREG_BACKEND=backend), backend=backend)
+        for other in (backend, ""):
+            copy.order(renewed=None)
+            if (called := copy.call(KEYREG_BACKEND=other)) != (0, WANTED, "") or copy.begun():
+                yield f"by {backend}, and then by {other or 'any'}: {called}"
     copy.order("wait-keyreg=1")
     begun = copy.start()
     until(lambda: "keyreg" in copy.begun())
@@ -218,12 +227,12 @@ def what_makes_it_build(copy: Copy) -> Iterator[str]:
 
 def failed(copy: Copy) -> Iterator[str]:
     """A failed proof: its log, status 70, and nothing that goes on or was begun after it."""
-    copy.order("fail-register_store", "wait-key_rows=20")
+    copy.order("fail-register_tables", "wait-key_rows=20")
     start, called = time.monotonic(), copy.call()
-    is_told = ("keyreg: register_store is not proved\n" in called.said
-               and re.findall(r"^fn (\w+)::.*", called.said, re.M) == ["register_store"])
+    is_told = ("keyreg: register_tables is not proved\n" in called.said
+               and re.findall(r"^fn (\w+)::.*", called.said, re.M) == ["register_tables"])
     is_over = time.monotonic() - start < 15 and not copy.goes_on() and not copy.left()
-    if called[:2] != (70, "") or not is_told or "register_desk" in copy.begun() or not is_over:
+    if called[:2] != (70, "") or not is_told or "register_rows" in copy.begun() or not is_over:
         yield f"a failed proof: {called}, begun {copy.begun()}, left {copy.left()}, going on {copy.goes_on()}"
     yield from copy.built_again("after a failed proof")
 

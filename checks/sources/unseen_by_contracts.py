@@ -43,7 +43,7 @@ MARKED = {
         "read_turn": ["Err(error) => self.count_error(&error),"],
         "write_turn": ["self.count_failed();", "self.unflushed = true;", "Err(error) => self.count_error(&error),"],
     }),
-    "crates/register_program/src/attendance.rt": (re.compile(r"\b(?:failed|accepted)\b"), {
+    "crates/register_serving/src/attendance.rt": (re.compile(r"\b(?:failed|accepted)\b"), {
         "accept": ["self.accepted += 1;", "self.failed = true;"],
         "accepted": ["self.accepted"],
         "has_failed": ["self.failed"],
@@ -59,32 +59,34 @@ TURNS, MOST_LINES = "crates/streams/src/watched/turns.rt", 14
 # says that a call of the database was refused. One that is handed on under another name counts, one that is looked at
 # does not: a value counts, and no pattern of a match, nor of an `if let`, nor a type.
 PLACES = {
+    "desk_core/src/desk.rt": (0, 1),
+    "desk_core/src/desk/applying.rt": (0, 2),
+    "desk_core/src/desk/listing.rt": (0, 2),
+    "desk_core/src/desk/look_ups.rt": (0, 2),
+    "desk_core/src/end.rt": (2, 1),
+    "desk_core/src/opening.rt": (1, 1),
+    "desk_core/src/rows.rt": (0, 1),
     "disk_files/src/disk_files.rt": (1, 2),
     "http_messages/src/asking.rt": (3, 0),
     "http_messages/src/route.rt": (2, 0),
     "key_rows/src/export.rt": (3, 0),
     "keyreg/src/main.rt": (1, 0),
     "memory_disk/src/lib.rt": (1, 0),
-    "register_desk/src/desk.rt": (0, 1),
-    "register_desk/src/desk/applying.rt": (0, 2),
-    "register_desk/src/desk/listing.rt": (0, 2),
-    "register_desk/src/desk/look_ups.rt": (0, 2),
-    "register_desk/src/end.rt": (2, 1),
-    "register_desk/src/memory.rt": (1, 1),
-    "register_desk/src/opening.rt": (1, 1),
-    "register_desk/src/rows.rt": (0, 1),
     "register_http/src/exchanging.rt": (1, 0),
+    "register_in_memory/src/lib.rt": (1, 1),
+    "register_openings/src/refusal.rt": (2, 3),
     "register_program/src/faults.rt": (3, 1),
+    "register_program/src/refused.rt": (1, 1),
     "register_report/src/importing.rt": (2, 0),
     "register_report/src/table_writing.rt": (1, 1),
-    "register_store/src/counted.rt": (0, 3),
-    "register_store/src/error.rt": (3, 4),
-    "register_store/src/stored_key.rt": (0, 1),
+    "register_rows/src/stored_key.rt": (0, 1),
+    "register_tables/src/counted.rt": (0, 3),
+    "register_tables/src/error.rt": (1, 1),
     "row_checks/src/reading.rt": (1, 4),
 }
-MEMORY = re.compile(r"\b(?:End|OpenRefusal|AskFault|StoreError|CheckError|RowsError)::Memory\b"
+MEMORY = re.compile(r"\b(?:End|OpenRefusal|ConnectError|AskFault|StoreError|CheckError|RowsError)::Memory\b"
                     r"(?!\)*\s*(?:=>|=[^=]|\|)|\.fmt)|(?<![<,:] )(?<!<)\bAllocError\b(?!>)")
-REFUSAL = re.compile(r"\b(?:(?:End|OpenRefusal)::Store|StoreError::NoRegister"
+REFUSAL = re.compile(r"\b(?:(?:End|OpenRefusal|ConnectError)::Store|StoreError::NoRegister"
                      r"|(?:StoreError|CheckError|CreateError|RowsError)::Database|(?<!\w)Error::SqliteFailure)\b"
                      r"(?!(?:\([^()]*\))?\)*\s*(?:=>|=[^=]|\|)|\.fmt)"
                      r"|\bis_broken = |\bis_broken: true")
@@ -92,7 +94,7 @@ REFUSAL = re.compile(r"\b(?:(?:End|OpenRefusal)::Store|StoreError::NoRegister"
 ROOM = re.compile(r"\b(?:with_capacity|(?:try_)?reserve(?:_exact)?|from_elem)\b|\bvec!\[[^\]]*;")
 
 # What each function of counted.rt that calls a connection, or one of these, calls.
-COUNTED = "crates/register_store/src/counted.rt"
+COUNTED = "crates/register_tables/src/counted.rt"
 CALLS = {
     "execute": {"execute": 1},
     "find_one_row": {"query_row": 1},
@@ -111,8 +113,10 @@ GIVEN = {
     "words and the environment": (r"\bstd::env\b|\benv::", {"keyreg"}),
     "processes, threads and the system": (r"\bstd::(?:thread|os|sync)\b|\b(?:Processes|Threads|Abort|Wait)\b", set()),
     "the end of the program": (r"\bstd::process\b", {"keyreg"}),
-    "a clock": (r"\b(?:Clock|Instant|SystemTime)\b", {"register_program", "disk_files"}),
+    "a clock": (r"\b(?:Clock|Instant|SystemTime)\b", {"register_serving", "register_program", "disk_files"}),
     "standard streams": (r"\.std(?:in|out|err)\(\)", {"keyreg"}),
+    # Above `register_store` nothing speaks SQL.
+    "the tables": (r"\bregister_(?:tables|rows|openings)::", {"register_openings", "register_rows", "register_store"}),
 }
 
 

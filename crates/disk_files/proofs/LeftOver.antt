@@ -8,9 +8,9 @@ use Rattle.sqlite_disk.specs.Events.{Event, replay, settled}
 use Rattle.sqlite_disk.specs.{History.MayLeave, declared.Disk.Ghosts, declared.Files.Files}
 use Rattle.sqlite.specs.declared.file.Leftover.TheVariants as left
 use Rattle.sqlite.proofs.FileLemmas.{is_something}
-use Rattle.register_desk.proofs.Found.{finds_empty}
-use Rattle.register_desk.specs.DatabaseFiles.{HoldsNothing}
-use Rattle.register_program.specs.Closing.{StandsAs}
+use Rattle.machine_traits.proofs.Empty.{finds_empty}
+use Rattle.machine_traits.specs.Found.{HoldsNothing}
+use Rattle.machine_traits.specs.Closing.{StandsAs}
 use Rattle.disk_files.specs.LeftOver.{IsLeftOf, KeepsDatabase, MayBeLeft}
 
 -- what is there still stands for itself

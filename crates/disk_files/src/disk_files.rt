@@ -1,11 +1,10 @@
 //! The files of a register on the machine's disk.
+ghost use Rattle.std.specs.Prelude.{◌≡◌, ◌↔◌};
 ghost use Rattle.sqlite.specs.{WalFiles.image_at, Files.over_files};
 ghost use Rattle.sqlite_store.specs.FileStore as files;
-ghost use Rattle.register_desk.specs.OpenRefusal.{RefusesNoTable};
-ghost use Rattle.register_program.specs.Closing.{ClosesFiles};
+ghost use Rattle.machine_traits.specs.Closing.{ClosesFiles};
 
-use register_desk::OpenRefusal;
-use register_program::{Absent, Closed, Files, LogCopy, NotConnected};
+use machine_traits::{Absent, Closed, ConnectError, Files, LogCopy, NotConnected};
 use sqlite::{Connection, Error, ErrorCode, FileFrom, FileStore, Leftover, Start};
 use sqlite_disk::Disk;
 use sqlite_trees::store::Store;
@@ -33,13 +32,14 @@ pub struct FailedFiles<D: Disk> {
     left: Option<Leftover<D>>,
 }
 
-/// Why an opening that failed so is refused.
-fn refusal_of(error: &Error) -> OpenRefusal
-    ensures { RefusesNoTable result }
+/// Why an opening ended with this error: for want of memory exactly where the error says so.
+fn connect_error(error: &Error) -> ConnectError
+    ensures { (result ≡ ConnectError.Memory)
+        ↔ (error.now ≡ Error.SqliteFailure ErrorCode.OutOfMemory) }
 {
     match error {
-        Error::SqliteFailure(ErrorCode::OutOfMemory) => OpenRefusal::Memory,
-        _ => OpenRefusal::Store,
+        Error::SqliteFailure(ErrorCode::OutOfMemory) => ConnectError::Memory,
+        _ => ConnectError::Store,
     }
 }
 
@@ -100,14 +100,14 @@ impl<'a, S: Start> Files for DiskFiles<'a, S> {
         };
         if !may_be_opened {
             return Err(NotConnected {
-                refusal: OpenRefusal::Store,
+                error: ConnectError::Store,
                 failed: FailedFiles { left: None },
             });
         }
         match Connection::open_from(self.rt, file, false, self.start) {
             Ok(connection) => Ok(connection),
             Err((error, left)) => Err(NotConnected {
-                refusal: refusal_of(&error),
+                error: connect_error(&error),
                 failed: FailedFiles { left },
             }),
         }

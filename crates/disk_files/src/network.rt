@@ -1,5 +1,5 @@
 //! The machine's own network.
-use register_program::{Client, Listener, Network, ReadHalf, WriteHalf};
+use machine_traits::{Client, Listener, Network, ReadHalf, WriteHalf};
 use std::io::{self, Read, Write};
 use std::net::{Ipv4Addr, Shutdown, SocketAddr, TcpListener, TcpStream};
 use std::time::{Clock, Duration};

@@ -15,10 +15,12 @@ use Rattle.register_core.specs.History.{dates, period, set_period, type}
 use Rattle.register_core.specs.{declared.key.Key.Key, Fold.IsLawful, Laws.HasKey}
 use Rattle.register_requests.specs.{declared.request.Request.Request, Request.IsDate}
 use Rattle.register_core.proofs.{DateRanges.stop_in_range, UnsetPeriods.none_long}
-use Rattle.register_store.specs.{TableChanges.key_at, Tables.numbered}
-use Rattle.register_store.proofs.RowFound.{at_number}
-use Rattle.register_desk.specs.{Register.key_of, Register.tables, KeyRows.all_rows, KeyRows.row_of}
-use Rattle.register_desk.proofs.{Grows.found_key, Grows.keys_counted, RowScan.key_next, RowScan.own_numbers_of}
+use Rattle.register_tables.specs.{TableChanges.key_at, Tables.numbered}
+use Rattle.register_tables.proofs.RowFound.{at_number}
+use Rattle.desk_core.specs.Register.{key_of, tables}
+use Rattle.desk_core.specs.KeyRows.{all_rows, row_of}
+use Rattle.desk_core.proofs.Grows.{found_key, keys_counted}
+use Rattle.desk_core.proofs.RowScan.{key_next, own_numbers_of}
 
 -- a row is that of a key, under the key's number
 record IsRowOf (h : List Request) (r : KeyRow) : Type 0 where

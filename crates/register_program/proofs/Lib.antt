@@ -1,6 +1,5 @@
 mod Living
 mod Refusing
-mod Served
 mod Told
 mod Acts
 mod FoundAgain

@@ -7,22 +7,33 @@ use Rattle.sqlite.specs.{Files.AreFoundIn, Files.HoldsDatabase, Files.IsEmpty, H
 use Rattle.sqlite.specs.{Recovery.Image, State.State, State.HasCleanDisk, Tree.Trees}
 use Rattle.register_requests.specs.{declared.request.Request.Request, declared.version.Version.Version}
 use Rattle.register_core.specs.Fold.{IsLawful, IsLawfulIn}
-use Rattle.register_desk.specs.declared.opening.OpenRefusal.TheVariants.{Memory, NewerVersion, NotARegister, Store}
-use Rattle.register_desk.specs.DatabaseFiles.{HoldsNothing, HoldsRegister, ShowsFiles}
-use Rattle.register_desk.specs.OpenRefusal.{IsMadeIn, IsReasonOf, IsTakenIn, LeavesBehind, LeavesCommitted, LeavesMade}
-use Rattle.register_desk.specs.OpenRefusal.{LeavesStored, RefusesNoTable, ShowsTable, connection_in, refusal_in}
-use Rattle.register_desk.specs.{declared.opening.OpenRefusal.OpenRefusal, declared.opening.Unopened.Unopened}
-use Rattle.register_desk.specs.{declared.desk.Desk.Desk, Within.Register.HasHistoryIn}
-use Rattle.register_desk.proofs.Found.{finds_empty, finds_nothing, finds_register, holds_now, lawful_there, shows_table}
-use Rattle.register_desk.proofs.Found.{registered_left}
-use Rattle.register_desk.proofs.{NoRegister.passes_nothing, Opened.stored_in}
+use Rattle.desk_core.specs.declared.opening.OpenRefusal.TheVariants.{Memory, NewerVersion, NotARegister, Store}
+use Rattle.desk_core.specs.DatabaseFiles.{HoldsRegister}
+use Rattle.machine_traits.specs.Found.{HoldsNothing, ShowsFiles}
+use Rattle.desk_core.specs.OpenRefusal.{IsMadeIn, IsReasonOf, IsTakenIn, LeavesBehind, LeavesCommitted, LeavesMade}
+use Rattle.desk_core.specs.OpenRefusal.{LeavesStored, RefusesNoTable, ShowsTable, connection_in, refusal_in}
+use Rattle.desk_core.specs.{declared.opening.OpenRefusal.OpenRefusal, declared.opening.Unopened.Unopened}
+use Rattle.desk_core.specs.{declared.desk.Desk.Desk, Within.Register.HasHistoryIn}
+use Rattle.desk_core.proofs.Found.{finds_nothing, finds_register, holds_now, lawful_there, shows_table}
+use Rattle.machine_traits.proofs.Empty.{finds_empty}
+use Rattle.desk_core.proofs.Found.{registered_left}
+use Rattle.desk_core.proofs.{NoRegister.passes_nothing, Opened.stored_in}
 use Rattle.register_program.specs.declared.refused.RefusedFiles.{RefusedFiles}
 use Rattle.register_program.specs.declared.refused.RefusedFiles.TheVariants.{Failed, Shut}
 use Rattle.register_program.specs.Life.{ClosesAs, GivesBack, IsCommittedOrMade, IsFoundIn, IsOfFailed, LeavesBehindIn}
+use Rattle.register_program.specs.Life.{connect_refusal}
+use Rattle.machine_traits.specs.declared.files.ConnectError.{ConnectError}
+use Rattle.machine_traits.specs.declared.files.ConnectError.TheVariants as errors
 use Rattle.register_program.specs.Life.{LeavesFound, LeavesInFiles, LeavesNoRequest, LeavesNothing, OfLeft, OfSound}
 use Rattle.register_program.specs.Life.{RefusesFiles, Refuses, RefusesMaking, RefusesToMake, SparesRegister}
-use Rattle.register_program.specs.{declared.files.Closed.Closed, declared.refused.Refused.Refused, Closing.StandsAs}
+use Rattle.register_program.specs.declared.refused.Refused.{Refused}
+use Rattle.machine_traits.specs.{declared.files.Closed.Closed, Closing.StandsAs}
 use Rattle.register_program.specs.{FileCalls.MakesFile, FileCalls.OpensFile, Opening.IsSound}
+
+-- files that could not be opened blame no table
+blames_no_table : (error : ConnectError) → RefusesNoTable (connect_refusal error)
+blames_no_table errors.Memory = tt
+blames_no_table errors.Store = tt
 
 not_failed : {S U A : Type 0} (files : RefusedFiles S U) (store : S) (failed : U) → files ≡ Shut store
     → files ≡ Failed failed → A
@@ -131,9 +142,12 @@ module _ {S U : Type 0} (g : Ghosts S) (may_leave : S → Image → Type 0) (may
     leaves_no_request : HoldsNothing found → LeavesNoRequest (may_stay failed)
     leaves_no_request none left kept = ∥∥₁_map (stands left kept) (λ as_found. inl (as_found.nothing none))
 
-    module _ (refusal : OpenRefusal) (none : RefusesNoTable refusal) where
+    module _ (error : ConnectError) where
       abbrev IsRefusal : Refused S U → Type 0
-      IsRefusal refused = IsOfFailed refusal failed refused
+      IsRefusal refused = IsOfFailed error failed refused
+
+      none : RefusesNoTable (connect_refusal error)
+      none = blames_no_table error
 
       refuses_closed : (refused : Refused S U) → IsRefusal refused → Refuses g may_leave may_stay found refused
       refuses_closed refused is = subst (Refuses g may_leave may_stay found) (sym is) (record {

@@ -5,15 +5,18 @@ use Rattle.sqlite.specs.{Files.AreFoundIn, Files.HoldsDatabase, Held.Held, Held.
 use Rattle.sqlite.specs.{Recovery.Image, State.State, State.HasCleanDisk, Tree.Trees}
 use Rattle.register_requests.specs.declared.request.Request.{Request}
 use Rattle.register_core.specs.Fold.{IsLawful, history}
-use Rattle.register_desk.specs.declared.end.End.TheVariants.{BadHeader, WriteFault}
-use Rattle.register_desk.specs.declared.opening.OpenRefusal.{OpenRefusal}
-use Rattle.register_desk.specs.declared.opening.OpenRefusal.TheVariants.{NotARegister, Store}
-use Rattle.register_desk.specs.DatabaseFiles.{HoldsLife, HoldsNothing, HoldsOneOf, HoldsRegister, ShowsFiles}
-use Rattle.register_desk.specs.OpenRefusal.{IsMadeIn, IsTakenIn, IsReasonOf, RefusesNoTable, ShowsTable, connection_in}
-use Rattle.register_desk.specs.OpenRefusal.{refusal_in}
-use Rattle.register_desk.specs.{declared.desk.Desk.Desk, declared.opening.Unopened.Unopened}
-use Rattle.register_desk.specs.{declared.runs.Finish.Finish, declared.runs.Finish.TheVariants.Ended}
-use Rattle.register_desk.specs.{declared.runs.Outcome.Outcome, Lives.AreInRange, Run.RunsOver}
+use Rattle.desk_core.specs.declared.end.End.TheVariants.{BadHeader, WriteFault}
+use Rattle.desk_core.specs.declared.opening.OpenRefusal.{OpenRefusal}
+use Rattle.desk_core.specs.declared.opening.OpenRefusal.TheVariants.{Memory, NotARegister, Store}
+use Rattle.machine_traits.specs.declared.files.ConnectError.{ConnectError}
+use Rattle.machine_traits.specs.declared.files.ConnectError.TheVariants as errors
+use Rattle.desk_core.specs.DatabaseFiles.{HoldsLife, HoldsOneOf, HoldsRegister}
+use Rattle.machine_traits.specs.Found.{HoldsNothing, ShowsFiles}
+use Rattle.desk_core.specs.OpenRefusal.{IsMadeIn, IsTakenIn, IsReasonOf, RefusesNoTable, ShowsTable, connection_in}
+use Rattle.desk_core.specs.OpenRefusal.{refusal_in}
+use Rattle.desk_core.specs.{declared.desk.Desk.Desk, declared.opening.Unopened.Unopened}
+use Rattle.desk_core.specs.{declared.outcome.Finish.Finish, declared.outcome.Finish.TheVariants.Ended}
+use Rattle.desk_core.specs.{declared.outcome.Outcome.Outcome, Lives.AreInRange, Run.RunsOver}
 use Rattle.register_program.specs.declared.refused.RefusedFiles.TheVariants.{Failed, Shut}
 use Rattle.register_program.specs.{declared.refused.Refused.Refused, declared.refused.RefusedFiles.RefusedFiles}
 use Rattle.register_report.specs.{Import.EndsWithoutHeader, TextWriter.WritesText}
@@ -76,9 +79,14 @@ pub record ClosesAs {S : Type 0} (g : Ghosts S) (connection : Held S) (store : S
 abbrev pub refusal_of : {S U : Type 0} → Refused S U → OpenRefusal
 refusal_of refused = refused.refusal
 
+-- the refusal that files which could not be opened come to
+abbrev pub connect_refusal : ConnectError → OpenRefusal
+connect_refusal errors.Memory = Memory
+connect_refusal errors.Store = Store
+
 -- it was refused so, of files that could not be opened at all
-abbrev pub IsOfFailed : {S U : Type 0} → OpenRefusal → U → Refused S U → Type 0
-IsOfFailed refusal failed refused = refused ≡ record { refusal = refusal; files = Failed failed }
+abbrev pub IsOfFailed : {S U : Type 0} → ConnectError → U → Refused S U → Type 0
+IsOfFailed error failed refused = refused ≡ record { refusal = connect_refusal error; files = Failed failed }
 
 -- what is given back of a connection that did not become a desk
 pub record GivesBack {S U : Type 0} (g : Ghosts S) (unopened : Unopened S) (refused : Refused S U) : Type 0 where

@@ -7,13 +7,16 @@ use Rattle.sqlite_trees.specs.{declared.store.Store.Ghosts, View.IsClean as IsCl
 use Rattle.sqlite.specs.Recovery.{Image}
 use Rattle.register_requests.specs.{declared.request.Request.Request, Request.IsRequest}
 use Rattle.register_core.specs.Fold.{IsLawful, answers}
-use Rattle.register_desk.specs.DatabaseFiles.{HoldsNothing, HoldsRegister}
-use Rattle.register_desk.specs.Lives.{Life, after, after_lives}
-use Rattle.register_desk.specs.{declared.runs.Outcome.Outcome, Input.HasItems, Run.IsPrefixOf, Run.answer_lines}
+use Rattle.desk_core.specs.DatabaseFiles.{HoldsRegister}
+use Rattle.machine_traits.specs.Found.{HoldsNothing}
+use Rattle.desk_core.specs.Lives.{Life, after, after_lives}
+use Rattle.desk_core.specs.Run.{IsPrefixOf, answer_lines}
+use Rattle.desk_core.specs.{declared.outcome.Outcome.Outcome, Input.HasItems}
 use Rattle.register_program.specs.declared.refused.RefusedFiles.{RefusedFiles}
 use Rattle.register_program.specs.declared.refused.RefusedFiles.TheVariants.{Failed, Shut}
 use Rattle.register_program.specs.declared.acting.Done.TheVariants.{Lived, Made}
-use Rattle.register_program.specs.{declared.files.Closed.Closed, Closing.LeftIn, declared.acting.Done.Done}
+use Rattle.register_program.specs.declared.acting.Done.{Done}
+use Rattle.machine_traits.specs.{declared.files.Closed.Closed, Closing.LeftIn}
 use Rattle.register_words.specs.declared.words.Job.{Job}
 use Rattle.register_words.specs.declared.words.Job.TheVariants.{Import, Run, Serve}
 

@@ -1,22 +1,23 @@
 //! What the program does, over the streams that it is given.
-ghost use Rattle.std.specs.Prelude.{◌≡◌, false};
+ghost use Rattle.std.specs.Prelude.{◌≡◌, ◌≤◌, false, length};
 ghost use Rattle.register_program.specs.Alone.{ActsAlone, end_alone};
 ghost use Rattle.register_program.specs.Job.{BreaksFor, EndsFor, Performs, end_of, line_after};
 ghost use Rattle.register_program.specs.Job.{status_after};
 ghost use Rattle.register_program.specs.{Act.ActsInMemory, Faults.Tells, Words.ReadsTask};
-ghost use Rattle.register_program.specs.{Sentence.LeadsFrom, ServedExchanges.nobody};
+ghost use Rattle.register_program.specs.Sentence.{LeadsFrom};
+ghost use Rattle.register_serving.specs.ServedExchanges.{nobody};
 
-use crate::attendance::Attendance;
 use crate::faults::{report_bad_value, report_finish, report_no_command, report_refusal};
-use crate::files::{Closed, Files};
-use crate::network::Network;
 use crate::refused::Refused;
 use crate::register_file::{
     FileLife, RegisterFile, export_file, import_file, init_file, report_file, run_file, serve_file,
 };
 use clap::Error;
-use register_desk::{Finish, OpenRefusal, Outcome, Watched, run_in_memory};
-use register_words::{GivenTask, Job, Task};
+use machine_traits::{Closed, Files, Network};
+use register_desk::{Finish, OpenRefusal, Outcome, Watched};
+use register_in_memory::run_in_memory;
+use register_serving::Attendance;
+use register_words::{GivenTask, Job, Task, read_words};
 use std::alloc::Global;
 use std::io::{Read, Write};
 use std::time::Clock;
@@ -216,4 +217,31 @@ pub fn act<F: Files + Drop, N: Network + Clock + Drop, R: Read, W: Write, E: Wri
     let done = perform(machine, file, job, inputs, writer);
     let status = report(done.end(), faults);
     Acted { done, status }
+}
+
+/// Does what the words ask for: a job over a file, as [`act`], or a run in memory, as
+/// [`act_in_memory`], which is given no files and no network; nothing, where the words are none.
+pub fn act_on_words<F: Files + Drop, N: Network + Clock + Drop, R: Read + Drop, W: Write, E: Write>(
+    machine: Machine<F, N>,
+    words: &[String],
+    reader: R,
+    outputs: &mut Outputs<W, E>,
+) -> u8
+    requires { outputs.old.writer.failed ≡ false }
+    ensures acts { length words.now ≤ 1 → ActsInMemory (R.remaining reader) result
+        (W.contents outputs.old.writer.inner) (W.contents outputs.new.writer.inner) }
+{
+    let alloc = machine.alloc;
+    let given = read_words(alloc, words);
+    match read_task(alloc, &given, &mut outputs.faults) {
+        Ok(Task::RunInMemory) => act_in_memory(alloc, &mut Watched::new(reader), outputs),
+        Ok(Task::InFile { file, job }) => {
+            let mut inputs = Inputs {
+                reader: Watched::new(reader),
+                attendance: Attendance::new(),
+            };
+            act(machine, file, &job, &mut inputs, outputs).status
+        }
+        Err(status) => status,
+    }
 }

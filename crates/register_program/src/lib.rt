@@ -3,25 +3,25 @@
 #![tactic(auto)]
 
 mod acting;
-mod attendance;
 mod faults;
-mod files;
 pub mod laws;
-mod network;
 mod refused;
 mod register_file;
-mod serving;
 
-pub use acting::{Acted, Done, Inputs, Machine, Outputs, act, act_in_memory, read_task};
-pub use attendance::Attendance;
+pub use acting::{
+    Acted, Done, Inputs, Machine, Outputs, act, act_in_memory, act_on_words, read_task,
+};
 pub use faults::{report_bad_value, report_end, report_refusal};
-pub use files::{Absent, Closed, Files, LogCopy, NotConnected};
-pub use network::{Client, Listener, Network, ReadHalf, WriteHalf};
+pub use machine_traits::{
+    Absent, Client, Closed, ConnectError, Files, Listener, LogCopy, Network, NotConnected,
+    ReadHalf, WriteHalf,
+};
 pub use refused::{Refused, RefusedFiles};
 pub use register_file::{
     FileLife, RegisterFile, export_file, import_file, init_file, open_file, report_file, run_file,
     serve_file,
 };
-pub use serving::{
-    Accepted, MachineClock, Means, Now, ServedConnection, serve_at, serve_connection, serve_on,
+pub use register_serving::{
+    Accepted, Attendance, MachineClock, Means, Now, ServedConnection, serve_at, serve_connection,
+    serve_on,
 };

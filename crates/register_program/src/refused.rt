@@ -1,9 +1,9 @@
 //! Files in which no register was made or opened, and why. Whoever opens files gets this of one that
 //! failed to, and cannot make it.
 ghost use Rattle.std.specs.Prelude.{◌≡◌};
-ghost use Rattle.register_program.specs.Life.{ClosesAs, refusal_of};
+ghost use Rattle.register_program.specs.Life.{ClosesAs, connect_refusal, refusal_of};
 
-use crate::files::NotConnected;
+use machine_traits::{ConnectError, NotConnected};
 use register_desk::{OpenRefusal, Unopened};
 use sqlite::{Alter, Connection};
 
@@ -34,16 +34,26 @@ impl<S, U> Refused<S, U> {
     }
 }
 
+/// The refusal that files which could not be opened come to.
+fn connect_refusal(error: ConnectError) -> OpenRefusal
+    ensures { result ≡ connect_refusal error }
+{
+    match error {
+        ConnectError::Memory => OpenRefusal::Memory,
+        ConnectError::Store => OpenRefusal::Store,
+    }
+}
+
 /// The refusal of files that could not be opened.
 impl<S, U> From<NotConnected<U>> for Refused<S, U> {
     ghost use Rattle.register_program.specs.Life.{IsOfFailed};
 
-    ghost from_gives = { λ it refused. IsOfFailed it.refusal it.failed refused };
+    ghost from_gives = { λ it refused. IsOfFailed it.error it.failed refused };
 
     fn from(it: NotConnected<U>) -> Self {
-        let NotConnected { refusal, failed } = it;
+        let NotConnected { error, failed } = it;
         Refused {
-            refusal,
+            refusal: connect_refusal(error),
             files: RefusedFiles::Failed(failed),
         }
     }

@@ -44,11 +44,11 @@ fn is_found(alloc: Global, edit: Option<&str>) -> Result<Result<bool, StoreError
 /// An edit of a row that is not told by the look-up, or the empty one where the row is not found as
 /// it stood.
 pub fn edited_row_not_told(alloc: Global) -> Result<Option<&'static str>, Fail> {
-    if is_found(alloc, None)? != Ok(true) {
+    if !matches!(is_found(alloc, None)?, Ok(true)) {
         return Ok(Some(""));
     }
     for edit in &EDITS {
-        if is_found(alloc, Some(edit))? != Err(StoreError::NoRegister) {
+        if !matches!(is_found(alloc, Some(edit))?, Err(StoreError::NoRegister)) {
             return Ok(Some(edit));
         }
     }

@@ -1,7 +1,7 @@
 -- What functions within the crate say of one another, beside `specs/Exchange.antt`.
 use Rattle.std.specs.Prelude.{◌≡◌, ℕ, ◌≤◌, false}
 use Rattle.streams.specs.{declared.watched.Watched.Watched, Watched.IsFaulted}
-use Rattle.register_desk.specs.Run.{max_idle_turns}
+use Rattle.desk_core.specs.Run.{max_idle_turns}
 
 -- What it leaves of its writer: a reply that is counted was flushed; where none is, though one was begun, the fault is
 -- the writer's own or the bound on its idle turns, and that is never passed.

@@ -3,8 +3,8 @@ use Rattle.std.specs.Prelude.{ℕ, List, Option}
 use Rattle.sqlite_trees.specs.declared.store.Store.{Ghosts}
 use Rattle.sqlite.specs.{Held.Held, Held.state, Recovery.Image}
 use Rattle.register_requests.specs.declared.request.Request.{Request}
-use Rattle.register_desk.specs.{declared.desk.Desk.Desk, declared.runs.Finish.Finish, Desk.LeavesEither}
-use Rattle.register_desk.specs.{Desk.connection_of, Lives.LeavesLife, OpenRefusal.LeavesNew}
+use Rattle.desk_core.specs.{declared.desk.Desk.Desk, declared.outcome.Finish.Finish, Desk.LeavesEither}
+use Rattle.desk_core.specs.{Desk.connection_of, Lives.LeavesLife, OpenRefusal.LeavesNew}
 use Rattle.register_program.specs.Life.{LeavesInFiles, LeavesLifeInFiles, LeavesMadeIn}
 
 -- what a stop leaves of the desk's database is what is left in files

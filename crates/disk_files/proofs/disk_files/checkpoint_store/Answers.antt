@@ -6,8 +6,9 @@ use Rattle.sqlite_disk.specs.declared.Disk.{Ghosts}
 use Rattle.sqlite_store.specs.FileStore.{recovers, state, view}
 use Rattle.sqlite_store.specs.{declared.store.FileStore.FileStore, Laws.not_broken, Laws.stays_at}
 use Rattle.sqlite_trees.specs.View.{IsClean, View}
-use Rattle.register_program.specs.declared.files.LogCopy.TheVariants.{Broken, Copied, Kept}
-use Rattle.register_program.specs.{declared.files.LogCopy.LogCopy, Closing.ClosesFiles, Closing.alone}
+use Rattle.machine_traits.specs.declared.files.LogCopy.TheVariants.{Broken, Copied, Kept}
+use Rattle.machine_traits.specs.Closing.{ClosesFiles, alone}
+use Rattle.machine_traits.specs.declared.files.LogCopy.{LogCopy}
 use Rattle.disk_files.proofs.disk_files.checkpoint_store.Goals as goal
 
 -- nothing is new in what a stop leaves, and where the log was copied the database file alone holds it too

@@ -1,5 +1,5 @@
 use Rattle.std.proofs.Common.{inl, inr, refl}
-use Rattle.register_program.specs.Closing.{alone}
+use Rattle.machine_traits.specs.Closing.{alone}
 use Rattle.register_program.proofs.laws.database_file_holds_alone.Goals as goal
 
 pub returns : goal.returns

@@ -1,6 +1,6 @@
 use Rattle.std.proofs.Common.{[], arith, refl}
-use Rattle.register_desk.specs.OpenRefusal.{connection_in, refusal_in}
-use Rattle.register_desk.proofs.Found.{finds_nothing, leaves_alone, shows_table}
+use Rattle.desk_core.specs.OpenRefusal.{connection_in, refusal_in}
+use Rattle.desk_core.proofs.Found.{finds_nothing, leaves_alone, shows_table}
 use Rattle.register_program.proofs.{Living.of_desk, Refusing.made_closed, Refusing.made_none, Refusing.refuses_making}
 use Rattle.register_program.proofs.register_file.init_file.Goals as goal
 
@@ -34,8 +34,8 @@ returns g c = record {
 pub returns-in_err-connection : goal.returns-in_err-connection
 returns-in_err-connection g c =
     made_closed _ _ _ _
-    c.in_err-connection.field-0.0.failed c.in_err-connection.ensures.stands c.in_err-connection.field-0.0.refusal
-    c.in_err-connection.ensures.blames_none c.from_residual.result c.from_residual.ensures.1
+    c.in_err-connection.field-0.0.failed c.in_err-connection.ensures.stands c.in_err-connection.field-0.0.error
+    c.from_residual.result c.from_residual.ensures.1
 
 pub returns-in_err-desk : goal.returns-in_err-desk
 returns-in_err-desk g c =

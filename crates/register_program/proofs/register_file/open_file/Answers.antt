@@ -1,7 +1,8 @@
 use Rattle.std.proofs.Common.{arith, refl}
-use Rattle.register_desk.specs.OpenRefusal.{connection_in, refusal_in}
-use Rattle.register_desk.proofs.Found.{finds_nothing, finds_register, lawful_there}
-use Rattle.register_desk.proofs.{NoRegister.passes_nothing, Opened.meet_checks, Opened.stored_in}
+use Rattle.desk_core.specs.OpenRefusal.{connection_in, refusal_in}
+use Rattle.desk_core.proofs.Found.{finds_nothing, finds_register, lawful_there}
+use Rattle.desk_core.proofs.Opened.{meet_checks, stored_in}
+use Rattle.desk_core.proofs.NoRegister.{passes_nothing}
 use Rattle.register_program.proofs.Refusing.{opens_closed, opens_none, refuses_opened}
 use Rattle.register_program.proofs.register_file.open_file.Goals as goal
 
@@ -24,8 +25,8 @@ returns g c =
 pub returns-in_err-connection : goal.returns-in_err-connection
 returns-in_err-connection g c =
     opens_closed _ _ _ _
-    c.in_err-connection.field-0.0.failed c.in_err-connection.ensures.stands c.in_err-connection.field-0.0.refusal
-    c.in_err-connection.ensures.blames_none c.from_residual.result c.from_residual.ensures.1
+    c.in_err-connection.field-0.0.failed c.in_err-connection.ensures.stands c.in_err-connection.field-0.0.error
+    c.from_residual.result c.from_residual.ensures.1
 
 pub returns-in_err-desk : goal.returns-in_err-desk
 returns-in_err-desk g c =

@@ -1,0 +1,11 @@
+pub mod Appended
+pub mod Grows
+pub mod Needing
+pub mod Applying
+pub mod Opened
+pub mod Found
+pub mod NoRegister
+pub mod Lived
+pub mod Readings
+pub mod RowScan
+pub mod TablesInRange

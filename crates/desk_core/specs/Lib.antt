@@ -1,0 +1,14 @@
+pub mod TablesView
+pub mod End
+pub mod Register
+pub mod Desk
+pub mod Shown
+pub mod OpenRefusal
+pub mod Input
+pub mod Run
+pub mod Lives
+pub mod DatabaseFiles
+pub mod RunProgress
+pub mod KeyRows
+pub mod LentDesk
+pub mod Within

@@ -1,0 +1,2 @@
+pub mod Adopted
+pub mod Empty

@@ -1,0 +1,8 @@
+//! What the register is given of the machine, whoever gives it: files, and a network.
+#![tactic(auto)]
+
+mod files;
+mod network;
+
+pub use files::{Absent, Closed, ConnectError, Files, LogCopy, NotConnected};
+pub use network::{Client, Listener, Network, ReadHalf, WriteHalf};

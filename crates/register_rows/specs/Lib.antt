@@ -1,0 +1,4 @@
+pub mod Change
+pub mod AcceptedRequest
+pub mod KeyScan
+pub mod Within

@@ -1,0 +1,7 @@
+-- What functions within the crate, and those of the crates that `register_store` gives out, say of one another: no
+-- contract above stands on it.
+pub mod TableChanges
+pub mod Roles
+pub mod Due
+pub mod DueSearch
+pub mod Names

@@ -1,0 +1,2 @@
+pub mod ServedExchanges
+pub mod Within

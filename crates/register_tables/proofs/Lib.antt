@@ -1,0 +1,14 @@
+pub mod ColumnTerms
+pub mod Decoding
+pub mod Texts
+pub mod Readings
+pub mod RowFound
+pub mod Wrote
+pub mod Actions
+pub mod Meanings
+pub mod EntryRows
+pub mod EachTable
+pub mod Frame
+pub mod Numbers
+pub mod Reopened
+pub mod Ranged

@@ -1,0 +1,12 @@
+pub mod TableForms
+pub mod Columns
+pub mod Tables
+pub mod Schema
+pub mod Held
+pub mod TableChanges
+pub mod TableReads
+pub mod StepCount
+pub mod Beside
+pub mod KeyIndex
+pub mod FoundRows
+pub mod Within

@@ -1,0 +1,8 @@
+-- What functions within the crate, and those of the crates that `register_store` gives out, say of one another: no
+-- contract above stands on it.
+pub mod Columns
+pub mod Tables
+pub mod Schema
+pub mod TableReads
+pub mod StepCount
+pub mod Beside
