@@ -74,21 +74,21 @@ KINDS = (
         "one name stands for others": "checks/program/words.py",
     }, ("Add a version of the tables",)),
     Kind("Add a column", r"\boccurrence (INTEGER|= \?)|compromised\W+occurrence\b|\bcompromise_occurrence\b", {
-        "the date, which commands set": "crates/*_core/* crates/test_core/*",
+        "the date, which commands set": "crates/*_core/*",
         "tables of version 1": "*/migrations.rt",
     }, ("Add a column to the export",)),
     Kind("Add a column to the export",
          r"compromised\W+occurrence\W+purpose|\"occurrence\"(, \"\"\)|: (date|moment)_text|\) \(λ d)", {}),
     Kind("Add a command about no key", r"\bSetPeriod\b|set-period|\bset_period\b|\bPeriodSet\b", {
         "a day or a year of an office": "docs/AUDIT.md samples/office.txt samples/year.txt",
-        "what a period means for keys": "*/register_core/src/laws.rt */exports.rt */test_desk_trials/src/desks.rt "
-                                        "bench/tables.py checks/program/rules_tried.py",
+        "what a period means for keys": "*/register_core/src/laws.rt */test_desk_trials/src/desks.rt bench/tables.py "
+                                        "checks/program/rules_tried.py checks/program/tables.py",
         "who the office is": "checks/office/behind_nginx.py",
         "what they look at beside the day": "checks/program/large_office.py checks/program/exchanges_by_curl.py",
         "it stands for its shape": "*/Within/Fields.antt crates/http_messages/src/command_value.rt",
         "what comes of one that is left out": "docs/OPERATING.md",
         "what version 1 has not": "checks/office/rebuild_tried.py",
-        "it came with version 2": "*/migrations.rt checks/sqlite/by_sqlite3.py",
+        "it came with version 2": "checks/sqlite/by_sqlite3.py",
     }, ("Add a command", "Add a shape of fields", "Add a table")),
     Kind("Add a command of the program", r"Task::Report|\breport_file\b|keyreg report|\[\"report\"|\"report\":|"
                                          r"\n +report\)|from report'", {
@@ -106,7 +106,7 @@ KINDS = (
          r"Version::Second|Version\.TheVariants\.\{[^}]*Second|first_version|\bmigrate\b|\bversion_1\b",
          {"it copies the file": "checks/shared/document_commands.py packaging/pages.py",
           "it says where things stand": "checks/shared/places.py"}),
-    Kind("Add a test", r"\btable_wrongly_imported\b", {"its module": "*/imports.rt"}),
+    Kind("Add a test", r"\bworked_exchange_at_fault\b", {}),
 )
 
 

@@ -2,16 +2,15 @@
 use crate::contents::Contents;
 use crate::files::{DeskTask, Entry, Lab};
 use crate::texts::{
-    ADVANCE, EXCHANGE, IMPORT, IMPORT_HEAD, IMPORT_ROWS, IMPORTED, IN_USE, KEY, LineAndReply,
-    REGISTERED, ROTATION, TextParts, join,
+    EXCHANGE, IMPORT, IMPORT_HEAD, IMPORT_ROWS, IMPORTED, IN_USE, KEY, LineAndReply, REGISTERED,
+    ROTATION, TextParts, join,
 };
 use crate::trials::{files_with, rows_by_step};
 use register_desk::{End, Finish, Outcome};
 use std::alloc::{AllocError, Global};
 use std::test::Fail;
-use test_desk_trials::{Call, TriedDesk};
+use test_desk_trials::{ADVANCE, ADVANCED, Call, Cells, TriedDesk, export_of};
 use test_faulty_devices::{CountedTurns, Counter, OneByte, Trouble, Troubled};
-use test_worked_rows::{Cells, export_of};
 
 /// More turns than any call takes.
 const MAX_TURNS: usize = 5000;
@@ -341,10 +340,7 @@ static LENT: [Lent; 6] = [
         call: EXCHANGE,
         sent: &[("100 ann 1 advance", "ok 0 - 100")],
         input: &[ADVANCE],
-        output: Output::Pieces(&[
-            "HTTP/1.1 200 OK\r\nContent-Type: application/json\r\nContent-Length: 35\r\nConnection: close\r\n\r\n",
-            "{\"key\":0,\"moment\":100,\"state\":null}",
-        ]),
+        output: Output::Pieces(&[ADVANCED]),
     },
     Lent {
         name: "get",

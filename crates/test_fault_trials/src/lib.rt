@@ -1,23 +1,22 @@
 //! What the tests of faults look at: a register in files in memory whose calls fail, or that stop
 //! at a call, what is answered then, what opening finds after it, and that what was sent acts once
-//! in all when it is sent again; readers and writers that fail, and malicious bytes. Each function
-//! tells whether all is as it should be, or gives the first case that is not.
+//! in all when it is sent again; and readers and writers that fail. Each function tells whether all
+//! is as it should be, or gives the first case that is not.
 #![tactic(auto)]
 
 mod contents;
 mod files;
-mod hostile;
 mod keys;
 mod leaving;
 mod lent;
 mod looks;
+mod migrations;
 mod requests;
 mod sending;
 mod stops;
 mod texts;
 mod trials;
 
-pub use hostile::{are_strangers_refused, input_that_harms, prefix_that_harms};
 pub use lent::trouble_at_fault;
 pub use looks::look_at_fault;
 pub use stops::{

@@ -63,11 +63,6 @@ pub const IMPORTED: &[LineAndReply] = &[
     ),
 ];
 
-/// The request of the worked row *advanced*.
-pub const ADVANCE: &str =
-    "POST /requests HTTP/1.1\r\nHost: localhost\r\nCaller: ann\r\nRequest-Number: 1\r\n\
-    Content-Length: 18\r\n\r\n{\"kind\":\"advance\"}";
-
 /// The reply about the usage of a key that is in full use.
 pub const IN_USE: &str =
     "HTTP/1.1 200 OK\r\nContent-Type: application/json\r\nContent-Length: 32\r\n\

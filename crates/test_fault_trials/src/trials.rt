@@ -3,12 +3,13 @@
 use crate::contents::{Contents, Stopped};
 use crate::files::{DeskTask, Entry, Fault, HONEST, Lab, Left, NoDesk, Nothing};
 use crate::leaving::{LEAVINGS, Leaving};
+use crate::migrations::first_version;
 use crate::sending::{Came, Way, is_broken, send};
 use crate::texts::LineAndReply;
 use register_desk::OpenRefusal;
 use std::alloc::Global;
 use std::test::Fail;
-use test_desk_trials::{TriedDesk, first_version};
+use test_desk_trials::TriedDesk;
 
 /// More calls than any trial makes.
 const MAX_CALLS: u64 = 5000;

@@ -11,7 +11,6 @@ use sqlite::{Start, Wary};
 use std::alloc::Global;
 use std::io::{Read, Write};
 use std::test::Fail;
-use test_faulty_devices::{Trouble, Troubled};
 
 /// The program's own name, and these words after it.
 fn words_of(alloc: Global, given: &[&str]) -> Result<Vec<String>, Fail> {
@@ -75,60 +74,17 @@ impl ProcessOutput {
     }
 }
 
-/// How many turns of each of the program's streams go well, and the trouble that it has then.
-#[derive(Clone, Copy)]
-pub struct Turns {
-    pub trouble: Trouble,
-    pub input: usize,
-    pub output: usize,
-    pub faults: usize,
-}
-
-/// No stream has a trouble.
-pub const UNTROUBLED: Turns = Turns {
-    trouble: Trouble::Fails,
-    input: usize::MAX,
-    output: usize::MAX,
-    faults: usize::MAX,
-};
-
-/// What the program does with these words over streams of which so many turns go well. A call of
-/// [`act_on`] is dear to prove, and so all of them stand here, over streams of one type.
-pub fn acted_over(
-    rt: &HostRuntime,
-    given: &[&str],
-    input: &[u8],
-    turns: Turns,
-) -> Result<ProcessOutput, Fail> {
-    let trouble = turns.trouble;
+/// What the program does with these words over this input. A call of [`act_on`] is dear to prove, and
+/// so all of them stand here.
+pub fn acted(rt: &HostRuntime, given: &[&str], input: &[u8]) -> Result<ProcessOutput, Fail> {
     let mut output = Vec::new(rt.alloc());
     let mut faults = Vec::new(rt.alloc());
-    let reader = Troubled {
-        inner: input,
-        trouble,
-        good_turns: turns.input,
-    };
-    let writer = Troubled {
-        inner: &mut output,
-        trouble,
-        good_turns: turns.output,
-    };
-    let namer = Troubled {
-        inner: &mut faults,
-        trouble,
-        good_turns: turns.faults,
-    };
-    let status = act_on(rt, Wary, given, reader, (writer, namer))?;
+    let status = act_on(rt, Wary, given, input, (&mut output, &mut faults))?;
     Ok(ProcessOutput {
         status,
         output,
         faults,
     })
-}
-
-/// What the program does with these words over this input.
-pub fn acted(rt: &HostRuntime, given: &[&str], input: &[u8]) -> Result<ProcessOutput, Fail> {
-    acted_over(rt, given, input, UNTROUBLED)
 }
 
 /// Whether the program ends well and writes these lines.
@@ -150,22 +106,6 @@ pub fn fails(
     faults: &str,
 ) -> Result<bool, Fail> {
     Ok(acted(rt, given, input)?.is(status, b"", faults))
-}
-
-/// What the program is given, and what it does.
-#[derive(Clone, Copy)]
-pub struct Act {
-    pub words: &'static [&'static str],
-    pub input: &'static [u8],
-    pub status: u8,
-    pub output: &'static str,
-    pub faults: &'static str,
-}
-
-/// Whether the program does so.
-pub fn is_done(rt: &HostRuntime, act: &Act) -> Result<bool, Fail> {
-    let done = acted(rt, act.words, act.input)?;
-    Ok(done.is(act.status, act.output.as_bytes(), act.faults))
 }
 
 /// Runs the statement on the register in the file, whoever opens it.

@@ -12,8 +12,7 @@ use std::io::{self, ErrorKind, Read, Write};
 use std::rc::Rc;
 use std::test::Fail;
 use std::time::{Clock, Duration};
-use test_desk_trials::make_desk;
-use test_worked_rows::ADVANCE;
+use test_desk_trials::{ADVANCE, make_desk};
 
 /// What is asked of a network.
 #[derive(Clone, Copy, PartialEq, Eq)]

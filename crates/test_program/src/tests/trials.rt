@@ -1,14 +1,28 @@
 //! Each test asserts trials of `test_desk_trials` or of `test_fault_trials`: that all is as it should
 //! be, or that of many cases none is otherwise.
+use register_desk::{MAX_IDLE_TURNS, MAX_READS};
 use std::test::Fail;
 use test_desk_trials as desks;
 use test_fault_trials as faults;
 
 #[test]
-fn worked_rows(rt: HostRuntime) -> Result<(), Fail> {
-    assert_eq!(rt; desks::worked_row_at_fault(rt.alloc())?, None);
+fn a_first_day_in_pieces(rt: HostRuntime) -> Result<(), Fail> {
     assert!(rt; desks::is_first_day_served_in_pieces(rt.alloc())?);
     Ok(())
+}
+
+#[test]
+fn keys_and_periods_are_shown(rt: HostRuntime) -> Result<(), Fail> {
+    assert_eq!(rt; desks::key_wrongly_shown(rt.alloc())?, None);
+    assert!(rt; desks::are_uses_and_periods_told(rt.alloc())?);
+    Ok(())
+}
+
+#[test]
+fn bounds_are_the_rules(rt: HostRuntime) {
+    assert_eq!(rt; MAX_READS, 2_000_000_000);
+    assert_eq!(rt; MAX_IDLE_TURNS, 10_000);
+    assert_eq!(rt; desks::MAX_ROWS, 1_000_000);
 }
 
 #[test]
@@ -18,27 +32,8 @@ fn worked_exchanges(rt: HostRuntime) -> Result<(), Fail> {
 }
 
 #[test]
-fn keys_and_periods_are_shown(rt: HostRuntime) -> Result<(), Fail> {
-    assert_eq!(rt; desks::key_wrongly_shown(rt.alloc())?, None);
-    assert!(rt; desks::are_periods_told(rt.alloc())?);
-    Ok(())
-}
-
-#[test]
-fn one_table_is_enough_to_refuse(rt: HostRuntime) -> Result<(), Fail> {
-    assert_eq!(rt; desks::table_not_enough_to_refuse(rt.alloc())?, None);
-    Ok(())
-}
-
-#[test]
 fn edited_rows_are_told(rt: HostRuntime) -> Result<(), Fail> {
     assert_eq!(rt; desks::edited_row_not_told(rt.alloc())?, None);
-    Ok(())
-}
-
-#[test]
-fn a_register_with_indexes_between_its_tables_goes_on(rt: HostRuntime) -> Result<(), Fail> {
-    assert!(rt; desks::goes_on_with_indexes_between(rt.alloc())?);
     Ok(())
 }
 
@@ -51,16 +46,8 @@ fn no_more_is_asked_than_is_needed(rt: HostRuntime) -> Result<(), Fail> {
 }
 
 #[test]
-fn registers_are_written_out(rt: HostRuntime) -> Result<(), Fail> {
-    assert_eq!(rt; desks::register_wrongly_written_out(rt.alloc())?, None);
+fn a_writer_that_fails_ends_an_export(rt: HostRuntime) -> Result<(), Fail> {
     assert!(rt; desks::is_export_ended_by_writer(rt.alloc())?);
-    Ok(())
-}
-
-#[test]
-fn tables_are_imported_once(rt: HostRuntime) -> Result<(), Fail> {
-    assert_eq!(rt; desks::table_wrongly_imported(rt.alloc())?, None);
-    assert_eq!(rt; desks::most_rows(), 1_000_000);
     Ok(())
 }
 
@@ -109,18 +96,5 @@ fn a_trouble_at_each_turn(rt: HostRuntime) -> Result<(), Fail> {
 #[test]
 fn a_failed_look_up_ends_what_is_read(rt: HostRuntime) -> Result<(), Fail> {
     assert_eq!(rt; faults::look_at_fault(rt.alloc())?, None);
-    Ok(())
-}
-
-#[test]
-fn malicious_bytes_change_nothing(rt: HostRuntime) -> Result<(), Fail> {
-    assert_eq!(rt; faults::input_that_harms(rt.alloc())?, None);
-    assert_eq!(rt; faults::prefix_that_harms(rt.alloc())?, None);
-    Ok(())
-}
-
-#[test]
-fn strangers_are_no_registers(rt: HostRuntime) -> Result<(), Fail> {
-    assert!(rt; faults::are_strangers_refused(rt.alloc())?);
     Ok(())
 }

@@ -1,4 +1,4 @@
-//! A register of the first version of the tables, and what is none.
+//! A register of the first version of the tables.
 
 /// The register of *defaults* as the first version has it.
 static DEFAULTS: [&str; 8] = [
@@ -26,26 +26,4 @@ static DEFAULTS: [&str; 8] = [
 /// The statements that make it.
 pub fn first_version() -> &'static [&'static str] {
     &DEFAULTS
-}
-
-/// Statements after which it is no register of that version: nine custodians, an approval of none
-/// of them, dates that do not fit the period of the type, commands that came with the second, and
-/// tables that it added, of whatever kind.
-static WRONG: [&str; 8] = [
-    "INSERT INTO custodian (key_no, name) VALUES (1, 'c1'), (1, 'c2'), (1, 'c3'), (1, 'c4'), (1, 'c5'), (1, 'c6'),
-        (1, 'c7'), (1, 'c8'), (1, 'c9')",
-    "UPDATE keys SET protect_stop = 63072001",
-    "UPDATE keys SET deactivation = 157766401",
-    "INSERT INTO request (caller, number, command, key_no, state, moment)
-        VALUES ('bob', 1, 'set-quorum 1 3', 1, 2, 100)",
-    "INSERT INTO request (caller, number, command, key_no, state, moment)
-        VALUES ('office', 1, 'set-period master 12 12', 0, 0, 100)",
-    "CREATE TABLE period (kind INTEGER PRIMARY KEY, originator INTEGER NOT NULL,
-        recipient INTEGER NOT NULL) STRICT",
-    "CREATE TABLE quorum (note TEXT)",
-    "CREATE VIEW period AS SELECT 1",
-];
-
-pub fn wrong_of_first_version() -> &'static [&'static str] {
-    &WRONG
 }
