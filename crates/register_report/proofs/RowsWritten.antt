@@ -14,7 +14,7 @@ use Rattle.key_rows.specs.{declared.key_row.KeyRow.KeyRow, Report.report_line, R
 use Rattle.key_rows.proofs.DueRows.{a_list, fewer}
 use Rattle.register_requests.specs.declared.request.Request.{Request}
 use Rattle.register_core.specs.{Fold.IsLawful, History.period, History.set_period}
-use Rattle.register_desk.specs.KeyRows.{all_rows, AreSoFar, GiveNext, HaveGiven, until_of}
+use Rattle.register_desk.specs.KeyRows.{all_rows, AreAll, AreSoFar, GiveNext, HaveGiven, until_of}
 use Rattle.register_desk.specs.Desk.{ChangesNothing, IsClean, IsWhole}
 use Rattle.register_desk.specs.{declared.end.End.End, declared.end.End.TheVariants.WriteFault, declared.desk.Desk.Desk}
 use Rattle.register_desk.specs.{declared.rows.KeyRows.KeyRows, Register.StandsFor}
@@ -189,6 +189,29 @@ module _ {W S : Type 0} {contents : W → Option (List ℕ)} {g : Ghosts S} {tab
           → OnOk r (lines_text table so.given ≡ lines_text table so.given)
       same (Ok x) = refl
       same (Err e) = tt
+
+  -- no row came after these
+  pub rows_whole : {next : KeyRows S g} → Next rows next None
+      → PutsRows contents g old now before after start next table (Ok count)
+  rows_whole {next} it = record {
+    given = so.given;
+    text = text_as (Ok count) (no_fault count);
+    counted = so.counted;
+    are = λ h stands whole clean none.
+        let (has, ended) = given_next it h stands whole clean none in
+        subst (λ until. AreAll until (all_rows h) so.given) (it.until ∙ so.until) (has.ended ended);
+  }
+
+  -- no more of them was asked for
+  pub rows_stopped : {e : End} → e ≢ WriteFault
+      → PutsRows contents g old now before after start rows table (Err e)
+  rows_stopped {e} other = record {
+    given = so.given;
+    text = text_as (Err e) (λ is. other (let same : e ≡ WriteFault = cc in same));
+    counted = tt;
+    are = λ h stands whole clean none.
+        subst (λ until. AreSoFar until (all_rows h) so.given) so.until (so.have h stands whole clean none).so_far;
+  }
 
   module _ {row : KeyRow} {next : KeyRows S g} (it : Next rows next (Some row)) {new : Watched W}
       {later : ℕ} where

@@ -1,5 +1,7 @@
 //! The export of all keys, and the report on those that are due for rotation.
-ghost use Rattle.std.specs.Prelude.{◌≡◌, false, List, IfErr};
+ghost use Rattle.std.specs.Prelude.{◌≡◌, ◌⊎◌, None, false, List, IfErr};
+ghost use Rattle.moment_core.specs.Moment.{last_second};
+ghost use Rattle.period_core.specs.{declared.key_type.KeyType.KeyType, Office.set_in};
 ghost use Rattle.register_report.specs.Within.TextWriter.{IsExport, IsReport, PutsAll, finish_of};
 ghost use Rattle.register_report.specs.TextWriter.{EndsText, LeavesAlone, WritesText};
 ghost use Rattle.register_desk.specs.Register.{StandsFor};
@@ -13,6 +15,7 @@ use crate::key_table::KeyTable;
 use crate::table_writing::put_table;
 use key_rows::{horizon, last_moment};
 use moment_core::Moment;
+use period_core::OfficePeriods;
 use register_desk::{Desk, End, Finish, Outcome, Watched};
 use sqlite::Alter;
 use std::alloc::Global;
@@ -45,9 +48,21 @@ fn put_export<W: Write, S: Alter>(
     put_table(alloc, &KeyTable::Export, &mut rows, writer, written)
 }
 
-/// Writes the report on the keys that are due in so many days, or are long. Where the office set no
-/// period, no key is long, and the rows that are due are all; where it set one, the rows go on to
-/// the last moment, since a long key may have any Protect Stop Date.
+/// Up to which Protect Stop Date a report has keys, with this horizon. Where the office set no
+/// period, no key is long, and those that are due are all; where it set one, the rows go on to the
+/// last moment, since a long key may have any Protect Stop Date.
+fn last_in_report(until: Moment, periods: &OfficePeriods) -> Moment
+    ensures { (((kind : KeyType) → set_in periods.now kind ≡ None) × (result ≡ until))
+        ⊎ (result ≡ last_second) }
+{
+    if periods.are_all_unset() {
+        until
+    } else {
+        last_moment()
+    }
+}
+
+/// Writes the report on the keys that are due in so many days, or are long.
 fn put_rotation_report<W: Write, S: Alter>(
     alloc: Global,
     desk: &mut Desk<S>,
@@ -63,11 +78,7 @@ fn put_rotation_report<W: Write, S: Alter>(
     let latest = desk.latest();
     let until = horizon(latest, days);
     let periods = desk.office_periods()?;
-    let last = if periods.are_all_unset() {
-        until
-    } else {
-        last_moment()
-    };
+    let last = last_in_report(until, &periods);
     let mut rows = desk.due(last)?;
     let report = KeyTable::Report(latest, until, periods);
     put_table(alloc, &report, &mut rows, writer, written)

@@ -4,8 +4,7 @@ use Rattle.key_rows.specs.{DueRows.AreListed, Report.horizon, Report.report_text
 use Rattle.register_core.specs.History.{period}
 use Rattle.register_desk.specs.Desk.{ChangesNothing, IsClean}
 use Rattle.register_desk.specs.{declared.desk.Desk.Desk, KeyRows.AreAll, KeyRows.all_rows}
-use Rattle.register_report.proofs.exporting.put_rotation_report.Goals.{then-are_all_unset, else-are_all_unset}
-use Rattle.register_report.proofs.RowsWritten.{EndsAt, report_rows}
+use Rattle.register_report.proofs.RowsWritten.{report_rows}
 use Rattle.register_report.proofs.WholeTable.{puts_all, puts_none}
 use Rattle.register_report.proofs.exporting.put_rotation_report.Goals as goal
 
@@ -30,13 +29,8 @@ returns-clause-puts g c =
     let found = periods.found h stands (subst (λ (d : Desk _ _). IsClean g.S.Store d) lent.same clean) in
     let at = c.latest-latest.ensures.latest h stands in
     let until = c.horizon-until.ensures ∙ ap (λ t. horizon t c.args.days) at in
-    let ends : EndsAt c.latest-latest.result c.horizon-until.result c.in_ok-periods.periods h stands.lawful found
-    c.if-are_all_unset.last = elim c.if-are_all_unset.branch [
-      | then-are_all_unset w ↦ inl (c.are_all_unset.ensures.0 (search rules), w.last-is)
-      | else-are_all_unset w ↦ inr (w.last-is ∙ w.last_moment-last.ensures)
-    ] in
     let all = report_rows c.latest-latest.result c.horizon-until.result c.in_ok-periods.periods h stands.lawful found
-    c.if-are_all_unset.last (omega (arith, until)) ends is.0
+    c.last_in_report-last.result (omega (arith, until)) c.last_in_report-last.ensures is.0
     (subst (λ last. AreListed (all_rows h) last (period h) is.0) (sym until) is.1) in (
       all.0,
       subst (λ u. AreAll u (all_rows h) all.0) (sym lent.begins.1) all.1,

@@ -1,9 +1,10 @@
-use Rattle.std.proofs.Common.{◌≡◌, ◌+◌, true, false, refl, ap, subst, ◌∙◌, arith}
+use Rattle.std.proofs.Common.{◌≡◌, ◌≢◌, ◌+◌, true, false, refl, ap, subst, ◌∙◌, arith}
 use Rattle.std.specs.Prelude.{OnSome}
+use Rattle.register_desk.specs.declared.end.End.TheVariants.{Broken, Store, WriteFault}
 use Rattle.register_desk.specs.KeyRows.{GoOn}
 use Rattle.register_report.specs.Within.KeyTable.{has_line_for}
 use Rattle.register_report.proofs.RowsWritten.{Next, at_most_one, none_so_far, one_if, one_more, part_of_line}
-use Rattle.register_report.proofs.RowsWritten.{rows_passed_on}
+use Rattle.register_report.proofs.RowsWritten.{rows_passed_on, rows_stopped, rows_whole, still}
 use Rattle.register_report.proofs.table_writing.put_and_count_listed_rows.Goals.{then-branch, else-branch}
 use Rattle.register_report.proofs.table_writing.put_and_count_listed_rows.Goals as goal
 
@@ -49,3 +50,43 @@ returns-in_err-put_row_if_listed-clause-rows g c =
     let one = subst (Next c.lines.rows c.next_key.new.self) c.in-Some.is next in
     rows_passed_on c.from_residual-in_err-put_row_if_listed.result c.from_residual-in_err-put_row_if_listed.ensures.1
     (part_of_line c.lines.invariant.so_far one c.in_err-put_row_if_listed.ensures.puts)
+
+pub returns-in_default : goal.returns-in_default
+returns-in_default g c =
+    let held = c.lines.invariant in
+    let found = c.in_ok-row.ensures in
+    let next : Next c.lines.rows c.next_key.new.self c.in_ok-row.field-0 =
+    record { reads = found.reads; mark = found.mark; until = found.until; gives = found.gives } in
+    let none = subst (Next c.lines.rows c.next_key.new.self) c.in_default.is next in
+    record {
+      passes = record {
+        same_reference = found.same_reference ∙ held.same_reference;
+        reads = still held.so_far found.reads;
+        mark = found.mark ∙ held.so_far.mark;
+        end = tt;
+        sound = λ _. tt;
+      };
+      rows = rows_whole held.so_far none;
+    }
+
+-- no register has so many rows
+
+store_no_fault : Store ≢ WriteFault
+store_no_fault is = cc
+
+store_no_broken : Store ≢ Broken
+store_no_broken is = cc
+
+pub returns : goal.returns
+returns g c =
+    let held = c.lines.invariant in
+    record {
+      passes = record {
+        same_reference = held.same_reference;
+        reads = held.so_far.reads;
+        mark = held.so_far.mark;
+        end = tt;
+        sound = λ _. store_no_broken;
+      };
+      rows = rows_stopped held.so_far store_no_fault;
+    }
