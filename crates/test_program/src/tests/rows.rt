@@ -29,8 +29,9 @@ const DAN_APPROVES: Exchange = ("104 dan 1 approve 1", "ok 1 Pre-Active 104");
 
 const COMPROMISED: Exchange = ("105 zed 1 revoke 1 3 50", "ok 1 Compromised 105");
 
+/// Rows on lines, moments and the order of dates.
 #[rattlefmt::skip]
-static ROWS: [WorkedRow; 39] = [
+static LINES: [WorkedRow; 6] = [
     ("first day", &[
         ("100 ann 1 register data-encryption bob 0 500 1000 payroll disks", "ok 1 Active 100"),
         ("999 ann 2 advance", "ok 0 - 999"),
@@ -49,6 +50,11 @@ static ROWS: [WorkedRow; 39] = [
     ]),
     ("two spaces", &[("100 ann 1  advance", "refused 1 BadLine")]),
     ("dates out of order", &[("100 ann 1 register master bob 500 400 600 x", "refused 9 DateOrder")]),
+];
+
+/// Rows on requests that come again, and on a deactivation.
+#[rattlefmt::skip]
+static REPEATS: [WorkedRow; 6] = [
     ("defaults", &[DEFAULTS]),
     ("repeated with an earlier moment", &[
         DEFAULTS,
@@ -73,6 +79,11 @@ static ROWS: [WorkedRow; 39] = [
         ("157766399 ann 3 advance", "ok 0 - 157766399"),
         ("157766400 ann 4 advance", "ok 0 - 157766400"),
     ]),
+];
+
+/// Rows on usage periods.
+#[rattlefmt::skip]
+static PERIODS: [WorkedRow; 6] = [
     ("leap day", &[
         ("1709164800 ann 1 register private-signature eve 1709164800 - - code signing", "ok 1 Active 1709164800"),
     ]),
@@ -92,6 +103,11 @@ static ROWS: [WorkedRow; 39] = [
     ("originator's limit", &[
         ("100 ann 1 register master bob 0 40000000 - x", "refused 10 PeriodTooLong limit=31536000"),
     ]),
+];
+
+/// Rows on the limits of dates.
+#[rattlefmt::skip]
+static LIMITS: [WorkedRow; 6] = [
     ("recipient's limit", &[
         ("100 ann 1 register data-encryption bob 0 - 157766401 x", "refused 10 PeriodTooLong limit=157766400"),
     ]),
@@ -111,14 +127,11 @@ static ROWS: [WorkedRow; 39] = [
         ("100 ann 1 register master bob - 40000000 - x", "ok 1 Pre-Active 100"),
         ("200 bob 1 activate 1", "ok 1 Active 200"),
     ]),
-    ("a period set by the office", &[
-        DEFAULTS,
-        ("200 zed 1 set-period data-encryption 12 36", "refused 21 NotOffice"),
-        ("200 office 1 set-period data-encryption 12 36", "ok 0 - 200"),
-        ("300 ann 2 register data-encryption bob 0 63072000 - x", "refused 10 PeriodTooLong limit=31536000"),
-        ("300 ann 2 register data-encryption bob 0 - - x", "ok 2 Active 300"),
-        ("400 bob 1 set 1 = = 150000000", "refused 10 PeriodTooLong limit=31536000"),
-    ]),
+];
+
+/// Rows on states, and on dates that are set.
+#[rattlefmt::skip]
+static STATES: [WorkedRow; 6] = [
     ("compromised before its activation", &[
         ("300 ann 1 register data-encryption bob 500 - - x", "ok 1 Pre-Active 300"),
         ("400 zed 1 revoke 1 2 -", "ok 1 Compromised 400"),
@@ -152,6 +165,11 @@ static ROWS: [WorkedRow; 39] = [
         ("200 zed 1 revoke 1 2 201", "refused 19 OccurrenceLater"),
         ("200 bob 1 revoke 1 5 100", "refused 1 BadLine"),
     ]),
+];
+
+/// Rows on owners, custodians and approvals.
+#[rattlefmt::skip]
+static CUSTODY: [WorkedRow; 6] = [
     ("assigned", &[
         ("100 ann 1 register master bob 50 - 50 spare", "ok 1 Deactivated 100"),
         ("200 bob 1 assign 1 eve", "ok 1 Deactivated 200"),
@@ -201,6 +219,19 @@ static ROWS: [WorkedRow; 39] = [
         ("102 bob 2 remove-custodian 1 dan", "refused 13 NoSuchCustodian"),
     ]),
     ("compromise ends the approvals", &[REGISTERED, CAT_ADDED, DAN_ADDED, CAT_APPROVES, DAN_APPROVES, COMPROMISED]),
+];
+
+/// A usage period that the office sets, and destructions.
+#[rattlefmt::skip]
+static OTHERS: [WorkedRow; 3] = [
+    ("a period set by the office", &[
+        DEFAULTS,
+        ("200 zed 1 set-period data-encryption 12 36", "refused 21 NotOffice"),
+        ("200 office 1 set-period data-encryption 12 36", "ok 0 - 200"),
+        ("300 ann 2 register data-encryption bob 0 63072000 - x", "refused 10 PeriodTooLong limit=31536000"),
+        ("300 ann 2 register data-encryption bob 0 - - x", "ok 2 Active 300"),
+        ("400 bob 1 set 1 = = 150000000", "refused 10 PeriodTooLong limit=31536000"),
+    ]),
     ("destroyed after a compromise", &[
         REGISTERED, CAT_ADDED, DAN_ADDED, CAT_APPROVES, DAN_APPROVES, COMPROMISED,
         ("106 bob 3 destroy 1", "refused 18 ApprovalsMissing have=0 need=2"),
@@ -226,6 +257,34 @@ static ROWS: [WorkedRow; 39] = [
     ]),
 ];
 
+fn lines() -> &'static [WorkedRow] {
+    &LINES
+}
+
+fn repeats() -> &'static [WorkedRow] {
+    &REPEATS
+}
+
+fn periods() -> &'static [WorkedRow] {
+    &PERIODS
+}
+
+fn limits() -> &'static [WorkedRow] {
+    &LIMITS
+}
+
+fn states() -> &'static [WorkedRow] {
+    &STATES
+}
+
+fn custody() -> &'static [WorkedRow] {
+    &CUSTODY
+}
+
+fn others() -> &'static [WorkedRow] {
+    &OTHERS
+}
+
 /// What a run over the lines is given, and what it writes.
 fn input_and_output(alloc: Global, lines: &[Exchange]) -> Result<(String, String), Fail> {
     let mut input = String::new(alloc);
@@ -244,10 +303,34 @@ fn is_served(rt: &HostRuntime, lines: &[Exchange]) -> Result<bool, Fail> {
     succeeds(rt, &[], input.as_bytes(), output.as_bytes())
 }
 
-/// Which row is not served so, if one is not.
-fn worked_row_at_fault(rt: &HostRuntime) -> Result<Option<&'static str>, Fail> {
-    for (name, lines) in &ROWS {
+/// Which of these rows is not served so, if one is not.
+fn fault_in(rt: &HostRuntime, rows: &'static [WorkedRow]) -> Result<Option<&'static str>, Fail> {
+    for (name, lines) in rows {
         if !is_served(rt, lines)? {
+            return Ok(Some(name));
+        }
+    }
+    Ok(None)
+}
+
+/// The tables. A function that names one writes it out, and one of all rows is past the checker's
+/// steps.
+fn tables() -> [&'static [WorkedRow]; 7] {
+    [
+        lines(),
+        repeats(),
+        periods(),
+        limits(),
+        states(),
+        custody(),
+        others(),
+    ]
+}
+
+/// Which of all rows is not served so, if one is not.
+fn worked_row_at_fault(rt: &HostRuntime) -> Result<Option<&'static str>, Fail> {
+    for rows in tables() {
+        if let Some(name) = fault_in(rt, rows)? {
             return Ok(Some(name));
         }
     }
