@@ -21,7 +21,7 @@ from typing import Callable, Iterator, NamedTuple, Optional, Sequence
 
 sys.path.insert(1, str(pathlib.Path(__file__).resolve().parents[1] / "shared"))
 from places import TOP
-from contracts import below, reached
+from contracts import below, reached, stands_on
 from script import fresh_folder, options, verdict
 
 # Gives back its words and its input, or lives on as `serve` does; and what a linker leaves that was stopped.
@@ -152,20 +152,21 @@ class Copy:
 
     def built(self, what: str, called: Called, cores: int = len(os.sched_getaffinity(0)),
               backend: str = "rattle") -> Iterator[str]:
-        """Faults of a call that was to build all crates once, each by one job, on so many cores, the program by this
-        compiler, and to run it."""
+        """Faults of a call that was to build all crates once, on so many cores, those over a database by one job each,
+        the program by this compiler, and to run it."""
         if called[:2] != (0, WANTED) or self.left() or sorted(self.begun()) != sorted(CRATES):
             yield f"{what}: {called}, begun {self.begun()}, left {self.left()}"
-        proved, proving = set[str](), set[str]()
+        proved, jobs = set[str](), dict[str, int]()
         for kind, crate, *rest in self.entries():
             if kind == "ended":
                 proved.add(crate)
-                proving.discard(crate)
+                jobs.pop(crate, None)
                 continue
-            proving.add(crate)
-            wanted = ["run", "--jobs", "1", "--backend", backend] if crate == "keyreg" else ["lib", "--jobs", "1"]
-            if rest[1:] != wanted or not below(crate) <= proved or len(proving) > cores:
-                yield f"{what}: rt {rest[1:]} for {crate}: before it {below(crate) - proved}, {proving} on {cores} cores"
+            jobs[crate] = int(rest[3])
+            wanted = ["run", "--backend", backend] if crate == "keyreg" else ["lib"]
+            is_rt = [rest[1], *rest[4:]] == wanted and (jobs[crate] == 1 or "sqlite" not in stands_on()[crate])
+            if not is_rt or not below(crate) <= proved or sum(jobs.values()) > cores:
+                yield f"{what}: rt {rest[1:]} for {crate}: before it {below(crate) - proved}, {jobs} on {cores} cores"
 
     def built_again(self, what: str) -> Iterator[str]:
         self.order(renewed=None)
