@@ -44,8 +44,8 @@ def write_program(text: str) -> None:
 
 
 def rt() -> None:
-    """Is `rt version`, or `rt lib --jobs N` and `rt run --jobs N --backend B` in the folder of a crate. It shuts others out of the
-    folders of the crate and of all below it, as the kit's does, but waits for none."""
+    """Is `rt version`, or `rt lib --jobs N` and `rt run --jobs N --backend B` in the folder of a crate. It shuts others
+    out of the folders of the crate and of all below it, as the kit's does, but waits for none."""
     if sys.argv[1:] == ["version"]:
         print(f"another-kit logic {os.environ['LOGIC']}")
         # Without a logic it is as where there is no `rt`.
