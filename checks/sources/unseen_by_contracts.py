@@ -115,7 +115,9 @@ GIVEN = {
     "the end of the program": (r"\bstd::process\b", {"keyreg"}),
     "a clock": (r"\b(?:Clock|Instant|SystemTime)\b", {"register_serving", "register_program", "disk_files"}),
     "standard streams": (r"\.std(?:in|out|err)\(\)", {"keyreg"}),
-    # Above `register_store` nothing speaks SQL.
+    # Above `register_store` nothing speaks SQL: no code there names the crates that it gives out, nor makes a call of a
+    # counted connection that takes a statement.
+    "statements": (r"\.(?:find_one_row|query_all|transact)\(", {"register_rows", "register_tables"}),
     "the tables": (r"\bregister_(?:tables|rows|openings)::", {"register_openings", "register_rows", "register_store"}),
 }
 
