@@ -18,7 +18,7 @@ The parts, all but the last where none is named:
                and the graph of ARCHITECTURE the arrows of crates.txt; what its pictures name is a function or a crate
     theorem    THEOREM and DEFINITIONS are as the sources have them; each document that says how many definitions there
                are has that figure; none on which a public contract stands is without words of its own
-    reached    a public contract stands on each definition of a crate's specs/, and on none of its folder Within/
+    reached    a public contract stands on each definition of a crate's specs/, and on none of its Within
     look       README's first look, which `rt try` answers without a proof, in a copy of the sources, in minutes
 
 The program is the one that ./keyreg builds, or that KEYREG names.
@@ -264,13 +264,13 @@ def stale_faults() -> Faults:
     table, reply = read("crates/register_tables/src/table.rt"), read("crates/register_core/src/reply.rt")
     kinds = re.search(r"ALL: &'static \[CommandKind\] = &\[(.*?)\];",
                       read("crates/register_requests/src/command_fields.rt"), re.S)[1].count("CommandKind::")
-    steps = re.search(r"KeepsToSteps S\.Store (\d+) self", read("crates/desk_core/src/desk/applying.rt"))[1]
+    steps = re.search(r"KeepsToSteps S\.Store (\d+) self", read("crates/register_desk/src/desk/applying.rt"))[1]
     tables = re.search(r"TABLES: \[TableName; (\d+)\]", table)[1]
     counted = ((r"\b(\w+) tables of a (?:database|register)", tables), (r"\b(?:the|all) (\w+) tables\b", tables),
                (r"\b(\w+) commands\b", str(kinds)),
                (r"takes at most (\w+) steps", steps), (r"bound on steps is (\w+)", steps))
     names_of = "".join(map(read, listed("crates/register_tables/s*/**/*.*")))
-    ends = read("crates/desk_core/src/end.rt") + read("crates/desk_core/src/opening.rt")
+    ends = read("crates/register_desk/src/end.rt") + read("crates/register_desk/src/opening.rt")
     # What a document names so, and what there is of it.
     named = ((r"keys_by_\w+", set(re.findall(r"keys_by_\w+", names_of))),
              (r"`keyreg: (\w+)`", {*re.findall(r'"([A-Z]\w+)"', ends), "BadValue"}),
@@ -327,9 +327,9 @@ def picture_faults() -> Faults:
 
 
 def reached_faults() -> Faults:
-    """Of specs/ what no public contract reaches, and of specs/Within/ what one does."""
+    """Of specs/ what no public contract reaches, and of its Within what one does."""
     every, reached = definitions.spec_keys(), definitions.reached(definitions.contract_names())
-    within = {key for key in every if key.place.startswith("Within.")}
+    within = {key for key in every if key.place.split(".")[0] == "Within"}
     return [f"{key.crate}: {'a' if key in within else 'no'} public contract stands on `{key.name}` ({key.place})"
             for key in every if (key in reached) == (key in within)
             ], f"{len(every)} definitions, {len(within)} of them within"

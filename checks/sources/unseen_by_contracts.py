@@ -43,7 +43,7 @@ MARKED = {
         "read_turn": ["Err(error) => self.count_error(&error),"],
         "write_turn": ["self.count_failed();", "self.unflushed = true;", "Err(error) => self.count_error(&error),"],
     }),
-    "crates/register_serving/src/attendance.rt": (re.compile(r"\b(?:failed|accepted)\b"), {
+    "crates/register_http/src/attendance.rt": (re.compile(r"\b(?:failed|accepted)\b"), {
         "accept": ["self.accepted += 1;", "self.failed = true;"],
         "accepted": ["self.accepted"],
         "has_failed": ["self.failed"],
@@ -59,13 +59,14 @@ TURNS, MOST_LINES = "crates/streams/src/watched/turns.rt", 14
 # says that a call of the database was refused. One that is handed on under another name counts, one that is looked at
 # does not: a value counts, and no pattern of a match, nor of an `if let`, nor a type.
 PLACES = {
-    "desk_core/src/desk.rt": (0, 1),
-    "desk_core/src/desk/applying.rt": (0, 2),
-    "desk_core/src/desk/listing.rt": (0, 2),
-    "desk_core/src/desk/look_ups.rt": (0, 2),
-    "desk_core/src/end.rt": (2, 1),
-    "desk_core/src/opening.rt": (1, 1),
-    "desk_core/src/rows.rt": (0, 1),
+    "register_desk/src/desk.rt": (0, 1),
+    "register_desk/src/desk/applying.rt": (0, 2),
+    "register_desk/src/desk/listing.rt": (0, 2),
+    "register_desk/src/desk/look_ups.rt": (0, 2),
+    "register_desk/src/end.rt": (2, 1),
+    "register_desk/src/opened_tables.rt": (0, 1),
+    "register_desk/src/opening.rt": (1, 1),
+    "register_desk/src/rows.rt": (0, 1),
     "disk_files/src/disk_files.rt": (1, 2),
     "http_messages/src/asking.rt": (3, 0),
     "http_messages/src/route.rt": (2, 0),
@@ -74,7 +75,8 @@ PLACES = {
     "memory_disk/src/lib.rt": (1, 0),
     "register_http/src/exchanging.rt": (1, 0),
     "register_in_memory/src/lib.rt": (1, 1),
-    "register_openings/src/refusal.rt": (2, 3),
+    "register_checks/src/refusal.rt": (2, 1),
+    "register_schema/src/refusal.rt": (0, 1),
     "register_program/src/faults.rt": (3, 1),
     "register_program/src/refused.rt": (1, 1),
     "register_report/src/importing.rt": (2, 0),
@@ -113,12 +115,13 @@ GIVEN = {
     "words and the environment": (r"\bstd::env\b|\benv::", {"keyreg"}),
     "processes, threads and the system": (r"\bstd::(?:thread|os|sync)\b|\b(?:Processes|Threads|Abort|Wait)\b", set()),
     "the end of the program": (r"\bstd::process\b", {"keyreg"}),
-    "a clock": (r"\b(?:Clock|Instant|SystemTime)\b", {"register_serving", "register_program", "disk_files"}),
+    "a clock": (r"\b(?:Clock|Instant|SystemTime)\b", {"register_http", "register_program", "disk_files"}),
     "standard streams": (r"\.std(?:in|out|err)\(\)", {"keyreg"}),
-    # Above `register_store` nothing speaks SQL: no code there names the crates that it gives out, nor makes a call of a
-    # counted connection that takes a statement.
+    # Above the crates of the store nothing speaks SQL: the desk alone names them, with the crate that gives them
+    # out, and no code makes a call of a counted connection that takes a statement.
     "statements": (r"\.(?:find_one_row|query_all|transact)\(", {"register_rows", "register_tables"}),
-    "the tables": (r"\bregister_(?:tables|rows|openings)::", {"register_openings", "register_rows", "register_store"}),
+    "the tables": (r"\bregister_(?:tables|rows|checks|schema)::",
+                   {"register_checks", "register_desk", "register_rows", "register_schema", "register_store"}),
 }
 
 

@@ -10,7 +10,7 @@ use Rattle.http_messages.specs.declared.asked.Asked.TheVariants.{Reject, Apply}
 use Rattle.http_messages.specs.declared.asked.Rejection.TheVariants.{BadRequest}
 use Rattle.http_messages.specs.Asked.{AsksBody, AsksAfter, cut_short, lines_of, no_command, command, sent}
 use Rattle.http_messages.specs.{CommandValue.command_data, declared.asked.Asked.Asked, declared.asking.Asking.Asking}
-use Rattle.http_messages.specs.{declared.route.Route.TheVariants.Requests, Within.Post.IsFor, Within.Post.Says}
+use Rattle.http_messages.specs.{declared.route.Route.TheVariants.Requests, Within.IsFor, Within.Says}
 use Rattle.httparse.specs.Grammar.{RequestHead}
 use Rattle.http_messages.specs.declared.asking.Post as post
 use Rattle.http_messages.specs.Asked as rule

@@ -13,7 +13,7 @@ use Rattle.http_messages.specs.Asked.{HasHost, lines_of, AsksAfter, no_host, no_
 use Rattle.http_messages.specs.declared.asked.Asked.TheVariants.{Reject}
 use Rattle.http_messages.specs.declared.asked.Rejection.TheVariants.{BadRequest, NoRoute, MethodNotAllowed}
 use Rattle.http_messages.specs.{declared.route.Route.Route, Route.IsRouteOf, Route.method_of, HeaderFields.HeaderLines}
-use Rattle.http_messages.specs.{Within.Post.IsFor, declared.asked.Rejection.Rejection}
+use Rattle.http_messages.specs.{Within.IsFor, declared.asked.Rejection.Rejection}
 use Rattle.std.specs.{Prelude.not, Str.bytes_eq}
 
 -- a head that is taken stands whole in the prefix

@@ -15,7 +15,7 @@ use Rattle.http_messages.specs.Asked.{Announces, IsFrom, AsksSome, AsksAfter, As
 use Rattle.http_messages.specs.Asked.{whole_head, no_host, no_path, no_method, show, usage, post, encoded, no_length}
 use Rattle.http_messages.specs.Asked.{bad_length, large_body, no_sender, sent, cut_short, no_command, command, lines_of}
 use Rattle.http_messages.specs.{declared.route.Route.Route, declared.asked.Asked.Asked, HeadLaws.IsLeftOpen}
-use Rattle.http_messages.specs.{Within.Route.pattern_of, CommandBody.IsBodyOf, HeaderFields.HeaderLines}
+use Rattle.http_messages.specs.{Within.pattern_of, CommandBody.IsBodyOf, HeaderFields.HeaderLines}
 use Rattle.register_requests.specs.declared.request.Command.{Command}
 use Rattle.http_messages.proofs.CommandValues.{one_command_data}
 use Rattle.http_messages.proofs.Routing.{finds_route, value_is, row_of, fits_number}

@@ -14,7 +14,7 @@ use Rattle.matchit.specs.{Rows.RowsOf, Router.RouteOf}
 use Rattle.http_messages.specs.declared.route.Route.TheVariants.{Requests, Show, Usage}
 use Rattle.http_messages.specs.declared.route.RoutePattern.{RoutePattern}
 use Rattle.http_messages.specs.Route.{IsRoute, route_text, routes, key_route, usage_row, requests_row}
-use Rattle.http_messages.specs.{declared.route.Route.Route, Within.Route.pattern_of}
+use Rattle.http_messages.specs.{declared.route.Route.Route, Within.pattern_of}
 use Rattle.register_requests.specs.Request.{IsKeyNumber}
 
 abbrev pub IsDigit : ℕ → Type 0

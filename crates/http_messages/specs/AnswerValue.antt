@@ -35,7 +35,8 @@ refused_member refusal = (codes "refused", number_data (refusal_number refusal))
 abbrev pub refusal_data : Refusal → Data
 refusal_data (MomentBehind latest) =
     let refusal = MomentBehind latest in
-    object (members_of ((codes "latest", number_data latest) ∷ refusal_name_member refusal ∷ refused_member refusal ∷ []))
+    object (members_of
+    ((codes "latest", number_data latest) ∷ refusal_name_member refusal ∷ refused_member refusal ∷ []))
 refusal_data (WrongState state) =
     let refusal = WrongState state in
     object (members_of (refusal_name_member refusal ∷ refused_member refusal

@@ -87,7 +87,8 @@ pub data AsksAfter (h : RequestHead) (rest : List ℕ) : Asked → Type 0 where
 pub data AsksSome (input : List ℕ) : Asked → Type 0 where
   bad_head : HasBadHead input → AsksSome input (Reject BadRequest)
   large_head : HasLargeHead input → AsksSome input (Reject TooLarge)
-  whole_head : (h : RequestHead) (rest : List ℕ) (a : Asked) → HasHead input h rest → AsksAfter h rest a → AsksSome input a
+  whole_head : (h : RequestHead) (rest : List ℕ) (a : Asked) → HasHead input h rest → AsksAfter h rest a
+      → AsksSome input a
 
 -- what a whole input asks for, or nothing where it is empty
 abbrev pub AsksFor : List ℕ → Option Asked → Type 0

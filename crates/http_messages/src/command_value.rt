@@ -24,7 +24,7 @@ ghost use Rattle.register_requests.specs.declared.command_fields.Shape.TheVarian
 ghost use Rattle.register_requests.specs.declared.command_fields.CommandKind.TheVariants as kinds;
 ghost use Rattle.http_messages.specs.CommandValue.{number_data, kind_data, command_data};
 ghost use Rattle.http_messages.specs.CommandValue.{members_of, name_member, fields_members};
-ghost use Rattle.http_messages.specs.Within.CommandValue.{HasMembers, IsShaped};
+ghost use Rattle.http_messages.specs.Within.{HasMembers, IsShaped};
 
 use crate::member_values::{
     date_of, edit_of, key_number_of, key_type_of, name_of, period_of_months, purpose_of, quorum_of,

@@ -8,7 +8,7 @@ ghost use Rattle.http_messages.specs.AnswerText.{refusal_status, usage_reply};
 ghost use Rattle.http_messages.specs.AnswerValue.{state_data, reply_data, refusal_data, usage_data};
 ghost use Rattle.http_messages.specs.AnswerValue.{names_data, key_data, refusal_name_member};
 ghost use Rattle.http_messages.specs.AnswerValue.{refused_member};
-ghost use Rattle.http_messages.specs.Within.AnswerValue.{date_members};
+ghost use Rattle.http_messages.specs.Within.{date_members};
 ghost use Rattle.http_messages.specs.CommandValue.{date_data, members_of};
 ghost use Rattle.http_messages.specs.{HttpReply.reply_bytes, Rejection.reply_of};
 ghost use Rattle.serde_json.specs.Data.{string, object, put as with_member};

@@ -3,7 +3,7 @@ ghost use Rattle.std.specs.Prelude.{◌≡◌, ◌≢◌, ◌<◌, ◌^◌, ◌+
 ghost use Rattle.std.specs.Prelude.{IfSome, IfNone};
 ghost use Rattle.std.specs.Option.{ForSome};
 ghost use Rattle.http_messages.specs.Route.{routes, route_text, IsRoute, IsRouteOf};
-ghost use Rattle.http_messages.specs.Within.Route.{pattern_of};
+ghost use Rattle.http_messages.specs.Within.{pattern_of};
 ghost use Rattle.register_requests.specs.Request.{IsKeyNumber};
 
 use crate::asked::AskFault;

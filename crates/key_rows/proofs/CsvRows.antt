@@ -8,7 +8,7 @@ use Rattle.std.specs.List.{list_any, list_all, join_with_byte, AllByRecursion}
 use Rattle.csv.specs.Writing as kit
 use Rattle.csv.specs.Writing.{default_writer, escaped, fields_text, needs_byte}
 use Rattle.key_rows.specs.Export.{comma, quote, row_end, doubled, field_text, csv_row}
-use Rattle.key_rows.specs.Within.Export.{IsPrintable}
+use Rattle.key_rows.specs.Within.{IsPrintable}
 
 -- ---- a field
 

@@ -4,4 +4,3 @@ pub mod Printable
 pub mod CsvRows
 pub mod RowWriting
 pub mod Padding
-pub mod Texts

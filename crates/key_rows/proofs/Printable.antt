@@ -9,7 +9,7 @@ use Rattle.std.specs.Prelude.{nat_le, nat_lt, ◌&&◌, decimal, Option, None, S
 use Rattle.std.specs.{List.list_all, Str.IsAscii}
 use Rattle.moment_core.specs.MomentText.{moment_text}
 use Rattle.register_requests.specs.{Name.IsName, Name.is_name_byte, Purpose.IsPurpose, Purpose.is_purpose_byte}
-use Rattle.key_rows.specs.{Export.date_cell_text, Within.Export.IsPrintable}
+use Rattle.key_rows.specs.{Export.date_cell_text, Within.IsPrintable}
 
 -- ---- all bytes of a text
 

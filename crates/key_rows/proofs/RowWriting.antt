@@ -10,8 +10,8 @@ use Rattle.csv.specs.Writing.{default_writer, writer_setup, fields_written, text
 use Rattle.csv.specs.{declared.writer.Writer.Writer, declared.writer.WriterBuilder.WriterBuilder}
 use Rattle.csv.specs.declared.writer.QuoteStyle.TheVariants as style
 use Rattle.csv.proofs.WriteFacts.{row-more}
-use Rattle.key_rows.specs.{declared.cell.Cell.Cell, Within.Cell.cell_text, Export.row_end, Export.csv_row}
-use Rattle.key_rows.specs.{Within.Export.IsPrintable, Within.RowWriter.HasFields, Within.RowWriter.written}
+use Rattle.key_rows.specs.{declared.cell.Cell.Cell, Within.cell_text, Export.row_end, Export.csv_row}
+use Rattle.key_rows.specs.{Within.IsPrintable, Within.HasFields, Within.written}
 use Rattle.key_rows.proofs.CsvRows.{same_row}
 
 -- ---- results

@@ -2,8 +2,8 @@
 ghost use Rattle.std.specs.Prelude.{◌≡◌, ◌<◌, ◌+◌, ◌^◌, ◌++◌, ℕ, List, [], ◌∷◌, length, OnOk, IfOk};
 ghost use Rattle.std.specs.Prelude.{Some};
 ghost use Rattle.key_rows.specs.Export.{export_header, export_row};
-ghost use Rattle.key_rows.specs.Within.RowWriter.{HasFields, written};
-ghost use Rattle.key_rows.specs.{Within.Export.IsPrintable, Within.Cell.cell_text};
+ghost use Rattle.key_rows.specs.Within.{HasFields, written};
+ghost use Rattle.key_rows.specs.{Within.IsPrintable, Within.cell_text};
 
 use crate::cell::Cell;
 use crate::date_text::date_text;

@@ -28,7 +28,7 @@ abbrev pub is_reached_at : Option ℕ → ℕ → Bool
 is_reached_at None t = false
 is_reached_at (Some date) t = nat_le date t
 
--- the state at t: the first line that holds
+-- the state at t: that of the first of these lines whose condition holds
 abbrev pub state_at : Dates → ℕ → State
 state_at d t =
     if is_some d.destroy && is_some d.compromise then DestroyedCompromised else

@@ -1,7 +1,8 @@
 -- Files that hold nothing, as an opening finds them.
 use Rattle.std.proofs.Common.{◌≡◌, inl, inr, arith, sym, subst, false, true}
 use Rattle.std.proofs.Math.Logic.{∥∥₁_elim}
-use Rattle.sqlite.specs.{Files.AreFoundIn, Files.HoldsDatabase, Files.IsEmpty, Files.IsNothing, Recovery.Image, Tree.Trees}
+use Rattle.sqlite.specs.Files.{AreFoundIn, HoldsDatabase, IsEmpty, IsNothing}
+use Rattle.sqlite.specs.{Recovery.Image, Tree.Trees}
 use Rattle.sqlite_pool.specs.Stored.{used_size}
 use Rattle.machine_traits.specs.Found.{HoldsNothing}
 use Rattle.machine_traits.proofs.Adopted.{adopts_something}

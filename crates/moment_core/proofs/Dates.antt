@@ -5,7 +5,7 @@ use Rattle.std.proofs.lemmas.Bool.{cases_lt, le-leb, lt-leb}
 use Rattle.std.specs.Prelude.{Bool, cond, Option, None, Some, IsSome, IfSome, ◌↔◌, min}
 use Rattle.moment_core.specs.Calendar.{Civil, IsCivil, in_range, months_after, months_on, month_days, civil}
 use Rattle.moment_core.specs.Calendar.{days_of_years, days_of_months, day_number}
-use Rattle.moment_core.specs.{Moment.last_second, Moment.IsMoment, Within.Dates.HasParts}
+use Rattle.moment_core.specs.{Moment.last_second, Moment.IsMoment, Within.HasParts}
 use Rattle.jiff_core.specs.Calendar.{day_count, days_from_civil, days_in_month, days_in_year}
 use Rattle.jiff_core.specs.{declared.civil.date.Date.Date, Date.epoch_day}
 use Rattle.jiff_core.specs.Calendar as jiff

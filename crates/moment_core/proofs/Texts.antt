@@ -3,7 +3,7 @@ use Rattle.std.proofs.Common.{◌≡◌, ℕ, ◌+◌, ◌*◌, ◌/◌, ◌%◌
 use Rattle.std.proofs.Common.{ap, ◌∙◌, arith}
 use Rattle.std.specs.Prelude.{Option, None, Some, IsSome, IfSome, ◌↔◌}
 use Rattle.moment_core.specs.Calendar.{Civil, IsCivil, civil, day_number}
-use Rattle.moment_core.specs.Within.Parts.{date_part_text, time_text}
+use Rattle.moment_core.specs.Within.{date_part_text, time_text}
 use Rattle.moment_core.specs.{Moment.IsMoment, MomentText.two_digits, MomentText.moment_text}
 use Rattle.moment_core.proofs.{Civils.civil_is, Civils.month_days_bounds, Dates.year_bound}
 

@@ -2,7 +2,7 @@
 ghost use Rattle.std.specs.Prelude.{◌≡◌, ◌≤◌, ◌<◌, ◌≤ℤ◌, pos, min, MatchOption, IfSome, Some};
 ghost use Rattle.moment_core.specs.Calendar.{Civil, IsCivil, civil, month_days, months_on};
 ghost use Rattle.moment_core.specs.Calendar.{day_number, months_after, days_after};
-ghost use Rattle.moment_core.specs.Within.Dates.{HasParts};
+ghost use Rattle.moment_core.specs.Within.{HasParts};
 
 use crate::moment::Moment;
 use jiff_core::civil::Date;

@@ -1,6 +1,6 @@
 //! The text of a moment, as YYYY-MM-DDTHH:MM:SSZ.
 ghost use Rattle.std.specs.Prelude.{◌≡◌, ◌≢◌, ℕ, ◌+◌, ◌/◌, ◌%◌, ◌<◌, ◌++◌, Some, IfSome, IfNone};
-ghost use Rattle.moment_core.specs.Within.Parts.{date_part_text, time_text};
+ghost use Rattle.moment_core.specs.Within.{date_part_text, time_text};
 ghost use Rattle.moment_core.specs.{Moment.IsMoment, MomentText.two_digits, MomentText.moment_text};
 
 use crate::calendar::{self, DAY_SECONDS};

@@ -3,8 +3,9 @@
 use Rattle.std.specs.Prelude.{ℕ, ◌≤◌, Option, unwrap_or}
 use Rattle.period_core.specs.{declared.key_type.KeyType.KeyType, KeyType.key_type_row}
 
--- from Activation to Protect Stop at the longest, in which protection is applied, and from there to Deactivation, in
--- which protected data is still processed
+-- How many months originator use has at most, from Activation to Protect Stop, in which protection is applied; and how
+-- many recipient use, in which protected data is processed from Activation on, has at most after Protect Stop, up to
+-- Deactivation.
 pub record Period : Type 0 where
   pub originator : ℕ
   pub recipient : ℕ
@@ -13,11 +14,11 @@ pub record Period : Type 0 where
 abbrev pub of_months : ℕ → ℕ → Period
 of_months originator recipient = record { originator = originator; recipient = recipient }
 
--- how many months either use has at most
+-- how many months either number of a period is at most
 abbrev pub max_months : ℕ
 max_months = 1200
 
--- at least one month of originator use; recipient use may end with it
+-- at least one month of originator use; recipient use may have none after it
 pub record IsPeriod (p : Period) : Type 0 where
   pub some : 1 ≤ p.originator
   pub originator : p.originator ≤ max_months

@@ -9,7 +9,7 @@ ghost use Rattle.period_core.specs.Fitting.{is_either_use_too_long, is_not_after
 ghost use Rattle.period_core.specs.Fitting.{order_refusal, originator_limit, range_refusal};
 ghost use Rattle.period_core.specs.Fitting.{recipient_limit, too_long_refusal, trim_of};
 ghost use Rattle.period_core.specs.Fitting.{with_default_deactivation, with_default_protect_stop};
-ghost use Rattle.period_core.specs.Within.Fitting.{Checks};
+ghost use Rattle.period_core.specs.Within.{Checks};
 
 use crate::period::Period;
 use lifecycle_core::Dates;

@@ -5,12 +5,12 @@ ghost use Rattle.period_core.specs.Period.{period_or_default, periods};
 use crate::key_type::KeyType;
 use std::marker::Model;
 
-/// How many months either use of a period has at most (this register's own).
+/// The most months of either number of a period (this register's own).
 pub const MAX_MONTHS: u16 = 1200;
 
-/// Two usage periods, in calendar months: one of originator use, from Activation to Protect Stop,
-/// in which protection is applied, and one of recipient use, from there to Deactivation, in which
-/// protected data is still processed.
+/// Two usage periods, in calendar months: how long originator use may last, from Activation to
+/// Protect Stop, in which protection is applied, and how much longer than that recipient use, from
+/// Activation to Deactivation, in which protected data is processed.
 #[derive(Clone, Copy)]
 pub struct Period {
     originator: u16,

@@ -17,7 +17,7 @@ use Rattle.register_core.specs.Decision.{custodians_by, approvals_by, needs_by, 
 use Rattle.register_core.specs.Settings.{KeyNeed, needs_after, all_needs}
 use Rattle.register_core.specs.{declared.reply.Refusal.Refusal, declared.change.CustodyChange.CustodyChange}
 use Rattle.register_core.specs.{Names.with_name, Names.sorted_names, History.dates, Effect.custody_change}
-use Rattle.register_core.specs.{Within.Custody.approval_of, Within.Custody.name_list, Laws.AreDifferent}
+use Rattle.register_core.specs.{Within.approval_of, Within.name_list, Laws.AreDifferent}
 use Rattle.lifecycle_core.specs.Reason.{is_compromise}
 use Rattle.register_core.proofs.Histories.{needs_next}
 

@@ -19,7 +19,7 @@ use Rattle.period_core.specs.Fitting.{range_refusal, too_long_refusal, trim_refu
 use Rattle.period_core.specs.{declared.date_fitting.DateRefusal.TheVariants.DateOrder, Period.Period}
 use Rattle.period_core.specs.{declared.date_fitting.DateRefusal.DateRefusal, declared.key_type.KeyType.KeyType}
 use Rattle.register_core.specs.Verdict.{refusal_of_dates, keeps_date, freeze_refusal, dates_refusal}
-use Rattle.register_core.specs.Within.Effect.{edited_dates, compromised, deactivated}
+use Rattle.register_core.specs.Within.{edited_dates, compromised, deactivated}
 use Rattle.register_core.specs.{declared.view.Held.Held, Effect.dates_after, Effect.sets_dates, Laws.MovesOnly}
 use Rattle.register_core.proofs.{Filling.past, CustodyLeads.not_refused}
 use Rattle.moment_core.specs.Calendar.{months_after}
@@ -145,7 +145,8 @@ abbrev FitWhole : Period → Dates → List (Option DateRefusal) → Type 0
 FitWhole period made refusals =
     option_map refusal_of_dates (first_that_holds refusals) ≡ None → Fits period made × IsWhole made
 
-pub filled_fits : (period : Period) (d : Dates) → FitWhole period (dates_with_defaults period d) (fill_refusals period d)
+pub filled_fits : (period : Period) (d : Dates)
+    → FitWhole period (dates_with_defaults period d) (fill_refusals period d)
 filled_fits period d e =
     let full = dates_with_defaults period d in
     let originator = too_long_refusal full.protect_stop (originator_limit period full) in

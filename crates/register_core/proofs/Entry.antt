@@ -1,7 +1,7 @@
 -- The refusals of who asks, of which key and when, in the order in which the code looks for them.
 use Rattle.std.proofs.Common.{◌≡◌, ℕ, Option, None, Some, Result, arith}
 use Rattle.std.specs.Prelude.{IsErrAnd}
-use Rattle.period_core.specs.{Fitting.first_that_holds, Within.Fitting.Checks}
+use Rattle.period_core.specs.{Fitting.first_that_holds, Within.Checks}
 use Rattle.register_core.specs.Verdict.{giver_refusal, moment_refusal, key_refusal, state_refusal, entry_refusals}
 use Rattle.register_core.specs.{declared.reply.Refusal.Refusal, declared.view.Held.Held}
 use Rattle.register_requests.specs.declared.command_rule.Giver.{Giver}

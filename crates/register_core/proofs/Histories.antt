@@ -23,7 +23,7 @@ use Rattle.register_core.specs.Effect.{unset_dates, given_dates, dates_after, ow
 use Rattle.register_core.specs.Effect.{period_after}
 use Rattle.register_core.specs.Settings.{KeyNeed, TypePeriod, needs_after, all_needs, need_at, periods_after}
 use Rattle.register_core.specs.Settings.{all_periods, period_at}
-use Rattle.register_core.specs.{Within.Effect.kind_after, Custody.need, Within.Custody.set_need}
+use Rattle.register_core.specs.{Within.kind_after, Custody.need, Within.set_need}
 use Rattle.register_requests.proofs.Subjects.{is_registration, is_named}
 
 -- ---- lists with one more

@@ -14,7 +14,7 @@ use Rattle.register_core.specs.Verdict.{is_same_command, repeated}
 use Rattle.register_core.specs.{declared.change.Change.Change, declared.kept_reply.KeptReply.KeptReply}
 use Rattle.register_core.specs.{declared.reply.Reply.Reply, declared.view.Held.Held, declared.view.View.View}
 use Rattle.register_core.specs.{declared.reply.Refusal.TheVariants.RequestReused, Fold.IsLawful, Fold.history}
-use Rattle.register_core.specs.{Within.KeptReply.kept_of, Laws.IsAccepted, Laws.IsKeptIn, Laws.sent_under}
+use Rattle.register_core.specs.{Within.kept_of, Laws.IsAccepted, Laws.IsKeptIn, Laws.sent_under}
 use Rattle.period_core.specs.{declared.key_type.KeyType.KeyType, Period.Period, Period.period_or_default}
 use Rattle.register_requests.specs.Subject.{Subject, Makes, Names, NoKey, named_by, key_by}
 use Rattle.register_requests.specs.{declared.request.Request.Request, declared.request.Command.Command}

@@ -23,5 +23,6 @@ pub mod Approvers
 pub mod FewLaws
 pub mod FewApprovals
 pub mod ApartLaw
+pub mod Destructions
 pub mod PastLaws
 pub mod Kept

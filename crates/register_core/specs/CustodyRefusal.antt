@@ -24,7 +24,8 @@ addition_refusals version held name =
     ∷ refused_if (bytes_eq name held.owner) OwnerCustodian
     ∷ []
 
--- the refusal of a caller's command on the custody of a key that stands so; of a key that is not there, none
+-- The refusal of a caller's command by the custody of a key that stands so: its custodians, or its approvals and how
+-- many a destruction needs. Of an assignment the new owner is none of the custodians. Of a key that is not there, none.
 abbrev pub custody_refusal_in : Version → Option Held → List ℕ → Command → Option Refusal
 custody_refusal_in version (Some held) caller (AddCustodian key name) =
     first_that_holds (addition_refusals version held name)

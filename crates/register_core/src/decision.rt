@@ -4,13 +4,13 @@ ghost use Rattle.std.specs.Prelude.{◌≡◌, None, Some, IfOk, IfErr, OnOk, �
 ghost use Rattle.register_requests.specs.declared.request.Command.{Command};
 ghost use Rattle.register_requests.specs.{CommandRule.rule, Version.current};
 ghost use Rattle.period_core.specs.Period.{period_or_default};
-ghost use Rattle.period_core.specs.{Within.Fitting.Checks, Fitting.first_that_holds};
+ghost use Rattle.period_core.specs.{Within.Checks, Fitting.first_that_holds};
 ghost use Rattle.register_core.specs.CustodyRefusal.{addition_refusals, custody_refusal_in};
 ghost use Rattle.register_core.specs.CustodyRefusal.{refused_if};
 ghost use Rattle.register_core.specs.declared.reply.Refusal.TheVariants.{ApprovalsMissing};
 ghost use Rattle.register_core.specs.Decision.{IsRightKey, IsViewOf, LeadsTo, change_by_request};
 ghost use Rattle.register_core.specs.Decision.{reply_to, reply_of_view};
-ghost use Rattle.register_core.specs.Within.Decision.{AreDatesAfter};
+ghost use Rattle.register_core.specs.Within.{AreDatesAfter};
 ghost use Rattle.register_core.specs.Verdict.{moment_refusal, key_refusal, giver_refusal};
 ghost use Rattle.register_core.specs.Verdict.{state_refusal, keeps_date, freeze_refusal};
 ghost use Rattle.register_core.specs.Verdict.{entry_refusals, occurrence_refusal, limit_refusal};

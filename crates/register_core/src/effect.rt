@@ -8,7 +8,7 @@ ghost use Rattle.register_core.specs.Effect.{asked_dates, dates_after, dates_bef
 ghost use Rattle.register_core.specs.Effect.{row_with_dates_at, custody_change};
 ghost use Rattle.register_core.specs.Decision.{change_by_request, change_without_key};
 ghost use Rattle.register_core.specs.Decision.{change_of_held_key};
-ghost use Rattle.register_core.specs.{Within.Decision.AreDatesAfter, Verdict.dates_refusal};
+ghost use Rattle.register_core.specs.{Within.AreDatesAfter, Verdict.dates_refusal};
 
 use crate::change::{Change, CustodyChange};
 use crate::fitting::{Fitting, needed_period_type};

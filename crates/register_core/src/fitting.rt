@@ -35,7 +35,7 @@ pub fn needed_period_type(key: &Option<Held>, command: &Command) -> Option<KeyTy
 impl Fitting {
     ghost use Rattle.std.specs.Prelude.{◌≡◌, IsSome};
     ghost use Rattle.register_core.specs.declared.fitting.Fitting.TheVariants.{Trimmed};
-    ghost use Rattle.register_core.specs.{Effect.fitting, Within.Effect.fitted_or_refusal};
+    ghost use Rattle.register_core.specs.{Effect.fitting, Within.fitted_or_refusal};
 
     /// How the dates that the command asks for are fitted.
     pub(crate) fn of(command: &Command) -> Self

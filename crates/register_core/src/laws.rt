@@ -20,7 +20,7 @@ ghost use Rattle.register_core.specs.Fold.{history_in, items};
 ghost use Rattle.register_core.specs.History.{latest, count, type, dates, dated_by, owner, period};
 ghost use Rattle.register_core.specs.History.{set_period};
 ghost use Rattle.register_core.specs.Laws.{IsAccepted, HasKey, MovesOnly, AreDifferent, IsKeptIn};
-ghost use Rattle.register_core.specs.Laws.{sent_under, state_of_key};
+ghost use Rattle.register_core.specs.Laws.{WasDestroyed, sent_under, state_of_key};
 ghost use Rattle.register_core.specs.Custody.{custodians, approvals};
 ghost use Rattle.register_core.specs.Verdict.{max_keys, verdict, Repeats, Refuses, is_same_command};
 ghost use Rattle.register_core.specs.Settings.{all_needs, all_periods};
@@ -113,6 +113,13 @@ pub fn destroyed_keys_have_two_approvals()
         2 ≤ length (approvals (h ++ q ∷ []) k) }
     ensures stay { (h : List Request) (q : Request) → IsAccepted h q → (k : ℕ) → HasKey h k →
         IsSome (dates h k).destroy → approvals (h ++ q ∷ []) k ≡ approvals h k }
+{}
+
+/// A key that is destroyed was so by a request behind as many approvals as the key then needed, none
+/// of them its owner's, and they stay.
+pub fn destroyed_keys_had_approvals_needed()
+    ensures { (h : List Request) → IsLawful h → (k : ℕ) → HasKey h k →
+        IsSome (dates h k).destroy → WasDestroyed h k }
 {}
 
 /// A key that is not made yet has no custodian, and nobody approves of its destruction.

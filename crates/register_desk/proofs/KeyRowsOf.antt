@@ -1,10 +1,10 @@
 -- The rows of a history's keys, and those of them that a report lists.
-use Rattle.std.proofs.Common.{◌≡◌, inl, inr, ℕ, ◌+◌, ◌≤◌, ◌==◌, ◌&&◌, ◌||◌, Bool, true, false, List, Option, None, Some}
+use Rattle.std.proofs.Common.{◌≡◌, inl, inr, ℕ, zero, suc, ◌+◌, ◌≤◌, ◌==◌, ◌&&◌, ◌||◌, Bool, true, false, List, Option, None, Some}
 use Rattle.std.proofs.Common.{refl, sym, ap, subst, ◌∙◌, arith}
 use Rattle.std.proofs.lemmas.Bool.{le-leb, leb-true}
 use Rattle.std.proofs.lemmas.Option.{slice_get_within}
 use Rattle.std.specs.List.{Contains}
-use Rattle.sql_steps.proofs.{Members.contains_has, SameRows.map_has}
+use Rattle.sql_steps.proofs.{Members.contains_has, SameRows.has_map, SameRows.map_has}
 use Rattle.sqlite_rules.specs.Lists.{Has}
 use Rattle.lifecycle_core.specs.declared.state.State.TheVariants.{Active}
 use Rattle.lifecycle_core.specs.{declared.dates.Dates.Dates, State.is_reached_at, State.state_code}
@@ -16,11 +16,15 @@ use Rattle.register_core.specs.{declared.key.Key.Key, Fold.IsLawful, Laws.HasKey
 use Rattle.register_requests.specs.{declared.request.Request.Request, Request.IsDate}
 use Rattle.register_core.proofs.{DateRanges.stop_in_range, UnsetPeriods.none_long}
 use Rattle.register_tables.specs.{TableChanges.key_at, Tables.numbered}
-use Rattle.register_tables.proofs.RowFound.{at_number}
-use Rattle.desk_core.specs.Register.{key_of, tables}
-use Rattle.desk_core.specs.KeyRows.{all_rows, row_of}
-use Rattle.desk_core.proofs.Grows.{found_key, keys_counted}
-use Rattle.desk_core.proofs.RowScan.{key_next, own_numbers_of}
+use Rattle.register_tables.proofs.RowFound.{at_number, number_at}
+use Rattle.register_tables.specs.{Tables.key_row, declared.table.TableName.TheVariants.Keys}
+use Rattle.register_desk.specs.DatabaseFiles.{HoldsRegister, key_rows_in}
+use Rattle.sqlite.specs.{Order.Row as Cells, Recovery.Image}
+use Rattle.std.specs.List.{enumerate_from}
+use Rattle.register_desk.specs.Register.{key_of, tables}
+use Rattle.register_desk.specs.KeyRows.{all_rows, row_of}
+use Rattle.register_desk.proofs.Grows.{at_place, found_key, keys_counted}
+use Rattle.register_desk.proofs.RowScan.{key_next, own_numbers_of}
 
 -- a row is that of a key, under the key's number
 record IsRowOf (h : List Request) (r : KeyRow) : Type 0 where
@@ -119,3 +123,16 @@ module _ (h : List Request) (lawful : IsLawful h) (until : ℕ) (r : KeyRow) (th
           ap (λ (k : KeyType). is_either_use_too_long (period h k) r.row.dates) is.kind
           ∙ ap (is_either_use_too_long (period h (type h r.number))) is.dates_are
           ∙ none_long h lawful r.number is.there (none (type h r.number))
+
+-- ---- in files
+
+pub row_in_files : (h : List Request) (image : Image) (held : HoldsRegister h image) (k : ℕ) → HasKey h k
+    → Has (key_rows_in held) (key_row (k, key_of h k))
+row_in_files h image held zero has = absurd (omega (arith, has.0))
+row_in_files h image held (suc i) has =
+    let next : 1 + i ≡ suc i = omega arith in
+    let its = key_of h (suc i) in
+    let there = number_at 1 (tables h).keys i its (at_place h i (omega (arith, has.1))) in
+    let numbered = subst (λ (n : ℕ). Has (enumerate_from 1 (tables h).keys) (n, its)) next there in
+    subst (λ (rows : List Cells). Has rows (key_row (suc i, key_of h (suc i)))) (sym (held.tables_are.rows Keys))
+    (has_map key_row (enumerate_from 1 (tables h).keys) (suc i, its) numbered)

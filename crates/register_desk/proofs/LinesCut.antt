@@ -6,14 +6,14 @@ use Rattle.std.proofs.lemmas.List.{append-nil, length-append}
 use Rattle.register_requests.specs.{declared.request.Request.Request, Request.IsLineOf, Request.IsItem}
 use Rattle.register_requests.proofs.Lines.{item_has}
 use Rattle.streams.specs.{Lines.line_feed, Lines.HasNoLineFeed, Lines.CutsLine, Watched.IsFaulted}
-use Rattle.desk_core.specs.Input.{IsCutInto, AreItems, HasItems, with_line_feeds}
-use Rattle.desk_core.specs.declared.end.End.TheVariants.{BadHeader, Broken, Memory, ReadFault, Store, WriteFault}
-use Rattle.desk_core.specs.declared.outcome.Finish.TheVariants.{AtEnd, Ended}
-use Rattle.desk_core.specs.Run.{IsCustodyNext, LeavesDesk, max_reads}
+use Rattle.register_desk.specs.Input.{IsCutInto, AreItems, HasItems, with_line_feeds}
+use Rattle.register_desk.specs.declared.end.End.TheVariants.{BadHeader, Broken, Memory, ReadFault, Store, WriteFault}
+use Rattle.register_desk.specs.declared.outcome.Finish.TheVariants.{AtEnd, Ended}
+use Rattle.register_desk.specs.Run.{IsCustodyNext, LeavesDesk, max_reads}
 use Rattle.register_desk.specs.RequestLines.{LinesCame, LinesEnd, LinesFail, Place, ReadsOn, ahead}
-use Rattle.desk_core.specs.{declared.desk.Desk.Desk, declared.end.End.End, declared.outcome.Finish.Finish}
-use Rattle.register_desk.specs.{Items.Serves, Within.Items.AreAhead}
-use Rattle.desk_core.specs.{Desk.IsWhole, RunProgress.LeavesItem}
+use Rattle.register_desk.specs.{declared.desk.Desk.Desk, declared.end.End.End, declared.outcome.Finish.Finish}
+use Rattle.register_desk.specs.{Items.Serves, Within.AreAhead}
+use Rattle.register_desk.specs.{Desk.IsWhole, RunProgress.LeavesItem}
 use Rattle.std.specs.{List.AllByRecursion, Io.KnownBytes.Consumes, Io.KnownBytes.IsAtEnd, Io.KnownBytes.prepend_known}
 use Rattle.sqlite_trees.specs.declared.store.Store.{Ghosts}
 use Rattle.register_core.proofs.Lawful.{all_more}

@@ -6,22 +6,22 @@ use Rattle.std.specs.{Prelude.replicate, Prelude.IfSome, Io.KnownBytes.Appends}
 use Rattle.sqlite_trees.specs.declared.store.Store.{Ghosts}
 use Rattle.register_requests.specs.{declared.request.Request.Request, Request.IsRequest}
 use Rattle.register_core.proofs.Lawful.{all_more}
-use Rattle.desk_core.specs.declared.end.End.TheVariants.{Memory, Store, Broken, ReadFault, WriteFault, BadHeader}
-use Rattle.desk_core.specs.declared.outcome.Finish.TheVariants.{AtEnd, Ended}
-use Rattle.desk_core.specs.Desk.{GoesOn, IsBroken, IsClean}
+use Rattle.register_desk.specs.declared.end.End.TheVariants.{Memory, Store, Broken, ReadFault, WriteFault, BadHeader}
+use Rattle.register_desk.specs.declared.outcome.Finish.TheVariants.{AtEnd, Ended}
+use Rattle.register_desk.specs.Desk.{GoesOn, IsBroken, IsClean}
 use Rattle.register_desk.specs.Items.{IsOfReading, ServedInPart, ServedItems, Serves}
-use Rattle.desk_core.specs.Run.{AreFlushed, Answered, IsRequestNext, LeavesDesk, RefusedItems, RunsBroken}
-use Rattle.desk_core.specs.Run.{RunsItems, RunsOver, LeavesWriter, Wrote, max_idle_turns}
-use Rattle.desk_core.specs.RunProgress.{LeavesItem, ServesItem}
-use Rattle.desk_core.specs.{declared.end.End.End, declared.outcome.Finish.Finish, declared.outcome.Outcome.Outcome}
-use Rattle.register_desk.specs.Within.Items.{AreAhead}
-use Rattle.desk_core.specs.{declared.desk.Desk.Desk, Lives.DeskLives, Register.StandsFor}
+use Rattle.register_desk.specs.Run.{AreFlushed, Answered, IsRequestNext, LeavesDesk, RefusedItems, RunsBroken}
+use Rattle.register_desk.specs.Run.{RunsItems, RunsOver, LeavesWriter, Wrote, max_idle_turns}
+use Rattle.register_desk.specs.RunProgress.{LeavesItem, ServesItem}
+use Rattle.register_desk.specs.{declared.end.End.End, declared.outcome.Finish.Finish, declared.outcome.Outcome.Outcome}
+use Rattle.register_desk.specs.Within.{AreAhead}
+use Rattle.register_desk.specs.{declared.desk.Desk.Desk, Lives.DeskLives, Register.StandsFor}
 use Rattle.streams.specs.declared.watched.Watched.{Watched}
 use Rattle.register_desk.proofs.Answering.{answered_more, answered_none, prefix_refused}
-use Rattle.desk_core.proofs.Appended.{appends_none, appends_then}
+use Rattle.register_desk.proofs.Appended.{appends_none, appends_then}
 use Rattle.register_desk.proofs.Answering.{over_all, over_unread, prefix_so, stopped_broken, stopped_so, there}
-use Rattle.desk_core.proofs.Lived.{leaves_going, still, lived}
-use Rattle.desk_core.proofs.Found.{leaves_next}
+use Rattle.register_desk.proofs.Lived.{leaves_going, still, lived}
+use Rattle.register_desk.proofs.Found.{leaves_next}
 
 pub ended_is : (one other : End) → Ended one ≡ Ended other → one ≡ other
 ended_is one other same = cc

@@ -3,11 +3,11 @@
 use Rattle.std.specs.Prelude.{◌≡◌, ◌⊎◌, ℕ, List, [], ◌∷◌, ◌++◌, length, Option, IfSome}
 use Rattle.sqlite_trees.specs.declared.store.Store.{Ghosts}
 use Rattle.register_requests.specs.{declared.request.Request.Request, Request.IsRequest}
-use Rattle.desk_core.specs.declared.end.End.TheVariants.{Memory, ReadFault}
-use Rattle.desk_core.specs.declared.outcome.Finish.TheVariants.{AtEnd, Ended}
-use Rattle.desk_core.specs.{declared.desk.Desk.Desk, declared.end.End.End, declared.outcome.Finish.Finish}
-use Rattle.desk_core.specs.RunProgress.{AnsweredItems, LeavesItem}
-use Rattle.desk_core.specs.Lives.{AreInRange}
+use Rattle.register_desk.specs.declared.end.End.TheVariants.{Memory, ReadFault}
+use Rattle.register_desk.specs.declared.outcome.Finish.TheVariants.{AtEnd, Ended}
+use Rattle.register_desk.specs.{declared.desk.Desk.Desk, declared.end.End.End, declared.outcome.Finish.Finish}
+use Rattle.register_desk.specs.RunProgress.{AnsweredItems, LeavesItem}
+use Rattle.register_desk.specs.Lives.{AreInRange}
 
 -- a source ends for want of memory or by a fault of what it reads
 abbrev pub IsOfReading : End → Type 0

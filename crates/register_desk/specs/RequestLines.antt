@@ -3,9 +3,9 @@ use Rattle.std.specs.Prelude.{◌≡◌, ◌+◌, ◌≤◌, ℕ, List, [], leng
 use Rattle.std.specs.{List.AllByRecursion, Io.KnownBytes.Consumes, Io.KnownBytes.IsAtEnd, Io.KnownBytes.prepend_known}
 use Rattle.register_requests.specs.declared.request.Request.{Request}
 use Rattle.streams.specs.{Lines.Cut, Lines.HasNoLineFeed, Watched.IsFaulted, declared.watched.Watched.Watched}
-use Rattle.desk_core.specs.declared.end.End.TheVariants.{ReadFault}
-use Rattle.desk_core.specs.Input.{AreItems, with_line_feeds}
-use Rattle.desk_core.specs.{declared.end.End.End, Run.max_reads}
+use Rattle.register_desk.specs.declared.end.End.TheVariants.{ReadFault}
+use Rattle.register_desk.specs.Input.{AreItems, with_line_feeds}
+use Rattle.register_desk.specs.{declared.end.End.End, Run.max_reads}
 
 -- what was cut off last with what is not looked at yet, and the reader
 abbrev pub Place : Type 0 → Type 0

@@ -2,10 +2,12 @@
 ghost use Rattle.std.specs.Prelude.{◌≡◌, ◌^◌, ◌≤◌, [], IfOk, IfErr, OnOk};
 ghost use Rattle.register_core.specs.declared.answer.TheConstants.{MAX_REPLY_LENGTH};
 ghost use Rattle.register_desk.specs.Items.{Serves};
-ghost use Rattle.desk_core.specs.Run.{LeavesDesk, LeavesWriter};
+ghost use Rattle.register_desk.specs.Run.{LeavesDesk, LeavesWriter};
 
+use crate::desk::Desk;
+use crate::end::End;
+use crate::outcome::{Finish, Outcome};
 use crate::runs::answer_item;
-use desk_core::{Desk, End, Finish, Outcome};
 use register_core::Request;
 use sqlite::Alter;
 use std::io::Write;
@@ -26,7 +28,7 @@ pub trait Items<I> {
     ghost use Rattle.std.specs.Prelude.{IfSome, OnOk};
     ghost use Rattle.register_requests.specs.{declared.request.Request.Request, Request.IsRequest};
     ghost use Rattle.register_desk.specs.Items.{IsOfReading};
-    ghost use Rattle.desk_core.specs.declared.end.End.{End};
+    ghost use Rattle.register_desk.specs.declared.end.End.{End};
 
     /// From the first place of the input to the second these items came.
     ghost came: { Self × I → Self × I → List (Option Request) → Type 0 };

@@ -11,11 +11,11 @@ use Rattle.register_core.specs.declared.reply.Reply as core
 use Rattle.http_messages.specs.declared.asked.Asked.TheVariants.{Reject}
 use Rattle.http_messages.specs.{AnswerText.outcome_reply, declared.asked.Asked.Asked}
 use Rattle.http_messages.specs.{declared.asked.Rejection.Rejection, Rejection.reply_of, HttpReply.HttpReply}
-use Rattle.desk_core.specs.declared.end.End.TheVariants.{Memory, Store, Broken, ReadFault, WriteFault, BadHeader}
-use Rattle.desk_core.specs.Desk.{ChangesNothing, EndsBy, GoesOn, IsBroken, IsClean, IsWhole, LeavesEither}
-use Rattle.desk_core.specs.{declared.desk.Desk.Desk, declared.end.End.End, Register.StandsFor}
-use Rattle.desk_core.proofs.Found.{leaves_alone, leaves_still}
-use Rattle.desk_core.proofs.Readings.{stands_still}
+use Rattle.register_desk.specs.declared.end.End.TheVariants.{Memory, Store, Broken, ReadFault, WriteFault, BadHeader}
+use Rattle.register_desk.specs.Desk.{ChangesNothing, EndsBy, GoesOn, IsBroken, IsClean, IsWhole, LeavesEither}
+use Rattle.register_desk.specs.{declared.desk.Desk.Desk, declared.end.End.End, Register.StandsFor}
+use Rattle.register_desk.proofs.Found.{leaves_alone, leaves_still}
+use Rattle.register_desk.proofs.Readings.{stands_still}
 use Rattle.register_http.specs.Action.{Acts, IsTextOf, MayChange, StopsAsked}
 use Rattle.register_http.specs.ActionReply.{found_reply, history_after_asked, reply_to_asked, uses_register}
 

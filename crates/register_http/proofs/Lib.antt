@@ -1,2 +1,3 @@
 mod ActingLemmas
 mod ServingLemmas
+pub mod Served

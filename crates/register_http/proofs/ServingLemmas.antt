@@ -7,12 +7,12 @@ use Rattle.sqlite_trees.specs.declared.store.Store.{Ghosts}
 use Rattle.register_requests.specs.{declared.request.Request.Request, Request.IsRequest}
 use Rattle.moment_core.specs.Moment.{IsMoment}
 use Rattle.register_core.specs.Fold.{history}
-use Rattle.desk_core.specs.declared.end.End.TheVariants.{Memory, Store, Broken, ReadFault, WriteFault, BadHeader}
-use Rattle.desk_core.specs.declared.outcome.Finish.TheVariants.{Ended, AtEnd}
-use Rattle.desk_core.specs.Desk.{IsClean, IsWhole, LeavesEither}
-use Rattle.desk_core.specs.{declared.desk.Desk.Desk, declared.end.End.End, declared.outcome.Finish.Finish}
-use Rattle.desk_core.specs.{declared.outcome.Outcome.Outcome, Register.StandsFor}
-use Rattle.desk_core.proofs.{Found.leaves_alone, Appended.appends_none}
+use Rattle.register_desk.specs.declared.end.End.TheVariants.{Memory, Store, Broken, ReadFault, WriteFault, BadHeader}
+use Rattle.register_desk.specs.declared.outcome.Finish.TheVariants.{Ended, AtEnd}
+use Rattle.register_desk.specs.Desk.{IsClean, IsWhole, LeavesEither}
+use Rattle.register_desk.specs.{declared.desk.Desk.Desk, declared.end.End.End, declared.outcome.Finish.Finish}
+use Rattle.register_desk.specs.{declared.outcome.Outcome.Outcome, Register.StandsFor}
+use Rattle.register_desk.proofs.{Found.leaves_alone, Appended.appends_none}
 use Rattle.http_messages.specs.declared.asked.AskFault.{AskFault}
 use Rattle.http_messages.specs.declared.asked.Asked.TheVariants.{Reject, ShowKey, ShowUsage, Apply}
 use Rattle.http_messages.specs.{declared.asked.Asked.Asked, CommandBody.IsAskedInRange, Content.HasRead}

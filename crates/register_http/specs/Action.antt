@@ -5,9 +5,9 @@ use Rattle.std.specs.declared.alloc.Global.{Global}
 use Rattle.sqlite_trees.specs.declared.store.Store.{Ghosts}
 use Rattle.register_core.specs.declared.reply.Reply as core
 use Rattle.register_requests.specs.declared.request.Request.{Request}
-use Rattle.desk_core.specs.declared.end.End.TheVariants.{Memory, Store, Broken, ReadFault, WriteFault, BadHeader}
-use Rattle.desk_core.specs.Desk.{ChangesNothing, EndsBy, GoesOn, IsBroken, IsClean, IsWhole, LeavesEither}
-use Rattle.desk_core.specs.{declared.desk.Desk.Desk, declared.end.End.End, Register.StandsFor}
+use Rattle.register_desk.specs.declared.end.End.TheVariants.{Memory, Store, Broken, ReadFault, WriteFault, BadHeader}
+use Rattle.register_desk.specs.Desk.{ChangesNothing, EndsBy, GoesOn, IsBroken, IsClean, IsWhole, LeavesEither}
+use Rattle.register_desk.specs.{declared.desk.Desk.Desk, declared.end.End.End, Register.StandsFor}
 use Rattle.http_messages.specs.declared.asked.Asked.TheVariants.{Reject, ShowKey, ShowUsage, Apply}
 use Rattle.http_messages.specs.{declared.asked.Rejection.Rejection, HttpReply.HttpReply, HttpReply.reply_bytes}
 use Rattle.http_messages.specs.{declared.asked.Asked.Asked, AnswerText.outcome_reply, Rejection.reply_of}

@@ -3,7 +3,7 @@ use Rattle.std.specs.Prelude.{ℕ, Bool, true, false, List, [], ◌∷◌, Optio
 use Rattle.register_requests.specs.declared.request.Request.{Request}
 use Rattle.register_core.specs.declared.reply.Refusal.TheVariants.{UnknownKey}
 use Rattle.register_core.specs.{Answer.outcome, Fold.history, Verdict.answer}
-use Rattle.desk_core.specs.Shown.{shown, usage}
+use Rattle.register_desk.specs.Shown.{shown, usage}
 use Rattle.http_messages.specs.declared.asked.Asked.{Asked}
 use Rattle.http_messages.specs.declared.asked.Asked.TheVariants.{Reject, ShowKey, ShowUsage, Apply}
 use Rattle.http_messages.specs.AnswerText.{key_reply, outcome_reply, usage_reply}

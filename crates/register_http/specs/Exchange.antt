@@ -4,11 +4,11 @@ use Rattle.std.specs.Prelude.{IfOk}
 use Rattle.std.specs.declared.alloc.Global.{Global}
 use Rattle.sqlite_trees.specs.declared.store.Store.{Ghosts}
 use Rattle.streams.specs.{declared.watched.Watched.Watched, Watched.IsFaulted}
-use Rattle.desk_core.specs.declared.end.End.TheVariants.{Memory, ReadFault, WriteFault}
-use Rattle.desk_core.specs.declared.outcome.Finish.TheVariants.{AtEnd, Ended}
-use Rattle.desk_core.specs.{declared.desk.Desk.Desk, declared.end.End.End, declared.outcome.Finish.Finish}
-use Rattle.desk_core.specs.Run.{TookBytes, max_idle_turns}
-use Rattle.desk_core.specs.declared.outcome.Outcome.{Outcome}
+use Rattle.register_desk.specs.declared.end.End.TheVariants.{Memory, ReadFault, WriteFault}
+use Rattle.register_desk.specs.declared.outcome.Finish.TheVariants.{AtEnd, Ended}
+use Rattle.register_desk.specs.{declared.desk.Desk.Desk, declared.end.End.End, declared.outcome.Finish.Finish}
+use Rattle.register_desk.specs.Run.{TookBytes, max_idle_turns}
+use Rattle.register_desk.specs.declared.outcome.Outcome.{Outcome}
 use Rattle.http_messages.specs.{declared.asked.AskFault.AskFault, declared.asked.Asked.Asked, Asked.AsksFor}
 use Rattle.http_messages.specs.declared.asked.AskFault.TheVariants as fault
 use Rattle.register_http.specs.{Action.Acts, SentReply.Sends, SentReply.end_reply, SentReply.sent_text}

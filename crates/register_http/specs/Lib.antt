@@ -4,3 +4,4 @@ pub mod SentReply
 pub mod Exchange
 pub mod OneItem
 pub mod Within
+pub mod ServedExchanges

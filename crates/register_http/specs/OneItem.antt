@@ -3,10 +3,10 @@ use Rattle.std.specs.Prelude.{◌≢◌, ◌⊎◌, List, [], ◌∷◌, Option,
 use Rattle.sqlite_trees.specs.declared.store.Store.{Ghosts}
 use Rattle.register_requests.specs.{declared.request.Request.Request, Request.IsRequest}
 use Rattle.register_core.specs.Fold.{history}
-use Rattle.desk_core.specs.declared.outcome.Finish.TheVariants.{Ended}
-use Rattle.desk_core.specs.{declared.desk.Desk.Desk, declared.end.End.TheVariants.Store}
-use Rattle.desk_core.specs.Desk.{IsWhole, LeavesEither}
-use Rattle.desk_core.specs.{declared.outcome.Finish.Finish, Register.StandsFor}
+use Rattle.register_desk.specs.declared.outcome.Finish.TheVariants.{Ended}
+use Rattle.register_desk.specs.{declared.desk.Desk.Desk, declared.end.End.TheVariants.Store}
+use Rattle.register_desk.specs.Desk.{IsWhole, LeavesEither}
+use Rattle.register_desk.specs.{declared.outcome.Finish.Finish, Register.StandsFor}
 
 -- A whole desk of the history h is one of h still, or of h with the item after it; but where the database refused, a
 -- stop leaves the register of one of the two.

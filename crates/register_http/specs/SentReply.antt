@@ -1,8 +1,8 @@
 -- What an exchange writes.
 use Rattle.std.specs.Prelude.{◌≡◌, ◌⊎◌, ℕ, List, [], codes, length, Option, String, string_bytes, Result, Ok, Err}
 use Rattle.std.specs.{declared.alloc.Global.Global, Io.KnownBytes.Appends}
-use Rattle.desk_core.specs.declared.end.End.TheVariants.{Memory, Store, Broken, ReadFault, WriteFault, BadHeader}
-use Rattle.desk_core.specs.{declared.end.End.End, Run.IsPrefixOf}
+use Rattle.register_desk.specs.declared.end.End.TheVariants.{Memory, Store, Broken, ReadFault, WriteFault, BadHeader}
+use Rattle.register_desk.specs.{declared.end.End.End, Run.IsPrefixOf}
 
 -- The replies to ends, which are fixed bytes: 503 where memory gave out, 500 where the database refused or the desk is
 -- broken. After the ends of a stream nothing is written.

@@ -3,21 +3,21 @@ ghost use Rattle.std.specs.Prelude.{◌≡◌, ℕ, List, false, Ok, Err, IfErr,
 ghost use Rattle.register_requests.specs.{Request.IsRequest, declared.request.Request.Request};
 ghost use Rattle.register_core.specs.declared.reply.Refusal.TheVariants.{UnknownKey};
 ghost use Rattle.http_messages.specs.{AnswerText.outcome_reply, CommandBody.IsAskedInRange};
-ghost use Rattle.desk_core.specs.Desk.{IsClean, IsWhole, KeepsToSteps};
-ghost use Rattle.desk_core.specs.Register.{StandsFor};
+ghost use Rattle.register_desk.specs.Desk.{IsClean, IsWhole, KeepsToSteps};
+ghost use Rattle.register_desk.specs.Register.{StandsFor};
 ghost use Rattle.register_http.specs.Exchange.{EndsAs, Exchanges, LeavesHttpReader};
 ghost use Rattle.register_http.specs.Exchange.{LeavesHttpWriter};
 ghost use Rattle.register_http.specs.SentReply.{Sends, end_reply, sent_text};
 ghost use Rattle.register_http.specs.{Action.Acts, Action.IsTextOf, ActionReply.request_at};
-ghost use Rattle.register_http.specs.{Within.Exchange.KeepsWriter, OneItem.LeavesOne};
+ghost use Rattle.register_http.specs.{Within.KeepsWriter, OneItem.LeavesOne};
 
-use desk_core::{Desk, End, Finish, Outcome};
 use http_messages::{
     AskFault, Asked, Routes, Sent, answer_reply_text, key_reply_text, read_asked, rejection_text,
     usage_reply_text,
 };
 use moment_core::Moment;
 use register_core::{Answer, Refusal, Request};
+use register_desk::{Desk, End, Finish, Outcome};
 use sqlite::Alter;
 use std::alloc::{AllocError, Global};
 use std::io::{Read, Write};

@@ -6,8 +6,8 @@ use Rattle.sqlite.specs.Files.{over_files}
 use Rattle.memory_disk.specs.declared.MemoryDisk.{MemoryDisk}
 use Rattle.memory_disk.specs.contracts.MemoryDiskDisk.TheImpl as disk
 use Rattle.register_requests.specs.declared.request.Request.{Request}
-use Rattle.desk_core.specs.{declared.end.End.TheVariants.Broken, declared.outcome.Finish.TheVariants.Ended}
-use Rattle.desk_core.specs.{declared.desk.Desk.Desk, declared.outcome.Outcome.Outcome, Input.HasItems, Run.RunsOver}
+use Rattle.register_desk.specs.{declared.end.End.TheVariants.Broken, declared.outcome.Finish.TheVariants.Ended}
+use Rattle.register_desk.specs.{declared.desk.Desk.Desk, declared.outcome.Outcome.Outcome, Input.HasItems, Run.RunsOver}
 
 -- A database file in memory, with its log.
 abbrev pub MemoryStore : Type 0

@@ -2,8 +2,8 @@
 #![tactic(auto)]
 
 ghost use Rattle.std.specs.Prelude.{◌≡◌, ◌⊎◌, false, IfOk, IfErr};
-ghost use Rattle.desk_core.specs.Run.{LeavesReader, LeavesWriter};
-ghost use Rattle.register_in_memory.specs.{InMemory.RunsInMemory, Within.InMemory.RunsNew};
+ghost use Rattle.register_desk.specs.Run.{LeavesReader, LeavesWriter};
+ghost use Rattle.register_in_memory.specs.{InMemory.RunsInMemory, Within.RunsNew};
 ghost use Rattle.sqlite.specs.Held.{state};
 
 use memory_disk::MemoryDisk;

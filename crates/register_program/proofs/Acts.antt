@@ -4,15 +4,15 @@ use Rattle.std.proofs.Common.{◌∙◌, refl}
 use Rattle.sqlite_trees.specs.declared.store.Store.{Ghosts}
 use Rattle.sqlite.specs.Recovery.{Image}
 use Rattle.register_requests.specs.declared.request.Request.{Request}
-use Rattle.desk_core.specs.declared.end.End.TheVariants.{Memory, Store, Broken, ReadFault, WriteFault, BadHeader}
-use Rattle.desk_core.specs.declared.outcome.Finish.TheVariants.{AtEnd, Ended}
-use Rattle.desk_core.specs.{declared.opening.OpenRefusal.OpenRefusal, declared.outcome.Outcome.Outcome}
-use Rattle.desk_core.specs.Run.{LeavesReader, LeavesWriter}
-use Rattle.desk_core.specs.Input.{HasItems}
+use Rattle.register_desk.specs.declared.end.End.TheVariants.{Memory, Store, Broken, ReadFault, WriteFault, BadHeader}
+use Rattle.register_desk.specs.declared.outcome.Finish.TheVariants.{AtEnd, Ended}
+use Rattle.register_desk.specs.{declared.opening.OpenRefusal.OpenRefusal, declared.outcome.Outcome.Outcome}
+use Rattle.register_desk.specs.Run.{LeavesReader, LeavesWriter}
+use Rattle.register_desk.specs.Input.{HasItems}
 use Rattle.register_in_memory.specs.InMemory.{RunsInMemory}
-use Rattle.desk_core.specs.{Run.LeavesDesk, declared.desk.Desk.Desk, declared.desk.DeskMark.DeskMark}
-use Rattle.desk_core.specs.Desk.{IsMarkOf, IsWhole}
-use Rattle.desk_core.specs.declared.outcome.Finish.{Finish}
+use Rattle.register_desk.specs.{Run.LeavesDesk, declared.desk.Desk.Desk, declared.desk.DeskMark.DeskMark}
+use Rattle.register_desk.specs.Desk.{IsMarkOf, IsWhole}
+use Rattle.register_desk.specs.declared.outcome.Finish.{Finish}
 use Rattle.register_words.specs.declared.words.Job.{Job}
 use Rattle.register_program.specs.Job.{BreaksSo, EndsSo, Performs, status_after}
 use Rattle.register_program.specs.Ends.{EndsRun, BreaksAs, BreaksNone}

@@ -11,17 +11,17 @@ use Rattle.sqlite.specs.Recovery.{Image}
 use Rattle.register_requests.specs.declared.request.Request.{Request}
 use Rattle.register_core.specs.Fold.{IsLawful, answers, history}
 use Rattle.register_core.specs.{declared.reply.Reply.Reply, declared.reply.Refusal.Refusal}
-use Rattle.desk_core.specs.declared.end.End.TheVariants.{Memory, Store, Broken, ReadFault, WriteFault, BadHeader}
-use Rattle.desk_core.specs.declared.opening.OpenRefusal.{OpenRefusal}
-use Rattle.desk_core.specs.declared.outcome.Finish.TheVariants.{AtEnd, Ended}
-use Rattle.desk_core.specs.DatabaseFiles.{HoldsOneOf, HoldsRegister}
+use Rattle.register_desk.specs.declared.end.End.TheVariants.{Memory, Store, Broken, ReadFault, WriteFault, BadHeader}
+use Rattle.register_desk.specs.declared.opening.OpenRefusal.{OpenRefusal}
+use Rattle.register_desk.specs.declared.outcome.Finish.TheVariants.{AtEnd, Ended}
+use Rattle.register_desk.specs.DatabaseFiles.{HoldsOneOf, HoldsRegister}
 use Rattle.machine_traits.specs.Found.{HoldsNothing}
-use Rattle.desk_core.specs.Lives.{AreInRange, Life, MayApplyOneMore, after, life_of}
-use Rattle.desk_core.specs.Run.{Answered as AnsweredWhole, AnsweredInPart, IsPrefixOf, RunsOver, answer_line}
-use Rattle.desk_core.specs.Run.{answer_lines}
-use Rattle.desk_core.specs.{declared.desk.Desk.Desk, declared.outcome.Finish.Finish, Input.HasItems}
+use Rattle.register_desk.specs.Lives.{AreInRange, Life, MayApplyOneMore, after, life_of}
+use Rattle.register_desk.specs.Run.{Answered as AnsweredWhole, AnsweredInPart, IsPrefixOf, RunsOver, answer_line}
+use Rattle.register_desk.specs.Run.{answer_lines}
+use Rattle.register_desk.specs.{declared.desk.Desk.Desk, declared.outcome.Finish.Finish, Input.HasItems}
 use Rattle.register_desk.proofs.{LinesCut.items_in, Lives.lawful_on}
-use Rattle.desk_core.proofs.{Appended.appends_none, Lived.items_in_range}
+use Rattle.register_desk.proofs.{Appended.appends_none, Lived.items_in_range}
 use Rattle.register_program.specs.declared.refused.RefusedFiles.TheVariants.{Failed, Shut}
 use Rattle.register_program.specs.FileCalls.{Exports, LivesAnyway, MakesFile, OpensFirst, Reports, RunsLines}
 use Rattle.register_program.specs.FileCalls.{ServesExchanges}
@@ -36,7 +36,7 @@ use Rattle.machine_traits.specs.declared.files.Closed.{Closed}
 use Rattle.register_program.specs.{declared.refused.Refused.Refused, declared.refused.RefusedFiles.RefusedFiles}
 use Rattle.register_program.specs.{declared.acting.Done.Done, Job.Performs}
 use Rattle.machine_traits.specs.Closing.{LeftIn}
-use Rattle.register_serving.proofs.Served.{AppliesWithin, applies_within, served_life}
+use Rattle.register_http.proofs.Served.{AppliesWithin, applies_within, served_life}
 use Rattle.register_words.specs.declared.words.Job.{Job}
 use Rattle.register_words.specs.declared.words.Job.TheVariants.{Export, Import, Init, Report, Run, Serve}
 

@@ -1,27 +1,27 @@
 -- What is said of closed files by what is left of a desk's database.
 use Rattle.sqlite_trees.specs.{declared.store.Store.Ghosts, View.IsClean as IsCleanStore}
 use Rattle.sqlite.specs.Recovery.{Image}
-use Rattle.desk_core.specs.declared.end.End.TheVariants.{BadHeader, WriteFault}
-use Rattle.desk_core.specs.Desk.{ChangesNothing, IsClean, IsWhole, LeavesEither}
-use Rattle.desk_core.specs.{declared.desk.Desk.Desk, DatabaseFiles.HoldsRegister}
+use Rattle.register_desk.specs.declared.end.End.TheVariants.{BadHeader, WriteFault}
+use Rattle.register_desk.specs.Desk.{ChangesNothing, IsClean, IsWhole, LeavesEither}
+use Rattle.register_desk.specs.{declared.desk.Desk.Desk, DatabaseFiles.HoldsRegister}
 use Rattle.machine_traits.specs.Found.{HoldsNothing}
-use Rattle.desk_core.specs.Lives.{LeavesLife, DeskLives as RunsSome}
-use Rattle.desk_core.specs.declared.desk.DeskMark.{DeskMark}
-use Rattle.desk_core.specs.{declared.outcome.Finish.Finish, declared.outcome.Finish.TheVariants.Ended}
-use Rattle.desk_core.specs.Run.{LeavesDesk, RunsOver}
-use Rattle.desk_core.specs.{declared.outcome.Outcome.Outcome, Register.StandsFor}
+use Rattle.register_desk.specs.Lives.{LeavesLife, DeskLives as RunsSome}
+use Rattle.register_desk.specs.declared.desk.DeskMark.{DeskMark}
+use Rattle.register_desk.specs.{declared.outcome.Finish.Finish, declared.outcome.Finish.TheVariants.Ended}
+use Rattle.register_desk.specs.Run.{LeavesDesk, RunsOver}
+use Rattle.register_desk.specs.{declared.outcome.Outcome.Outcome, Register.StandsFor}
 use Rattle.register_program.specs.FileCalls.{Exports, ImportsRows, LivesAnyway, OpensFirst, Reports, RunsLines}
 use Rattle.register_program.specs.FileCalls.{ServesExchanges}
 use Rattle.register_program.specs.Life.{LeavesInFiles, LeavesLifeInFiles, LivesSome, Refuses}
 use Rattle.register_program.specs.declared.register_file.FileLife.{FileLife}
 use Rattle.register_program.specs.Closing.{ClosesDesk, OfClosed}
 use Rattle.machine_traits.specs.declared.files.Closed.{Closed}
-use Rattle.register_program.specs.{Within.Closing.LeavesAsDesk, declared.refused.Refused.Refused}
+use Rattle.register_program.specs.{Within.LeavesAsDesk, declared.refused.Refused.Refused}
 use Rattle.std.proofs.Common.{◌≡◌, ◌∙◌, ◌+◌, ℕ, List, take, Option, Result, Ok, Err, ap, subst, sym}
 use Rattle.std.specs.Prelude.{IsErrAnd}
 use Rattle.register_requests.specs.declared.request.Request.{Request}
 use Rattle.register_core.specs.Fold.{IsLawful, history}
-use Rattle.desk_core.proofs.Found.{leaves_alone, leaves_still}
+use Rattle.register_desk.proofs.Found.{leaves_alone, leaves_still}
 use Rattle.register_words.specs.declared.values.Terms.{Terms}
 
 -- what follows from what is said of either set of files is said of both

@@ -7,17 +7,17 @@ use Rattle.sqlite.specs.{Files.AreFoundIn, Files.HoldsDatabase, Files.IsEmpty, H
 use Rattle.sqlite.specs.{Recovery.Image, State.State, State.HasCleanDisk, Tree.Trees}
 use Rattle.register_requests.specs.{declared.request.Request.Request, declared.version.Version.Version}
 use Rattle.register_core.specs.Fold.{IsLawful, IsLawfulIn}
-use Rattle.desk_core.specs.declared.opening.OpenRefusal.TheVariants.{Memory, NewerVersion, NotARegister, Store}
-use Rattle.desk_core.specs.DatabaseFiles.{HoldsRegister}
+use Rattle.register_desk.specs.declared.opening.OpenRefusal.TheVariants.{Memory, NewerVersion, NotARegister, Store}
+use Rattle.register_desk.specs.DatabaseFiles.{HoldsRegister}
 use Rattle.machine_traits.specs.Found.{HoldsNothing, ShowsFiles}
-use Rattle.desk_core.specs.OpenRefusal.{IsMadeIn, IsReasonOf, IsTakenIn, LeavesBehind, LeavesCommitted, LeavesMade}
-use Rattle.desk_core.specs.OpenRefusal.{LeavesStored, RefusesNoTable, ShowsTable, connection_in, refusal_in}
-use Rattle.desk_core.specs.{declared.opening.OpenRefusal.OpenRefusal, declared.opening.Unopened.Unopened}
-use Rattle.desk_core.specs.{declared.desk.Desk.Desk, Within.Register.HasHistoryIn}
-use Rattle.desk_core.proofs.Found.{finds_nothing, finds_register, holds_now, lawful_there, shows_table}
+use Rattle.register_desk.specs.OpenRefusal.{IsMadeIn, IsReasonOf, IsTakenIn, LeavesBehind, LeavesCommitted, LeavesMade}
+use Rattle.register_desk.specs.OpenRefusal.{LeavesStored, RefusesNoTable, ShowsTable, connection_in, refusal_in}
+use Rattle.register_desk.specs.{declared.opening.OpenRefusal.OpenRefusal, declared.opening.Unopened.Unopened}
+use Rattle.register_desk.specs.{declared.desk.Desk.Desk, Within.HasHistoryIn}
+use Rattle.register_desk.proofs.Found.{finds_nothing, finds_register, holds_now, lawful_there, shows_table}
 use Rattle.machine_traits.proofs.Empty.{finds_empty}
-use Rattle.desk_core.proofs.Found.{registered_left}
-use Rattle.desk_core.proofs.{NoRegister.passes_nothing, Opened.stored_in}
+use Rattle.register_desk.proofs.Found.{registered_left}
+use Rattle.register_desk.proofs.{NoRegister.passes_nothing, Opened.stored_in}
 use Rattle.register_program.specs.declared.refused.RefusedFiles.{RefusedFiles}
 use Rattle.register_program.specs.declared.refused.RefusedFiles.TheVariants.{Failed, Shut}
 use Rattle.register_program.specs.Life.{ClosesAs, GivesBack, IsCommittedOrMade, IsFoundIn, IsOfFailed, LeavesBehindIn}

@@ -3,7 +3,7 @@ use Rattle.std.proofs.Common.{ℕ, List, [], Option, None, Some, Result, Ok, Err
 use Rattle.std.proofs.lemmas.List.{append-nil, take-append-drop}
 use Rattle.std.specs.{Prelude.IfErr, Prelude.OnOk, Io.KnownBytes.Appends}
 use Rattle.streams.specs.{declared.watched.Watched.Watched, declared.watched.WriteFault.WriteFault, Watched.IsFaulted}
-use Rattle.desk_core.specs.Run.{max_idle_turns}
+use Rattle.register_desk.specs.Run.{max_idle_turns}
 use Rattle.register_program.specs.Faults.{Tells}
 
 -- no byte more

@@ -1,8 +1,8 @@
 -- What the program does where it has no words but its own name, and so no file.
 use Rattle.std.specs.Prelude.{◌≡◌, ℕ, List, Option, Result, Ok, Err, IfOk}
 use Rattle.streams.specs.declared.watched.Watched.{Watched}
-use Rattle.desk_core.specs.declared.opening.OpenRefusal.{OpenRefusal}
-use Rattle.desk_core.specs.{declared.outcome.Finish.Finish, declared.outcome.Outcome.Outcome}
+use Rattle.register_desk.specs.declared.opening.OpenRefusal.{OpenRefusal}
+use Rattle.register_desk.specs.{declared.outcome.Finish.Finish, declared.outcome.Outcome.Outcome}
 use Rattle.register_in_memory.specs.InMemory.{RunsInMemory}
 use Rattle.register_program.specs.Job.{line_after, status_after}
 use Rattle.register_program.specs.{declared.acting.Outputs.Outputs, Ends.EndsRun, Faults.Tells}

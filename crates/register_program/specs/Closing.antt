@@ -2,7 +2,7 @@
 use Rattle.sqlite_trees.specs.declared.store.Store.{Ghosts}
 use Rattle.sqlite.specs.Recovery.{Image}
 use Rattle.machine_traits.specs.{declared.files.Closed.Closed, Closing.ClosesFiles, Closing.LeftIn}
-use Rattle.desk_core.specs.{declared.desk.Desk.Desk, Desk.connection_of}
+use Rattle.register_desk.specs.{declared.desk.Desk.Desk, Desk.connection_of}
 use Rattle.register_program.specs.Life.{ClosesAs}
 
 module _ {S : Type 0} (g : Ghosts S) (may_leave : S → Image → Type 0) where

@@ -1,11 +1,11 @@
 -- What an end blames has its cause there.
 use Rattle.std.specs.Prelude.{◌≡◌, ◌≢◌, ◌⊎◌, ℕ, true, false, List, Option, Some}
 use Rattle.streams.specs.{declared.watched.Watched.Watched, Watched.IsFaulted}
-use Rattle.desk_core.specs.declared.end.End.TheVariants.{Memory, Store, Broken, ReadFault, WriteFault, BadHeader}
-use Rattle.desk_core.specs.declared.outcome.Finish.TheVariants.{AtEnd, Ended}
-use Rattle.desk_core.specs.Run.{LeavesReader, LeavesWriter, max_reads}
-use Rattle.desk_core.specs.declared.desk.DeskMark.{DeskMark}
-use Rattle.desk_core.specs.{declared.outcome.Finish.Finish, declared.outcome.Outcome.Outcome, Desk.was_broken}
+use Rattle.register_desk.specs.declared.end.End.TheVariants.{Memory, Store, Broken, ReadFault, WriteFault, BadHeader}
+use Rattle.register_desk.specs.declared.outcome.Finish.TheVariants.{AtEnd, Ended}
+use Rattle.register_desk.specs.Run.{LeavesReader, LeavesWriter, max_reads}
+use Rattle.register_desk.specs.declared.desk.DeskMark.{DeskMark}
+use Rattle.register_desk.specs.{declared.outcome.Finish.Finish, declared.outcome.Outcome.Outcome, Desk.was_broken}
 use Rattle.register_report.specs.{Import.StopsAtRecord, TextWriter.EndsText}
 
 -- 31 leaves the desk broken, which was whole as it was opened, and any other end leaves it whole

@@ -2,11 +2,11 @@
 use Rattle.std.specs.Prelude.{◌≡◌, ◌≢◌, ◌⊎◌, ℕ, List, [], ◌∷◌, ◌++◌, Option, codes}
 use Rattle.std.specs.Io.KnownBytes.{Appends}
 use Rattle.streams.specs.{Lines.line_feed, declared.watched.Watched.Watched, Watched.IsFaulted}
-use Rattle.desk_core.specs.declared.outcome.Finish.TheVariants.{AtEnd, Ended}
-use Rattle.desk_core.specs.{declared.end.End.End, declared.end.End.TheVariants.Memory}
-use Rattle.desk_core.specs.{declared.opening.OpenRefusal.OpenRefusal, declared.outcome.Finish.Finish, End.end_name}
-use Rattle.desk_core.specs.Run.{IsPrefixOf, max_idle_turns}
-use Rattle.desk_core.specs.{End.exit_status, OpenRefusal.open_refusal_name}
+use Rattle.register_desk.specs.declared.outcome.Finish.TheVariants.{AtEnd, Ended}
+use Rattle.register_desk.specs.{declared.end.End.End, declared.end.End.TheVariants.Memory}
+use Rattle.register_desk.specs.{declared.opening.OpenRefusal.OpenRefusal, declared.outcome.Finish.Finish, End.end_name}
+use Rattle.register_desk.specs.Run.{IsPrefixOf, max_idle_turns}
+use Rattle.register_desk.specs.{End.exit_status, OpenRefusal.open_refusal_name}
 use Rattle.register_program.specs.Act.{usage_status}
 
 -- The line on standard error with this name. Own.

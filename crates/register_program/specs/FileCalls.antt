@@ -7,18 +7,18 @@ use Rattle.key_rows.specs.Report.{horizon, report_text}
 use Rattle.key_rows.specs.{declared.key_row.KeyRow.KeyRow, DueRows.AreListed, Export.export_text}
 use Rattle.register_requests.specs.declared.request.Request.{Request}
 use Rattle.register_core.specs.{Fold.IsLawful, History.latest, History.period}
-use Rattle.desk_core.specs.declared.outcome.Finish.TheVariants.{Ended}
-use Rattle.desk_core.specs.DatabaseFiles.{HoldsRegister}
+use Rattle.register_desk.specs.declared.outcome.Finish.TheVariants.{Ended}
+use Rattle.register_desk.specs.DatabaseFiles.{HoldsRegister}
 use Rattle.machine_traits.specs.Found.{HoldsNothing, ShowsFiles}
-use Rattle.desk_core.specs.{declared.desk.Desk.Desk, declared.end.End.TheVariants.BadHeader, Desk.IsClean}
-use Rattle.desk_core.specs.{Desk.IsWhole, Input.HasItems, KeyRows.all_rows, OpenRefusal.ShowsTable}
+use Rattle.register_desk.specs.{declared.desk.Desk.Desk, declared.end.End.TheVariants.BadHeader, Desk.IsClean}
+use Rattle.register_desk.specs.{Desk.IsWhole, Input.HasItems, KeyRows.all_rows, OpenRefusal.ShowsTable}
 use Rattle.register_program.specs.declared.register_file.FileLife.{FileLife}
 use Rattle.register_program.specs.Life.{EndsUnbegun, LeavesInFiles, LeavesMadeIn, LivesOver, LivesSome, Refuses}
 use Rattle.register_program.specs.Life.{RefusesMaking, ServesInFiles, WritesOut}
 use Rattle.register_program.specs.{declared.refused.Refused.Refused, Closing.OfClosed}
 use Rattle.machine_traits.specs.declared.files.Closed.{Closed}
 use Rattle.register_program.specs.Opening.{OpensRegister}
-use Rattle.register_serving.specs.ServedExchanges.{EndsServing}
+use Rattle.register_http.specs.ServedExchanges.{EndsServing}
 use Rattle.register_words.specs.declared.values.Terms.{Terms}
 use Rattle.register_report.specs.ImportRows.{BeginsWithHeader, HasRowItems}
 

@@ -2,9 +2,9 @@
 use Rattle.std.specs.Prelude.{◌≡◌, ℕ, List, Option, Result, Ok, Err, IfOk, OnErr}
 use Rattle.sqlite_trees.specs.declared.store.Store.{Ghosts}
 use Rattle.sqlite.specs.Recovery.{Image}
-use Rattle.desk_core.specs.declared.opening.OpenRefusal.{OpenRefusal}
-use Rattle.desk_core.specs.{declared.desk.DeskMark.DeskMark, declared.outcome.Finish.Finish}
-use Rattle.desk_core.specs.{declared.outcome.Finish.TheVariants.AtEnd, declared.outcome.Outcome.Outcome}
+use Rattle.register_desk.specs.declared.opening.OpenRefusal.{OpenRefusal}
+use Rattle.register_desk.specs.{declared.desk.DeskMark.DeskMark, declared.outcome.Finish.Finish}
+use Rattle.register_desk.specs.{declared.outcome.Finish.TheVariants.AtEnd, declared.outcome.Outcome.Outcome}
 use Rattle.streams.specs.declared.watched.Watched.{Watched}
 use Rattle.register_words.specs.declared.words.Job.{Job}
 use Rattle.register_words.specs.declared.words.Job.TheVariants.{Init, Run, Import, Export, Report, Serve}
@@ -14,7 +14,7 @@ use Rattle.register_program.specs.FileCalls.{Exports, ImportsRows, MakesFile, Re
 use Rattle.register_program.specs.{declared.acting.Done.Done, declared.acting.Inputs.Inputs, Act.unopened_status}
 use Rattle.register_program.specs.Faults.{finish_line, refusal_line}
 use Rattle.register_program.specs.Act.{status_of}
-use Rattle.register_serving.specs.ServedExchanges.{ExplainsEnd}
+use Rattle.register_http.specs.ServedExchanges.{ExplainsEnd}
 
 -- how it ended: at an end of the register, which one that was made has not, or before that
 abbrev pub end_of : {S U : Type 0} → Done S U → Result Finish OpenRefusal

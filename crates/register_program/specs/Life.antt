@@ -5,18 +5,18 @@ use Rattle.sqlite.specs.{Files.AreFoundIn, Files.HoldsDatabase, Held.Held, Held.
 use Rattle.sqlite.specs.{Recovery.Image, State.State, State.HasCleanDisk, Tree.Trees}
 use Rattle.register_requests.specs.declared.request.Request.{Request}
 use Rattle.register_core.specs.Fold.{IsLawful, history}
-use Rattle.desk_core.specs.declared.end.End.TheVariants.{BadHeader, WriteFault}
-use Rattle.desk_core.specs.declared.opening.OpenRefusal.{OpenRefusal}
-use Rattle.desk_core.specs.declared.opening.OpenRefusal.TheVariants.{Memory, NotARegister, Store}
+use Rattle.register_desk.specs.declared.end.End.TheVariants.{BadHeader, WriteFault}
+use Rattle.register_desk.specs.declared.opening.OpenRefusal.{OpenRefusal}
+use Rattle.register_desk.specs.declared.opening.OpenRefusal.TheVariants.{Memory, NotARegister, Store}
 use Rattle.machine_traits.specs.declared.files.ConnectError.{ConnectError}
 use Rattle.machine_traits.specs.declared.files.ConnectError.TheVariants as errors
-use Rattle.desk_core.specs.DatabaseFiles.{HoldsLife, HoldsOneOf, HoldsRegister}
+use Rattle.register_desk.specs.DatabaseFiles.{HoldsLife, HoldsOneOf, HoldsRegister}
 use Rattle.machine_traits.specs.Found.{HoldsNothing, ShowsFiles}
-use Rattle.desk_core.specs.OpenRefusal.{IsMadeIn, IsTakenIn, IsReasonOf, RefusesNoTable, ShowsTable, connection_in}
-use Rattle.desk_core.specs.OpenRefusal.{refusal_in}
-use Rattle.desk_core.specs.{declared.desk.Desk.Desk, declared.opening.Unopened.Unopened}
-use Rattle.desk_core.specs.{declared.outcome.Finish.Finish, declared.outcome.Finish.TheVariants.Ended}
-use Rattle.desk_core.specs.{declared.outcome.Outcome.Outcome, Lives.AreInRange, Run.RunsOver}
+use Rattle.register_desk.specs.OpenRefusal.{IsMadeIn, IsTakenIn, IsReasonOf, RefusesNoTable, ShowsTable, connection_in}
+use Rattle.register_desk.specs.OpenRefusal.{refusal_in}
+use Rattle.register_desk.specs.{declared.desk.Desk.Desk, declared.opening.Unopened.Unopened}
+use Rattle.register_desk.specs.{declared.outcome.Finish.Finish, declared.outcome.Finish.TheVariants.Ended}
+use Rattle.register_desk.specs.{declared.outcome.Outcome.Outcome, Lives.AreInRange, Run.RunsOver}
 use Rattle.register_program.specs.declared.refused.RefusedFiles.TheVariants.{Failed, Shut}
 use Rattle.register_program.specs.{declared.refused.Refused.Refused, declared.refused.RefusedFiles.RefusedFiles}
 use Rattle.register_report.specs.{Import.EndsWithoutHeader, TextWriter.WritesText}
@@ -115,8 +115,7 @@ module _ {S : Type 0} (g : Ghosts S) (found : Image) where
     pub leaves : LeavesBehindIn refusal found (state g old) may_leave
 
   -- Files in which no register was made. Where a table of one is to blame it is there; where one is there, a stop
-  -- leaves
-  -- what was found; else it leaves what was committed, or that with an empty register made in it.
+  -- leaves what was found; else it leaves what was committed, or that with an empty register made in it.
   pub record RefusesToMake (refusal : OpenRefusal) (may_leave : Image → Type 0) : Type 0 where
     pub old : Held S
     pub shows : ShowsFiles found (state g old)
@@ -192,8 +191,7 @@ pub record EndsUnbegun (h : List Request) (outcome : Outcome) (old new : Option 
   pub leaves : LeavesInFiles h h may_leave
 
 -- The text was written, or a prefix of it where the call ended before, and whatever a stop leaves in the files holds
--- the
--- register as it was.
+-- the register as it was.
 pub record WritesOut (h : List Request) (text : List ℕ) (outcome : Outcome) (old new : Option (List ℕ))
     (may_leave : Image → Type 0) : Type 0 where
   pub writes : WritesText text outcome.end old new

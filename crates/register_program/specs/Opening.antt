@@ -4,10 +4,10 @@ use Rattle.sqlite_trees.specs.{declared.store.Store.Ghosts, View.IsClean as IsCl
 use Rattle.sqlite.specs.{Recovery.Image, Held.state, State.HasCleanDisk}
 use Rattle.register_requests.specs.declared.request.Request.{Request}
 use Rattle.register_core.specs.{Fold.IsLawful, History.count, History.latest}
-use Rattle.desk_core.specs.Desk.{IsClean, connection_of}
-use Rattle.desk_core.specs.{declared.desk.Desk.Desk, DatabaseFiles.HoldsRegister}
-use Rattle.desk_core.specs.Register.{KeepsHistory, StandsFor}
-use Rattle.desk_core.specs.OpenRefusal.{RefusesNoTable}
+use Rattle.register_desk.specs.Desk.{IsClean, connection_of}
+use Rattle.register_desk.specs.{declared.desk.Desk.Desk, DatabaseFiles.HoldsRegister}
+use Rattle.register_desk.specs.Register.{KeepsHistory, StandsFor}
+use Rattle.register_desk.specs.OpenRefusal.{RefusesNoTable}
 use Rattle.register_program.specs.declared.refused.RefusedFiles.TheVariants.{Failed, Shut}
 use Rattle.register_program.specs.{declared.refused.Refused.Refused, declared.refused.RefusedFiles.RefusedFiles}
 

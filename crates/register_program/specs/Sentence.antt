@@ -7,11 +7,11 @@ use Rattle.sqlite_trees.specs.{declared.store.Store.Ghosts, View.IsClean as IsCl
 use Rattle.sqlite.specs.Recovery.{Image}
 use Rattle.register_requests.specs.{declared.request.Request.Request, Request.IsRequest}
 use Rattle.register_core.specs.Fold.{IsLawful, answers}
-use Rattle.desk_core.specs.DatabaseFiles.{HoldsRegister}
+use Rattle.register_desk.specs.DatabaseFiles.{HoldsRegister}
 use Rattle.machine_traits.specs.Found.{HoldsNothing}
-use Rattle.desk_core.specs.Lives.{Life, after, after_lives}
-use Rattle.desk_core.specs.Run.{IsPrefixOf, answer_lines}
-use Rattle.desk_core.specs.{declared.outcome.Outcome.Outcome, Input.HasItems}
+use Rattle.register_desk.specs.Lives.{Life, after, after_lives}
+use Rattle.register_desk.specs.Run.{IsPrefixOf, answer_lines}
+use Rattle.register_desk.specs.{declared.outcome.Outcome.Outcome, Input.HasItems}
 use Rattle.register_program.specs.declared.refused.RefusedFiles.{RefusedFiles}
 use Rattle.register_program.specs.declared.refused.RefusedFiles.TheVariants.{Failed, Shut}
 use Rattle.register_program.specs.declared.acting.Done.TheVariants.{Lived, Made}
@@ -98,8 +98,7 @@ pub record FoundAgain (h : List Request) (runs : List ProgramRun) (left : Image)
   pub holds : HoldsHistory (after_lives h lives) left
 
 -- The sentence: whatever runs there are, each over what the one before left, at its end or at a stop, and the first
--- over
--- files that hold nothing or the register of a history, what they come to is found again.
+-- over files that hold nothing or the register of a history, what they come to is found again.
 abbrev pub AreFoundAgain : Type 0
 AreFoundAgain =
     (h : List Request) (first left : Image) (runs : List ProgramRun) → IsLawful h → HoldsHistory h first

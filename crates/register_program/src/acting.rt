@@ -5,7 +5,7 @@ ghost use Rattle.register_program.specs.Job.{BreaksFor, EndsFor, Performs, end_o
 ghost use Rattle.register_program.specs.Job.{status_after};
 ghost use Rattle.register_program.specs.{Act.ActsInMemory, Faults.Tells, Words.ReadsTask};
 ghost use Rattle.register_program.specs.Sentence.{LeadsFrom};
-ghost use Rattle.register_serving.specs.ServedExchanges.{nobody};
+ghost use Rattle.register_http.specs.ServedExchanges.{nobody};
 
 use crate::faults::{report_bad_value, report_finish, report_no_command, report_refusal};
 use crate::refused::Refused;
@@ -16,7 +16,7 @@ use clap::Error;
 use machine_traits::{Closed, Files, Network};
 use register_desk::{Finish, OpenRefusal, Outcome, Watched};
 use register_in_memory::run_in_memory;
-use register_serving::Attendance;
+use register_http::Attendance;
 use register_words::{GivenTask, Job, Task, read_words};
 use std::alloc::Global;
 use std::io::{Read, Write};

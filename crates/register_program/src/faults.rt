@@ -1,6 +1,6 @@
 //! What the program names on standard error, and the exit statuses that go with it.
 ghost use Rattle.std.specs.Prelude.{◌≡◌};
-ghost use Rattle.desk_core.specs.End.{exit_status};
+ghost use Rattle.register_desk.specs.End.{exit_status};
 ghost use Rattle.register_program.specs.Act.{status_of, unopened_status, usage_status};
 ghost use Rattle.register_program.specs.Faults.{Tells, TellsOfWords, bad_value_line, end_line};
 ghost use Rattle.register_program.specs.Faults.{finish_line, refusal_line};

@@ -3,8 +3,8 @@
 ghost use Rattle.std.specs.Prelude.{◌≡◌, List};
 ghost use Rattle.sqlite.specs.Recovery.{Image};
 ghost use Rattle.register_requests.specs.declared.request.Request.{Request};
-ghost use Rattle.desk_core.specs.DatabaseFiles.{HoldsOneOf, HoldsRegister};
-ghost use Rattle.desk_core.specs.Lives.{after_lives};
+ghost use Rattle.register_desk.specs.DatabaseFiles.{HoldsOneOf, HoldsRegister};
+ghost use Rattle.register_desk.specs.Lives.{after_lives};
 ghost use Rattle.register_program.specs.Sentence.{AreFoundAgain, FoundAgain, ProgramRun};
 ghost use Rattle.register_program.specs.FileCalls.{OpensFile};
 ghost use Rattle.machine_traits.specs.Closing.{LeftIn, alone};

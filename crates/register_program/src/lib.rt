@@ -21,7 +21,7 @@ pub use register_file::{
     FileLife, RegisterFile, export_file, import_file, init_file, open_file, report_file, run_file,
     serve_file,
 };
-pub use register_serving::{
+pub use register_http::{
     Accepted, Attendance, MachineClock, Means, Now, ServedConnection, serve_at, serve_connection,
     serve_on,
 };

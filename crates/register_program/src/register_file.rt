@@ -1,19 +1,19 @@
 //! The register in a file: the database file, and its log beside it.
 ghost use Rattle.std.specs.Prelude.{◌≡◌, false, IfErr, IfOk};
 ghost use Rattle.sqlite_trees.specs.View.{IsClean as IsCleanStore};
-ghost use Rattle.desk_core.specs.Desk.{IsClean, IsMarkOf};
+ghost use Rattle.register_desk.specs.Desk.{IsClean, IsMarkOf};
 ghost use Rattle.register_program.specs.FileCalls.{Exports, ImportsRows, MakesFile, OpensFile};
 ghost use Rattle.register_program.specs.FileCalls.{Reports, RunsLines, ServesExchanges};
 ghost use Rattle.register_program.specs.Ends.{BreaksAs, BreaksNone, EndsImport, EndsRun};
 ghost use Rattle.register_program.specs.Ends.{EndsWriting};
-ghost use Rattle.register_serving.specs.ServedExchanges.{ExplainsEnd, nobody};
-ghost use Rattle.register_program.specs.{Closing.ClosesDesk, Within.Closing.LeavesAsDesk};
+ghost use Rattle.register_http.specs.ServedExchanges.{ExplainsEnd, nobody};
+ghost use Rattle.register_program.specs.{Closing.ClosesDesk, Within.LeavesAsDesk};
 
 use crate::refused::{Refused, close_connection_into_store};
 use machine_traits::{Absent, Closed, Files, Network};
 use register_desk::{Desk, DeskMark, Outcome, Watched, run};
 use register_report::{export, import, rotation};
-use register_serving::{Attendance, serve_at};
+use register_http::{Attendance, serve_at};
 use register_words::{Bounds, Terms};
 use std::alloc::Global;
 use std::io::{Read, Write};

@@ -3,11 +3,11 @@ use Rattle.std.proofs.Common.{◌≡◌, ◌∙◌, ℕ, List, [], Option, subst
 use Rattle.sqlite_trees.specs.declared.store.Store.{Ghosts}
 use Rattle.register_requests.specs.declared.request.Request.{Request}
 use Rattle.streams.specs.declared.watched.Watched.{Watched}
-use Rattle.desk_core.specs.declared.end.End.TheVariants.{Memory, ReadFault}
-use Rattle.desk_core.specs.Run.{LeavesDesk, LeavesWriter, RunsItems}
-use Rattle.desk_core.specs.{declared.desk.Desk.Desk, declared.outcome.Finish.Finish}
-use Rattle.desk_core.specs.{declared.outcome.Finish.TheVariants.Ended, declared.outcome.Outcome.Outcome}
-use Rattle.desk_core.specs.{Lives.DeskLives}
+use Rattle.register_desk.specs.declared.end.End.TheVariants.{Memory, ReadFault}
+use Rattle.register_desk.specs.Run.{LeavesDesk, LeavesWriter, RunsItems}
+use Rattle.register_desk.specs.{declared.desk.Desk.Desk, declared.outcome.Finish.Finish}
+use Rattle.register_desk.specs.{declared.outcome.Finish.TheVariants.Ended, declared.outcome.Outcome.Outcome}
+use Rattle.register_desk.specs.{Lives.DeskLives}
 use Rattle.register_desk.proofs.Answering.{over_unread}
 use Rattle.register_report.specs.Import.{CountsRows, ImportsTable}
 

@@ -7,11 +7,11 @@ use Rattle.csv.specs.Reading.{Reached, ReadRecord, TookRecord, default_config, r
 use Rattle.csv.specs.{Records.AllText, declared.reader.Reader.Reader}
 use Rattle.csv.proofs.ReadFacts.{rows-end, rows-more}
 use Rattle.register_core.proofs.Lawful.{all_more}
-use Rattle.desk_core.specs.declared.outcome.Finish.TheVariants.{AtEnd, Ended}
-use Rattle.desk_core.specs.{declared.desk.Desk.Desk, declared.end.End.TheVariants.ReadFault}
+use Rattle.register_desk.specs.declared.outcome.Finish.TheVariants.{AtEnd, Ended}
+use Rattle.register_desk.specs.{declared.desk.Desk.Desk, declared.end.End.TheVariants.ReadFault}
 use Rattle.register_desk.specs.Items.{ServedItems, Serves}
-use Rattle.register_desk.specs.Within.Items.{AreAhead}
-use Rattle.desk_core.specs.declared.outcome.Finish.{Finish}
+use Rattle.register_desk.specs.Within.{AreAhead}
+use Rattle.register_desk.specs.declared.outcome.Finish.{Finish}
 use Rattle.register_report.specs.declared.importing.Rows.{Rows}
 use Rattle.register_report.specs.ImportRows.{AreRowItems, AreTexts, IsRowItem, Item, RowTexts, max_rows}
 use Rattle.register_report.specs.TableRows.{ReadRows, RowsCame, RowsEnd, RowsFail}

@@ -17,13 +17,13 @@ use Rattle.std.specs.Prelude as Std
 use Rattle.csv.specs.declared.parser.State.TheVariants as states
 use Rattle.csv.proofs.ReadFacts.{rows-end, rows-more}
 use Rattle.sqlite_trees.specs.declared.store.Store.{Ghosts}
-use Rattle.desk_core.specs.declared.end.End.TheVariants.{Memory, Store, Broken, ReadFault, WriteFault, BadHeader}
-use Rattle.desk_core.specs.{declared.end.End.End, declared.outcome.Finish.TheVariants.Ended, declared.desk.Desk.Desk}
-use Rattle.desk_core.specs.Run.{LeavesDesk, RunsItems}
-use Rattle.desk_core.specs.{Desk.IsClean, Register.StandsFor, Lives.DeskLives}
+use Rattle.register_desk.specs.declared.end.End.TheVariants.{Memory, Store, Broken, ReadFault, WriteFault, BadHeader}
+use Rattle.register_desk.specs.{declared.end.End.End, declared.outcome.Finish.TheVariants.Ended, declared.desk.Desk.Desk}
+use Rattle.register_desk.specs.Run.{LeavesDesk, RunsItems}
+use Rattle.register_desk.specs.{Desk.IsClean, Register.StandsFor, Lives.DeskLives}
 use Rattle.register_desk.proofs.Answering.{answered_none, prefix_so}
 use Rattle.register_desk.proofs.Serving.{nothing_leaves, nothing_lives, nothing_runs}
-use Rattle.desk_core.proofs.Lived.{leaves_going, still, lived_alone}
+use Rattle.register_desk.proofs.Lived.{leaves_going, still, lived_alone}
 
 -- ---- no row asks for two registrations
 

@@ -14,12 +14,12 @@ use Rattle.key_rows.specs.{declared.key_row.KeyRow.KeyRow, Report.report_line, R
 use Rattle.key_rows.proofs.DueRows.{a_list, fewer}
 use Rattle.register_requests.specs.declared.request.Request.{Request}
 use Rattle.register_core.specs.{Fold.IsLawful, History.period, History.set_period}
-use Rattle.desk_core.specs.KeyRows.{all_rows, AreSoFar, GiveNext, HaveGiven, until_of}
-use Rattle.desk_core.specs.Desk.{ChangesNothing, IsClean, IsWhole}
-use Rattle.desk_core.specs.{declared.end.End.End, declared.end.End.TheVariants.WriteFault, declared.desk.Desk.Desk}
-use Rattle.desk_core.specs.{declared.rows.KeyRows.KeyRows, Register.StandsFor}
+use Rattle.register_desk.specs.KeyRows.{all_rows, AreSoFar, GiveNext, HaveGiven, until_of}
+use Rattle.register_desk.specs.Desk.{ChangesNothing, IsClean, IsWhole}
+use Rattle.register_desk.specs.{declared.end.End.End, declared.end.End.TheVariants.WriteFault, declared.desk.Desk.Desk}
+use Rattle.register_desk.specs.{declared.rows.KeyRows.KeyRows, Register.StandsFor}
 use Rattle.register_desk.proofs.KeyRowsOf.{listed_if_due, listed_is_due, own_numbers}
-use Rattle.desk_core.proofs.Readings.{nothing_done, nothing_then, stands_still}
+use Rattle.register_desk.proofs.Readings.{nothing_done, nothing_then, stands_still}
 use Rattle.register_report.specs.Within.KeyTable.{head_text, lines_text, has_line_for, table_text, count_in, row_text}
 use Rattle.register_report.specs.Within.TextWriter.{Puts, PutsRows, PutsText}
 use Rattle.register_report.specs.{declared.key_table.KeyTable.KeyTable, declared.key_table.KeyTable.TheVariants.Report}

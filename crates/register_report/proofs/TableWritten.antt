@@ -3,8 +3,8 @@ use Rattle.std.proofs.Common.{◌≡◌, ◌≢◌, ℕ, List, [], ◌++◌, tru
 use Rattle.std.specs.Prelude.{IsErrAnd}
 use Rattle.sqlite_trees.specs.declared.store.Store.{Ghosts}
 use Rattle.streams.specs.declared.watched.Watched.{Watched}
-use Rattle.desk_core.specs.declared.end.End.TheVariants.{WriteFault}
-use Rattle.desk_core.specs.{declared.end.End.End, declared.rows.KeyRows.KeyRows, KeyRows.all_rows}
+use Rattle.register_desk.specs.declared.end.End.TheVariants.{WriteFault}
+use Rattle.register_desk.specs.{declared.end.End.End, declared.rows.KeyRows.KeyRows, KeyRows.all_rows}
 use Rattle.register_report.specs.declared.key_table.KeyTable.{KeyTable}
 use Rattle.register_report.specs.Within.KeyTable.{foot_text, head_text, lines_text}
 use Rattle.register_report.specs.Within.TextWriter.{PutsRows, PutsTable, PutsText}

@@ -4,10 +4,10 @@ use Rattle.std.proofs.Common.{refl, sym, ap, subst, ◌∙◌, append_assoc, len
 use Rattle.std.proofs.lemmas.List.{append-nil}
 use Rattle.std.specs.Prelude.{IsErrAnd}
 use Rattle.streams.specs.declared.watched.Watched.{Watched}
-use Rattle.desk_core.specs.declared.end.End.TheVariants.{WriteFault}
-use Rattle.desk_core.specs.Run.{AreFlushed, IsPrefixOf}
-use Rattle.desk_core.specs.declared.end.End.{End}
-use Rattle.desk_core.proofs.Appended.{appends_none, appends_then}
+use Rattle.register_desk.specs.declared.end.End.TheVariants.{WriteFault}
+use Rattle.register_desk.specs.Run.{AreFlushed, IsPrefixOf}
+use Rattle.register_desk.specs.declared.end.End.{End}
+use Rattle.register_desk.proofs.Appended.{appends_none, appends_then}
 use Rattle.register_report.specs.Within.TextWriter.{Puts, PutsText}
 
 -- a prefix of the prefix, and of what it begins

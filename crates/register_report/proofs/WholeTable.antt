@@ -8,17 +8,17 @@ use Rattle.streams.specs.declared.watched.Watched.{Watched}
 use Rattle.key_rows.specs.{declared.key_row.KeyRow.KeyRow, DueRows.is_due}
 use Rattle.key_rows.proofs.DueRows.{first_begin, one_list}
 use Rattle.register_requests.specs.declared.request.Request.{Request}
-use Rattle.desk_core.specs.KeyRows.{AreAll, HaveGiven, all_rows, until_of}
-use Rattle.desk_core.specs.{declared.desk.Desk.Desk, declared.end.End.End, declared.end.End.TheVariants.WriteFault}
-use Rattle.desk_core.specs.{declared.rows.KeyRows.KeyRows, declared.outcome.Finish.Finish, Desk.ChangesNothing}
-use Rattle.desk_core.specs.Desk.{IsClean, IsWhole}
-use Rattle.desk_core.specs.{Register.StandsFor, Run.IsPrefixOf}
+use Rattle.register_desk.specs.KeyRows.{AreAll, HaveGiven, all_rows, until_of}
+use Rattle.register_desk.specs.{declared.desk.Desk.Desk, declared.end.End.End, declared.end.End.TheVariants.WriteFault}
+use Rattle.register_desk.specs.{declared.rows.KeyRows.KeyRows, declared.outcome.Finish.Finish, Desk.ChangesNothing}
+use Rattle.register_desk.specs.Desk.{IsClean, IsWhole}
+use Rattle.register_desk.specs.{Register.StandsFor, Run.IsPrefixOf}
 use Rattle.register_report.specs.declared.key_table.KeyTable.TheVariants.{Export}
 use Rattle.register_report.specs.Within.KeyTable.{count_in, foot_text, head_text, lines_text, row_text, table_text}
 use Rattle.register_report.specs.Within.TextWriter.{AreUpTo, IsExport, Puts, PutsAll, PutsTable, TextOf, finish_of}
 use Rattle.register_report.specs.Within.TextWriter.{text_up_to}
 use Rattle.register_report.specs.{declared.key_table.KeyTable.KeyTable, TextWriter.WritesText}
-use Rattle.desk_core.proofs.Readings.{stands_still}
+use Rattle.register_desk.proofs.Readings.{stands_still}
 use Rattle.register_report.proofs.TextLemmas.{prefix_of_first, puts_nothing}
 
 -- ---- rows

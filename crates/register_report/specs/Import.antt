@@ -3,11 +3,11 @@ use Rattle.std.specs.Prelude.{◌≡◌, ◌⊎◌, ◌≤◌, ℕ, List, [], �
 use Rattle.sqlite_trees.specs.declared.store.Store.{Ghosts}
 use Rattle.csv.specs.Records.{AllText}
 use Rattle.streams.specs.{declared.watched.Watched.Watched, Watched.IsFaulted}
-use Rattle.desk_core.specs.declared.end.End.TheVariants.{Memory, Store, Broken, ReadFault, WriteFault, BadHeader}
-use Rattle.desk_core.specs.declared.outcome.Finish.TheVariants.{AtEnd, Ended}
-use Rattle.desk_core.specs.declared.outcome.Outcome.{Outcome}
-use Rattle.desk_core.specs.Run.{RunsItems, max_reads}
-use Rattle.desk_core.specs.{declared.outcome.Finish.Finish, declared.desk.Desk.Desk}
+use Rattle.register_desk.specs.declared.end.End.TheVariants.{Memory, Store, Broken, ReadFault, WriteFault, BadHeader}
+use Rattle.register_desk.specs.declared.outcome.Finish.TheVariants.{AtEnd, Ended}
+use Rattle.register_desk.specs.declared.outcome.Outcome.{Outcome}
+use Rattle.register_desk.specs.Run.{RunsItems, max_reads}
+use Rattle.register_desk.specs.{declared.outcome.Finish.Finish, declared.desk.Desk.Desk}
 use Rattle.register_report.specs.ImportRows.{AreTexts, BeginsWith, BeginsWithHeader, HasRowItems, HasRows, Item}
 use Rattle.register_report.specs.ImportRows.{RowTexts, header, max_rows}
 

@@ -4,8 +4,8 @@ use Rattle.csv.specs.Reading.{Reached, ReadRecord, Ready, TookRecord, default_co
 use Rattle.csv.specs.Reading.{reader_state, reader_trim, source_of}
 use Rattle.csv.specs.{declared.reader.Reader.Reader, Records.AllText}
 use Rattle.csv.specs.declared.reader.Trim.TheVariants as trim
-use Rattle.desk_core.specs.declared.end.End.{End}
-use Rattle.desk_core.specs.declared.end.End.TheVariants.{Memory, Store, Broken, ReadFault, WriteFault, BadHeader}
+use Rattle.register_desk.specs.declared.end.End.{End}
+use Rattle.register_desk.specs.declared.end.End.TheVariants.{Memory, Store, Broken, ReadFault, WriteFault, BadHeader}
 use Rattle.register_requests.specs.Number.{max_request_number}
 use Rattle.register_report.specs.declared.importing.Rows.{Rows}
 use Rattle.register_report.specs.ImportRows.{AreRowItems, AreTexts, Item, RowTexts, max_rows}

@@ -2,11 +2,11 @@
 use Rattle.std.specs.Prelude.{◌≡◌, ℕ, List, Option}
 use Rattle.std.specs.Io.KnownBytes.{Appends}
 use Rattle.sqlite_trees.specs.declared.store.Store.{Ghosts}
-use Rattle.desk_core.specs.declared.end.End.TheVariants.{Memory, Store, Broken, ReadFault, WriteFault, BadHeader}
-use Rattle.desk_core.specs.declared.outcome.Finish.TheVariants.{AtEnd, Ended}
-use Rattle.desk_core.specs.{declared.desk.Desk.Desk, declared.end.End.End, declared.outcome.Finish.Finish}
-use Rattle.desk_core.specs.Desk.{ChangesNothing, IsBroken}
-use Rattle.desk_core.specs.Run.{IsPrefixOf}
+use Rattle.register_desk.specs.declared.end.End.TheVariants.{Memory, Store, Broken, ReadFault, WriteFault, BadHeader}
+use Rattle.register_desk.specs.declared.outcome.Finish.TheVariants.{AtEnd, Ended}
+use Rattle.register_desk.specs.{declared.desk.Desk.Desk, declared.end.End.End, declared.outcome.Finish.Finish}
+use Rattle.register_desk.specs.Desk.{ChangesNothing, IsBroken}
+use Rattle.register_desk.specs.Run.{IsPrefixOf}
 
 -- ---- whole calls
 

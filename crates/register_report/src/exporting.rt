@@ -2,8 +2,8 @@
 ghost use Rattle.std.specs.Prelude.{◌≡◌, false, List, IfErr};
 ghost use Rattle.register_report.specs.Within.TextWriter.{IsExport, IsReport, PutsAll, finish_of};
 ghost use Rattle.register_report.specs.TextWriter.{EndsText, LeavesAlone, WritesText};
-ghost use Rattle.desk_core.specs.Register.{StandsFor};
-ghost use Rattle.desk_core.specs.{Run.LeavesWriter, Desk.IsClean, KeyRows.all_rows};
+ghost use Rattle.register_desk.specs.Register.{StandsFor};
+ghost use Rattle.register_desk.specs.{Run.LeavesWriter, Desk.IsClean, KeyRows.all_rows};
 ghost use Rattle.key_rows.specs.{DueRows.AreListed, Report.horizon, Report.report_text};
 ghost use Rattle.key_rows.specs.{Export.export_text, declared.key_row.KeyRow.KeyRow};
 ghost use Rattle.register_core.specs.History.{latest, period};

@@ -3,8 +3,8 @@ ghost use Rattle.std.specs.Prelude.{◌≡◌, ◌⊎◌, ◌-◌, ℕ, List, So
 ghost use Rattle.std.specs.Bool.{OnFalse, OnTrue};
 ghost use Rattle.csv.specs.{Records.AllText, Records.fields_of, Reading.ReadRecord};
 ghost use Rattle.register_requests.specs.{declared.request.Request.Request, Number.IsNumber};
-ghost use Rattle.desk_core.specs.Run.{LeavesDesk, LeavesWriter, max_reads};
-ghost use Rattle.desk_core.specs.{Desk.IsClean, Register.StandsFor, Lives.DeskLives};
+ghost use Rattle.register_desk.specs.Run.{LeavesDesk, LeavesWriter, max_reads};
+ghost use Rattle.register_desk.specs.{Desk.IsClean, Register.StandsFor, Lives.DeskLives};
 ghost use Rattle.streams.specs.Watched.{IsFaulted};
 ghost use Rattle.register_report.specs.declared.importing.TheConstants.{MAX_ROWS};
 ghost use Rattle.register_report.specs.Import.{CountsRows, DoesNothing, EndsImporting};

@@ -5,7 +5,7 @@ use Rattle.sqlite.specs.Effect.{Database}
 use Rattle.lifecycle_core.specs.declared.state.State.TheVariants.{PreActive, Active, Deactivated, Compromised}
 use Rattle.lifecycle_core.specs.declared.state.State.TheVariants.{Destroyed, DestroyedCompromised}
 use Rattle.lifecycle_core.specs.{declared.state.State.State, State.state_code, Row.IsRightAt}
-use Rattle.sql_steps.specs.Within.Steps.{Then}
+use Rattle.sql_steps.specs.Within.{Then}
 use Rattle.register_core.specs.declared.key.Key.{Key}
 use Rattle.register_tables.specs.TableChanges.{Makes, AreRightAt, advanced, with_keys_advanced}
 use Rattle.register_rows.specs.declared.accepted_request.DueDate.TheVariants.{Activation, Deactivation}

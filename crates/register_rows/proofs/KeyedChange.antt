@@ -5,7 +5,7 @@ use Rattle.sqlite.specs.{Edit.put_all, State.State, State.Executes}
 use Rattle.sqlite_rules.proofs.ListLemmas.{has_filtered}
 use Rattle.sqlite_rules.specs.Lists.{Has}
 use Rattle.sqlite_trees.proofs.ListLemmas.{all-filter}
-use Rattle.sql_steps.specs.{Steps.StepsBy, Within.Steps.Then}
+use Rattle.sql_steps.specs.{Steps.StepsBy, Within.Then}
 use Rattle.sql_steps.proofs.Stepping.{steps_then, steps_weaker}
 use Rattle.sql_steps.proofs.{Deletes.ids_shown, Inserting.puts, Removing.removes, Statements.is_picked}
 use Rattle.register_core.proofs.Lawful.{all_more}

@@ -3,7 +3,7 @@ use Rattle.std.proofs.Common.{◌≡◌, ℕ, List, [], ◌∷◌, ◌++◌, cod
 use Rattle.sqlite.specs.{declared.types.Value.TheVariants.Null, Effect.Database, Listing.understood, State.State}
 use Rattle.sqlite.specs.{State.Executes, Term.Term, Term.lit, Term.col}
 use Rattle.sqlite_tied.specs.Compute.{everything}
-use Rattle.sql_steps.specs.Within.Steps.{Then}
+use Rattle.sql_steps.specs.Within.{Then}
 use Rattle.sql_steps.proofs.{Appending.chosen, Inserting.edit, Statements.cast_int, Statements.cast_null}
 use Rattle.register_core.proofs.Lawful.{all_more}
 use Rattle.register_core.specs.{declared.kept_reply.KeptReply.KeptReply, KeptReply.IsKeptReply}

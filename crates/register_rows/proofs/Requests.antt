@@ -2,7 +2,7 @@
 use Rattle.std.proofs.Common.{◌≡◌, ℕ, ◌+◌, subst, ◌∙◌}
 use Rattle.std.proofs.lemmas.List.{length-map}
 use Rattle.sqlite.specs.Effect.{Database}
-use Rattle.sql_steps.specs.Within.Steps.{Then}
+use Rattle.sql_steps.specs.Within.{Then}
 use Rattle.register_core.specs.declared.kept_reply.KeptReply.{KeptReply}
 use Rattle.register_core.specs.{declared.change.Change.Change, KeptReply.IsKeptReply}
 use Rattle.register_tables.specs.TableChanges.{Makes, AreRightAt, HasKeys, advanced, with_recorded, with_keys_advanced}

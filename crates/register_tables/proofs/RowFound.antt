@@ -228,7 +228,7 @@ at_number n (k ∷ keys) x (inl e) = search arith
 at_number n (k ∷ keys) x (inr h) = let r = at_number (n + 1) keys x h in (suc r.0, omega arith, r.2)
 
 -- and the key at a place is numbered by it
-number_at : (n : ℕ) (keys : List Key) (i : ℕ) (k : Key) → slice_get keys i ≡ Some k
+pub number_at : (n : ℕ) (keys : List Key) (i : ℕ) (k : Key) → slice_get keys i ≡ Some k
     → Has (enumerate_from n keys) (n + i, k)
 number_at n [] i k e = absurd (cc)
 number_at n (first ∷ keys) zero k e = search arith

@@ -68,7 +68,8 @@ version = version_number current
 abbrev pub number : ℕ → Value
 number n = Int (pos n)
 
--- the one row of meta in a version
+-- The one row of meta in a version. It begins with its rowid, which is its id too, so that the cell of the id is null, as
+-- SQLite has it of an INTEGER PRIMARY KEY.
 abbrev pub counts_row_in : Version → Counts → Cells
 counts_row_in v counts =
     number 1 ∷ Null ∷ number (version_number v) ∷ number counts.latest ∷ number counts.key_count ∷ []
@@ -82,7 +83,7 @@ key_cells k =
     ∷ number (date_cell d.deactivation) ∷ number (date_cell d.destroy) ∷ number (date_cell d.compromise)
     ∷ number (date_cell d.compromise_occurrence) ∷ []
 
--- a key with its number
+-- a key with its number, which is the rowid
 abbrev pub key_row : ℕ × Key → Cells
 key_row numbered = number numbered.0 ∷ Null ∷ key_cells numbered.1
 

@@ -8,7 +8,7 @@ use crate::error::StoreError;
 use sqlite::types::ValueRef;
 use sqlite::{Alter, Connection, Error, Row, Transaction};
 
-/// How many calls of the database were made in a transaction, and rows handed out.
+/// How many calls of the database were made in a transaction, and rows handed out, up to 2^64 - 1.
 #[derive(Drop)]
 pub struct StepCount {
     count: u64,
@@ -96,7 +96,8 @@ pub trait Work {
         ensures counted { TakesInside most steps.old steps.new };
 }
 
-/// A connection in which no transaction is open, and how often it was called.
+/// A connection in which no transaction is open, and how many calls were made of it and rows handed
+/// out, up to 2^64 - 1.
 #[derive(Drop)]
 pub struct Counted<S: Alter> {
     connection: Connection<S>,

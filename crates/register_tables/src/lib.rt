@@ -1,7 +1,7 @@
 //! The seven tables of a register, in a database of `sqlite`: their columns, what their rows show,
 //! and a connection whose calls are counted. Whoever reads and writes rows stands on it
-//! (`register_rows`), and whoever makes, checks and migrates tables (`register_openings`); what
-//! these do `register_store` gives out.
+//! (`register_rows`), whoever makes and migrates tables (`register_schema`), and whoever checks
+//! them (`register_checks`); what these do `register_store` gives out.
 #![tactic(auto)]
 
 mod cells;

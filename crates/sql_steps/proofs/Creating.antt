@@ -7,7 +7,7 @@ use Rattle.sqlite.specs.{Change.created, Change.indexed, Compile.table_defined_b
 use Rattle.sqlite.specs.{Effect.Database, Listing.understood, Schema.Schema, Table.Table}
 use Rattle.sqlite.proofs.Callers.{IsPlain, command_of, statement_of, runs_as}
 use Rattle.sqlite_schema.specs.declared.schema.Index.{Index}
-use Rattle.sql_steps.specs.Within.CreatedTables.{AddsTable, Indexes}
+use Rattle.sql_steps.specs.Within.{AddsTable, Indexes}
 use Rattle.sql_steps.proofs.Statements.{went, same_value}
 
 -- a CREATE that is understood makes its table; the tree that its text leaves open is the next one

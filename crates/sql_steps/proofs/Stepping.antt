@@ -7,7 +7,7 @@ use Rattle.sqlite.specs.{Order.Row, Tree.Trees, Effect.Database, Steps.FailsToCo
 use Rattle.sqlite.proofs.InsideLemmas.{inside_keeps, keeps_then}
 use Rattle.sqlite.proofs.StateLemmas.{survives_then, survives_weaker}
 use Rattle.sqlite_trees.specs.declared.store.Store as store
-use Rattle.sql_steps.specs.{Steps.DatabaseChange, Steps.StepsBy, Steps.TransactsBy, Within.Steps.Then}
+use Rattle.sql_steps.specs.{Steps.DatabaseChange, Steps.StepsBy, Steps.TransactsBy, Within.Then}
 
 -- ---- one statement
 

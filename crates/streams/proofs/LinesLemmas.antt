@@ -15,7 +15,7 @@ use Rattle.std.specs.{Prelude.◌==◌, Prelude.position, Prelude.Option, List.p
 use borrow.Rule.Slice.PartMut.{put_mid}
 use Rattle.streams.specs.Lines.{line_feed, Cut, CutsLine, CutsRest, HasNoLineFeed, Takes, work_left}
 use Rattle.streams.specs.declared.lines.TheConstants.{MAX_PIECE_LENGTH}
-use Rattle.streams.specs.{Within.Lines.Extends, declared.watched.TheConstants.MAX_READS}
+use Rattle.streams.specs.{Within.Extends, declared.watched.TheConstants.MAX_READS}
 
 -- ---- line feeds
 

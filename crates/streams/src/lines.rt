@@ -8,7 +8,7 @@ ghost use Rattle.streams.specs.declared.lines.TheConstants.{MAX_PIECE_LENGTH};
 ghost use Rattle.streams.specs.declared.watched.TheConstants.{MAX_READS};
 ghost use Rattle.streams.specs.Lines.{Cut, CutsLine, CutsRest, HasNoLineFeed, Takes, line_feed};
 ghost use Rattle.streams.specs.Lines.{work_left};
-ghost use Rattle.streams.specs.{Within.Lines.Extends, Watched.IsFaulted};
+ghost use Rattle.streams.specs.{Within.Extends, Watched.IsFaulted};
 
 use crate::watched::{MAX_READS, ReadFault, Watched};
 use std::io::Read;

@@ -3,7 +3,7 @@ ghost use Rattle.std.specs.Prelude.{◌≡◌, ◌<◌, ◌≤◌, length, take,
 ghost use Rattle.std.specs.Prelude.{OnErr};
 ghost use Rattle.std.specs.Bool.{OnFalse, OnTrue};
 ghost use Rattle.std.specs.Io.KnownBytes.{Appends, Consumes, IsAtEnd, Keeps};
-ghost use Rattle.streams.specs.{Watched.one_more, Watched.IsFaulted, Within.Watched.StopsWithin};
+ghost use Rattle.streams.specs.{Watched.one_more, Watched.IsFaulted, Within.StopsWithin};
 
 mod turns;
 

@@ -2,7 +2,7 @@ use Rattle.std.proofs.Common.{ap, inl, length, refl, true}
 use Rattle.std.proofs.lemmas.Result.{IfOk-weaker}
 use Rattle.sqlite_trees.proofs.Doubt.{no_doubt}
 use Rattle.sqlite_pool.specs.Pool.{state}
-use Rattle.desk_core.proofs.Found.{finds_nothing}
+use Rattle.register_desk.proofs.Found.{finds_nothing}
 use Rattle.register_in_memory.proofs.run_in_memory.Goals as goal
 
 -- the files have no byte, and what is read of them is what was written

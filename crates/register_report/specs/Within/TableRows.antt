@@ -1,8 +1,8 @@
 -- What functions within the crate say of one another, beside `specs/TableRows.antt`.
 use Rattle.std.specs.Prelude.{◌≡◌, ◌≢◌, ℕ, Bool, true, List, Option}
 use Rattle.csv.specs.{declared.reader.Reader.Reader, Reading.ReadRecord, Reading.reader_config}
-use Rattle.desk_core.specs.declared.end.End.{End}
-use Rattle.desk_core.specs.declared.end.End.TheVariants.{Memory, Store, Broken, ReadFault, WriteFault, BadHeader}
+use Rattle.register_desk.specs.declared.end.End.{End}
+use Rattle.register_desk.specs.declared.end.End.TheVariants.{Memory, Store, Broken, ReadFault, WriteFault, BadHeader}
 use Rattle.register_report.specs.TableRows.{IsPlainTable, IsUnread}
 use Rattle.register_report.specs.{ImportRows.RowTexts, ImportRows.header, declared.importing.Rows.Rows}
 

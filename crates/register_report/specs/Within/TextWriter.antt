@@ -8,14 +8,14 @@ use Rattle.key_rows.specs.Report.{horizon, report_text}
 use Rattle.key_rows.specs.{declared.key_row.KeyRow.KeyRow, DueRows.AreListed, Export.export_text}
 use Rattle.register_requests.specs.declared.request.Request.{Request}
 use Rattle.register_core.specs.History.{latest, period}
-use Rattle.desk_core.specs.declared.end.End.TheVariants.{Broken, WriteFault}
-use Rattle.desk_core.specs.declared.outcome.Finish.TheVariants.{AtEnd, Ended}
-use Rattle.desk_core.specs.KeyRows.{AreAll, AreSoFar, GoOn, HaveGiven, all_rows, until_of}
-use Rattle.desk_core.specs.{declared.desk.Desk.Desk, declared.end.End.End, declared.outcome.Finish.Finish}
-use Rattle.desk_core.specs.Desk.{ChangesNothing, IsClean, IsWhole}
-use Rattle.desk_core.specs.declared.rows.KeyRows.{KeyRows}
-use Rattle.desk_core.specs.Run.{AreFlushed, IsPrefixOf, max_idle_turns}
-use Rattle.desk_core.specs.Register.{StandsFor}
+use Rattle.register_desk.specs.declared.end.End.TheVariants.{Broken, WriteFault}
+use Rattle.register_desk.specs.declared.outcome.Finish.TheVariants.{AtEnd, Ended}
+use Rattle.register_desk.specs.KeyRows.{AreAll, AreSoFar, GoOn, HaveGiven, all_rows, until_of}
+use Rattle.register_desk.specs.{declared.desk.Desk.Desk, declared.end.End.End, declared.outcome.Finish.Finish}
+use Rattle.register_desk.specs.Desk.{ChangesNothing, IsClean, IsWhole}
+use Rattle.register_desk.specs.declared.rows.KeyRows.{KeyRows}
+use Rattle.register_desk.specs.Run.{AreFlushed, IsPrefixOf, max_idle_turns}
+use Rattle.register_desk.specs.Register.{StandsFor}
 use Rattle.register_report.specs.Within.KeyTable.{count_in, head_text, lines_text, table_text}
 use Rattle.register_report.specs.{declared.key_table.KeyTable.KeyTable, TextWriter.IsEndOfWriting}
 

@@ -6,7 +6,7 @@ use Rattle.sqlite_rules.specs.Lists.{Has}
 use Rattle.sqlite_schema.specs.declared.schema.Reference.{Reference}
 use Rattle.sqlite_schema.specs.{declared.schema.Index.Index, declared.schema.View.View}
 use Rattle.sqlite_trees.specs.declared.store.Store.{Ghosts}
-use Rattle.sql_steps.specs.{Steps.DatabaseChange, Within.Steps.Steps}
+use Rattle.sql_steps.specs.{Steps.DatabaseChange, Within.Steps}
 use Rattle.register_tables.specs.declared.table.TableName.TheVariants.{Meta}
 use Rattle.register_tables.specs.Beside.{HasMetaApart, is_meta}
 use Rattle.register_tables.specs.declared.table.TableName.{TableName}

@@ -4,7 +4,7 @@ ghost use Rattle.std.specs.Prelude.{◌≡◌, ◌<◌, ◌≤◌, ◌↔◌, le
 ghost use Rattle.std.specs.IoError.{error_kind};
 ghost use Rattle.std.specs.Io.KnownBytes.{Appends, Consumes, IsAtEnd, Keeps};
 ghost use Rattle.streams.specs.Watched.{one_more};
-ghost use Rattle.streams.specs.Within.Watched.{OnDone, OnUndone, idle_after, failed_after};
+ghost use Rattle.streams.specs.Within.{OnDone, OnUndone, idle_after, failed_after};
 
 use crate::watched::Watched;
 use std::io::{Error, ErrorKind, Read, Write};

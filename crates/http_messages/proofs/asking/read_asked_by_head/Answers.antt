@@ -2,7 +2,7 @@ use Rattle.std.proofs.Common.{◌++◌, drop, subst}
 use Rattle.std.proofs.lemmas.List.{take_rest}
 use Rattle.std.proofs.lemmas.Result.{IfOk-weaker}
 use Rattle.std.specs.Prelude.{IfOk, IsSomeAnd}
-use Rattle.http_messages.specs.{HeaderFields.AreGathered, Asked.AsksBody, Within.Post.IsFor}
+use Rattle.http_messages.specs.{HeaderFields.AreGathered, Asked.AsksBody, Within.IsFor}
 use Rattle.http_messages.specs.Asked as rule
 use Rattle.http_messages.proofs.Answering.{head_asks, head_posts}
 use Rattle.http_messages.proofs.asking.read_asked_by_head.Goals as goal

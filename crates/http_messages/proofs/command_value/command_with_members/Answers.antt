@@ -5,7 +5,7 @@ use Rattle.register_requests.specs.{CommandKind.kind_of, Fields.command_with, Fi
 use Rattle.register_requests.specs.{declared.command_fields.Fields.Fields, declared.command_fields.Shape.Shape}
 use Rattle.register_requests.specs.{declared.request.Command.Command, Within.Fields.AreFieldsInRange, Request.IsCommand}
 use Rattle.register_requests.proofs.Commands.{made, has_shape, some_made, in_range_of, is_command}
-use Rattle.http_messages.specs.Within.CommandValue.{HasMembers, IsShaped}
+use Rattle.http_messages.specs.Within.{HasMembers, IsShaped}
 use Rattle.http_messages.proofs.command_value.command_with_members.Goals as goal
 
 -- a command of the kind has these members

@@ -9,7 +9,7 @@ use Rattle.register_requests.specs.{declared.command_fields.Fields.Fields, decla
 use Rattle.register_requests.specs.{declared.command_fields.CommandKind.CommandKind, declared.request.Edit.Edit}
 use Rattle.register_requests.specs.Within.Fields.{AreFieldsInRange}
 use Rattle.register_requests.specs.declared.command_fields.Shape.TheVariants as shapes
-use Rattle.http_messages.specs.{CommandValue.fields_members, Within.CommandValue.IsShaped}
+use Rattle.http_messages.specs.{CommandValue.fields_members, Within.IsShaped}
 use Rattle.http_messages.proofs.CommandValues.{none_then}
 use Rattle.http_messages.proofs.command_value.fields_of_shape.Goals as goal
 

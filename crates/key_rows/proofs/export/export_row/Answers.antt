@@ -1,7 +1,7 @@
 use Rattle.std.proofs.Common.{[], subst, refl, ◌∙◌}
 use Rattle.std.proofs.lemmas.Result.{IfOk-weaker}
 use Rattle.std.specs.{Prelude.Some, Io.KnownBytes.Keeps}
-use Rattle.key_rows.specs.Within.RowWriter.{HasFields}
+use Rattle.key_rows.specs.Within.{HasFields}
 use Rattle.key_rows.proofs.RowWriting.{if_ok_mapped}
 use Rattle.key_rows.proofs.export.export_row.Goals as goal
 

@@ -1,6 +1,6 @@
 use Rattle.std.proofs.Common.{subst, map, arith}
 use Rattle.std.proofs.lemmas.List.{take_all}
-use Rattle.key_rows.specs.{Within.Cell.cell_text, Export.export_fields, Export.export_row, Within.RowWriter.HasFields}
+use Rattle.key_rows.specs.{Within.cell_text, Export.export_fields, Export.export_row, Within.HasFields}
 use Rattle.key_rows.proofs.RowWriting.{on_ok_of, row_ended}
 use Rattle.key_rows.proofs.export.put_row.Goals as goal
 

@@ -1,5 +1,5 @@
 use Rattle.std.proofs.Common.{[], map, take}
-use Rattle.key_rows.specs.{Within.Cell.cell_text, Within.RowWriter.HasFields}
+use Rattle.key_rows.specs.{Within.cell_text, Within.HasFields}
 use Rattle.key_rows.proofs.export.put_row.Given as goal
 
 abbrev pub invariant-loop-cell : goal.invariant-loop-cell

@@ -1,6 +1,6 @@
 use Rattle.std.proofs.Common.{ℕ, ◌+◌, ◌*◌, ap, arith}
 use Rattle.jiff_core.proofs.SignedLemmas.{signed_arith}
-use Rattle.moment_core.specs.{Calendar.Civil, Calendar.months_on, Within.Dates.HasParts}
+use Rattle.moment_core.specs.{Calendar.Civil, Calendar.months_on, Within.HasParts}
 use Rattle.moment_core.proofs.Dates.{later_parts, total_is, number_is}
 use Rattle.moment_core.proofs.calendar.day_number_after_months.Goals as goal
 

@@ -4,7 +4,7 @@ use Rattle.period_core.specs.Period.{period_or_default}
 use Rattle.register_requests.specs.declared.request.Command.{Command}
 use Rattle.register_requests.specs.Subject.{Names, Subject, named, subject}
 use Rattle.register_core.specs.Effect.{dates_after, dates_before, type_of}
-use Rattle.register_core.specs.{declared.view.Held.Held, Decision.change_of, Within.Decision.AreDatesAfter}
+use Rattle.register_core.specs.{declared.view.Held.Held, Decision.change_of, Within.AreDatesAfter}
 use Rattle.register_core.proofs.effect.change_by_request.Goals as goal
 
 named_subject : (c : Command) (key : ℕ) → Some key ≡ named c → subject c ≡ Names key

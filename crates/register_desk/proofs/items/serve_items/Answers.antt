@@ -1,8 +1,8 @@
 use Rattle.std.proofs.Common.{◌≡◌, ◌∙◌, ℕ, ◌+◌, Ok, add-zero, ap, arith, inl, inr, refl}
 use Rattle.register_desk.specs.declared.items.NextItem.TheVariants.{Item, End as NextEnd}
-use Rattle.desk_core.specs.declared.outcome.Finish.TheVariants.{AtEnd, Ended}
-use Rattle.desk_core.specs.{declared.end.End.End, declared.end.End.TheVariants.WriteFault}
-use Rattle.desk_core.proofs.Lived.{goes_then, leaves_going, leaves_stopped, still}
+use Rattle.register_desk.specs.declared.outcome.Finish.TheVariants.{AtEnd, Ended}
+use Rattle.register_desk.specs.{declared.end.End.End, declared.end.End.TheVariants.WriteFault}
+use Rattle.register_desk.proofs.Lived.{goes_then, leaves_going, leaves_stopped, still}
 use Rattle.register_desk.proofs.Serving.{flushed_same, leaves_sound, leaves_unread, none_written, of_reading_sound}
 use Rattle.register_desk.proofs.Serving.{served_more, served_none, wrote_begin, wrote_item, wrote_part}
 use Rattle.register_desk.proofs.items.serve_items.Goals as goal

@@ -2,8 +2,8 @@ use Rattle.std.proofs.Common.{◌+◌, ◌*◌, ◌≤◌}
 use Rattle.register_core.specs.declared.answer.TheConstants.{MAX_REPLY_LENGTH}
 use Rattle.streams.specs.declared.watched.TheConstants.{MAX_IDLE_TURNS}
 use Rattle.register_desk.specs.Items.{ServedItems}
-use Rattle.desk_core.specs.Run.{AreFlushed, Wrote}
-use Rattle.desk_core.specs.Desk.{GoesOn}
+use Rattle.register_desk.specs.Run.{AreFlushed, Wrote}
+use Rattle.register_desk.specs.Desk.{GoesOn}
 use Rattle.register_desk.proofs.items.serve_items.Given as goal
 
 abbrev pub invariant-loop-item : goal.invariant-loop-item

@@ -1,4 +1,4 @@
-use Rattle.desk_core.proofs.Opened.{meet_checks}
+use Rattle.register_desk.proofs.Opened.{meet_checks}
 use Rattle.register_desk.proofs.laws.tables_meet_checks.Goals as goal
 
 pub returns : goal.returns

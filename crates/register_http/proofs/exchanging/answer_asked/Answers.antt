@@ -1,5 +1,5 @@
 use Rattle.std.proofs.Common.{inl, refl, sym}
-use Rattle.desk_core.proofs.Readings.{nothing_done}
+use Rattle.register_desk.proofs.Readings.{nothing_done}
 use Rattle.http_messages.specs.declared.asked.Asked.TheVariants.{Reject, ShowKey, ShowUsage}
 use Rattle.register_http.proofs.ActingLemmas.{asked_same, went_unasked, acts_text, rejected_text}
 use Rattle.register_http.proofs.exchanging.answer_asked.Goals as goal

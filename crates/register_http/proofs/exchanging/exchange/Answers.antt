@@ -1,7 +1,7 @@
 use Rattle.std.proofs.Common.{rules, refl, ap, ◌∙◌, ℕ}
 use Rattle.moment_core.specs.Moment.{IsMoment}
 use Rattle.streams.specs.declared.watched.Watched.{Watched}
-use Rattle.desk_core.specs.declared.outcome.Outcome.{Outcome}
+use Rattle.register_desk.specs.declared.outcome.Outcome.{Outcome}
 use Rattle.register_http.proofs.ServingLemmas.{leaves_one, was_clean, leaves_reader, sent_answer, sent_memory}
 use Rattle.register_http.proofs.ServingLemmas.{sent_no_reply, sent_nothing, served_after}
 use Rattle.register_http.proofs.exchanging.exchange.Goals.{in-Ok-Some, in-Err-Memory}

@@ -1,9 +1,9 @@
 use Rattle.std.proofs.Common.{List, Result, Ok, Err}
 use Rattle.sqlite_trees.specs.declared.store.Store.{Ghosts}
 use Rattle.register_requests.specs.declared.request.Request.{Request}
-use Rattle.desk_core.specs.{declared.desk.Desk.Desk, Desk.connection_of, Lives.after_lives}
+use Rattle.register_desk.specs.{declared.desk.Desk.Desk, Desk.connection_of, Lives.after_lives}
 use Rattle.sqlite.specs.Held.{state}
-use Rattle.desk_core.proofs.Found.{keeps_history}
+use Rattle.register_desk.proofs.Found.{keeps_history}
 use Rattle.register_program.specs.{declared.refused.Refused.Refused, Opening.FindsHistory, Opening.OpensAs}
 use Rattle.register_program.proofs.laws.openings_find_lives.Goals as goal
 

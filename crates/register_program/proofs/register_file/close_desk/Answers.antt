@@ -2,10 +2,10 @@ use Rattle.std.proofs.Common.{◌≡◌, subst, sym}
 use Rattle.std.proofs.Math.Logic.{∥∥₁_map}
 use Rattle.sqlite_trees.specs.declared.store.Store.{Ghosts}
 use Rattle.sqlite.specs.{Files.HoldsDatabase, Held.Held, Held.state, Recovery.Image, State.HasCleanDisk, Tree.Trees}
-use Rattle.desk_core.specs.declared.desk.Desk.{Desk}
-use Rattle.desk_core.specs.{Desk.connection_of, Lives.LeavesAfter, OpenRefusal.LeavesNew, Register.LeavesOneOf}
-use Rattle.desk_core.proofs.Found.{leaves_in_files, life_in_files}
-use Rattle.register_program.specs.{Within.Closing.LeavesAsDesk, Life.ClosesAs}
+use Rattle.register_desk.specs.declared.desk.Desk.{Desk}
+use Rattle.register_desk.specs.{Desk.connection_of, Lives.LeavesAfter, OpenRefusal.LeavesNew, Register.LeavesOneOf}
+use Rattle.register_desk.proofs.Found.{leaves_in_files, life_in_files}
+use Rattle.register_program.specs.{Within.LeavesAsDesk, Life.ClosesAs}
 use Rattle.register_program.proofs.register_file.close_desk.Goals as goal
 
 -- In files that hold what a closed store may come back as, what is found is what a stop leaves of the desk.

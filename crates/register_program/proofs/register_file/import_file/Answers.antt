@@ -1,6 +1,6 @@
 use Rattle.std.proofs.Common.{[], ap, refl}
-use Rattle.desk_core.proofs.Found.{leaves_alone}
-use Rattle.desk_core.specs.Desk.{LeavesEither}
+use Rattle.register_desk.proofs.Found.{leaves_alone}
+use Rattle.register_desk.specs.Desk.{LeavesEither}
 use Rattle.register_report.specs.ImportRows.{HasRowItems}
 use Rattle.register_program.proofs.Living.{fault_leaves, imports_none, lives_anyway, of_desk}
 use Rattle.register_program.proofs.Acts.{breaks_as}

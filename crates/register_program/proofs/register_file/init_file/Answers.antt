@@ -1,6 +1,6 @@
 use Rattle.std.proofs.Common.{[], arith, refl}
-use Rattle.desk_core.specs.OpenRefusal.{connection_in, refusal_in}
-use Rattle.desk_core.proofs.Found.{finds_nothing, leaves_alone, shows_table}
+use Rattle.register_desk.specs.OpenRefusal.{connection_in, refusal_in}
+use Rattle.register_desk.proofs.Found.{finds_nothing, leaves_alone, shows_table}
 use Rattle.register_program.proofs.{Living.of_desk, Refusing.made_closed, Refusing.made_none, Refusing.refuses_making}
 use Rattle.register_program.proofs.register_file.init_file.Goals as goal
 

@@ -1,8 +1,8 @@
 use Rattle.std.proofs.Common.{arith, refl}
-use Rattle.desk_core.specs.OpenRefusal.{connection_in, refusal_in}
-use Rattle.desk_core.proofs.Found.{finds_nothing, finds_register, lawful_there}
-use Rattle.desk_core.proofs.Opened.{meet_checks, stored_in}
-use Rattle.desk_core.proofs.NoRegister.{passes_nothing}
+use Rattle.register_desk.specs.OpenRefusal.{connection_in, refusal_in}
+use Rattle.register_desk.proofs.Found.{finds_nothing, finds_register, lawful_there}
+use Rattle.register_desk.proofs.Opened.{meet_checks, stored_in}
+use Rattle.register_desk.proofs.NoRegister.{passes_nothing}
 use Rattle.register_program.proofs.Refusing.{opens_closed, opens_none, refuses_opened}
 use Rattle.register_program.proofs.register_file.open_file.Goals as goal
 

@@ -1,7 +1,7 @@
 use Rattle.std.proofs.Common.{refl, ap}
 use Rattle.streams.specs.declared.watched.Watched.{Watched}
 use Rattle.key_rows.specs.Export.{export_text}
-use Rattle.desk_core.specs.{declared.outcome.Outcome.Outcome, KeyRows.all_rows}
+use Rattle.register_desk.specs.{declared.outcome.Outcome.Outcome, KeyRows.all_rows}
 use Rattle.register_report.proofs.WholeTable.{agrees}
 use Rattle.register_report.proofs.exporting.export.Goals as goal
 

@@ -1,6 +1,6 @@
 use Rattle.std.proofs.Common.{rules, subst, sym, ap}
-use Rattle.desk_core.specs.{declared.desk.Desk.Desk, Desk.ChangesNothing}
-use Rattle.desk_core.proofs.Readings.{nothing_done}
+use Rattle.register_desk.specs.{declared.desk.Desk.Desk, Desk.ChangesNothing}
+use Rattle.register_desk.proofs.Readings.{nothing_done}
 use Rattle.register_report.proofs.WholeTable.{export_rows, puts_all, puts_none}
 use Rattle.register_report.proofs.exporting.put_export.Goals as goal
 

@@ -2,9 +2,9 @@ use Rattle.std.proofs.Common.{inl, inr, rules, ap, ap₂, sym, subst, ◌∙◌,
 use Rattle.std.proofs.lemmas.Bool.{cases_Bool}
 use Rattle.key_rows.specs.{DueRows.AreListed, Report.horizon, Report.report_text}
 use Rattle.register_core.specs.History.{period}
-use Rattle.desk_core.specs.Desk.{ChangesNothing, IsClean}
-use Rattle.desk_core.specs.KeyRows.{AreAll, all_rows}
-use Rattle.desk_core.specs.declared.desk.Desk.{Desk}
+use Rattle.register_desk.specs.Desk.{ChangesNothing, IsClean}
+use Rattle.register_desk.specs.KeyRows.{AreAll, all_rows}
+use Rattle.register_desk.specs.declared.desk.Desk.{Desk}
 use Rattle.register_report.proofs.exporting.put_rotation_report.Goals.{then-are_all_unset, else-are_all_unset}
 use Rattle.register_report.proofs.RowsWritten.{EndsAt, report_rows}
 use Rattle.register_report.proofs.WholeTable.{puts_all, puts_none}

@@ -2,7 +2,7 @@ use Rattle.std.proofs.Common.{refl, ap}
 use Rattle.streams.specs.declared.watched.Watched.{Watched}
 use Rattle.key_rows.specs.Report.{horizon, report_text}
 use Rattle.register_core.specs.History.{latest}
-use Rattle.desk_core.specs.declared.outcome.Outcome.{Outcome}
+use Rattle.register_desk.specs.declared.outcome.Outcome.{Outcome}
 use Rattle.register_report.proofs.WholeTable.{agrees}
 use Rattle.register_report.proofs.exporting.rotation.Goals as goal
 

@@ -1,6 +1,6 @@
 use Rattle.std.proofs.Common.{◌∙◌, List, ℕ, Option, ap, inl, inr, subst}
-use Rattle.desk_core.specs.declared.outcome.Finish.TheVariants.{Ended}
-use Rattle.desk_core.specs.{declared.end.End.TheVariants.Memory, Lives.DeskLives}
+use Rattle.register_desk.specs.declared.outcome.Finish.TheVariants.{Ended}
+use Rattle.register_desk.specs.{declared.end.End.TheVariants.Memory, Lives.DeskLives}
 use Rattle.register_desk.proofs.Serving.{leaves_from}
 use Rattle.register_report.proofs.Retold.{counts_retold, desk_retold, lives_retold, table_of, table_retold}
 use Rattle.register_report.proofs.Retold.{writer_retold}

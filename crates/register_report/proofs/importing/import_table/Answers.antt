@@ -1,8 +1,8 @@
 use Rattle.std.proofs.Common.{◌≡◌, ◌∙◌, ℕ, List, [], ap, arith, inl, inr, refl, rules, subst, sym}
 use Rattle.std.specs.Prelude as Std
 use Rattle.csv.specs.Reading.{default_config, reader_config}
-use Rattle.desk_core.specs.{declared.end.End.End, declared.end.End.TheVariants.ReadFault}
-use Rattle.desk_core.specs.{declared.outcome.Finish.TheVariants.Ended, declared.outcome.Outcome.Outcome}
+use Rattle.register_desk.specs.{declared.end.End.End, declared.end.End.TheVariants.ReadFault}
+use Rattle.register_desk.specs.{declared.outcome.Finish.TheVariants.Ended, declared.outcome.Outcome.Outcome}
 use Rattle.register_report.specs.ImportRows.{AreRowItems, AreTexts}
 use Rattle.register_report.specs.{Import.StopsAtRecord, declared.importing.Rows.Rows, Within.TableRows.LacksHeader}
 use Rattle.register_desk.proofs.Serving.{clean_so, lives_so, no_header_so, runs_so, wrote_begin}

@@ -1,6 +1,6 @@
 use Rattle.std.proofs.Common.{◌≡◌, ◌+◌, true, false, refl, ap, subst, ◌∙◌, arith}
 use Rattle.std.specs.Prelude.{OnSome}
-use Rattle.desk_core.specs.KeyRows.{GoOn}
+use Rattle.register_desk.specs.KeyRows.{GoOn}
 use Rattle.register_report.specs.Within.KeyTable.{has_line_for}
 use Rattle.register_report.proofs.RowsWritten.{Next, at_most_one, none_so_far, one_if, one_more, part_of_line}
 use Rattle.register_report.proofs.RowsWritten.{rows_passed_on}

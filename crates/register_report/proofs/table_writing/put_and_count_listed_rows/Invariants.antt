@@ -1,5 +1,5 @@
 use Rattle.std.proofs.Common.{◌≡◌, ◌≤◌}
-use Rattle.desk_core.specs.KeyRows.{GoOn}
+use Rattle.register_desk.specs.KeyRows.{GoOn}
 use Rattle.register_report.proofs.RowsWritten.{SoFar}
 use Rattle.register_report.proofs.table_writing.put_and_count_listed_rows.Given as goal
 

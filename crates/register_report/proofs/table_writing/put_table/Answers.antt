@@ -1,6 +1,6 @@
 use Rattle.std.proofs.Common.{◌≡◌, ◌≢◌, sym, ◌∙◌}
-use Rattle.desk_core.specs.declared.end.End.{End}
-use Rattle.desk_core.specs.declared.end.End.TheVariants.{Memory, WriteFault}
+use Rattle.register_desk.specs.declared.end.End.{End}
+use Rattle.register_desk.specs.declared.end.End.TheVariants.{Memory, WriteFault}
 use Rattle.register_report.specs.Within.KeyTable.{foot_text, head_text}
 use Rattle.register_report.proofs.TextLemmas.{text_same, value_so}
 use Rattle.register_report.proofs.TableWritten.{no_foot, no_head, part_of_head, part_of_rows, table_passed_on}

@@ -1,6 +1,6 @@
 use Rattle.std.proofs.Common.{◌≡◌, rules, subst, sym}
 use Rattle.sqlite.specs.State.{Survives}
-use Rattle.sql_steps.specs.Within.Steps.{Then}
+use Rattle.sql_steps.specs.Within.{Then}
 use Rattle.sql_steps.proofs.Stepping.{stays, steps_then, steps_weaker}
 use Rattle.register_rows.specs.declared.accepted_request.DueDate.TheVariants.{Activation, Deactivation}
 use Rattle.register_tables.specs.TableChanges.{Makes, AreRightAt, with_keys_advanced}

@@ -1,5 +1,5 @@
 use Rattle.std.proofs.Common.{◌≡◌, ◌+◌, length, sym, subst, arith, rules}
-use Rattle.sql_steps.specs.{Steps.StepsBy, Within.Steps.Then}
+use Rattle.sql_steps.specs.{Steps.StepsBy, Within.Then}
 use Rattle.sql_steps.proofs.Stepping.{steps_then, steps_weaker}
 use Rattle.register_core.specs.declared.change.Change.{Change}
 use Rattle.register_core.specs.declared.change.Change.TheVariants.{Held, Made}

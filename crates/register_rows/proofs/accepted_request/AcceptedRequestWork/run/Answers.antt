@@ -1,5 +1,5 @@
 use Rattle.std.proofs.Common.{Ok, arith}
-use Rattle.sql_steps.specs.Within.Steps.{Then}
+use Rattle.sql_steps.specs.Within.{Then}
 use Rattle.sql_steps.proofs.Stepping.{steps_then, steps_weaker}
 use Rattle.register_core.specs.KeptReply.{IsKeptReply}
 use Rattle.register_tables.specs.TableChanges.{Makes, AreRightAt, HasKeys, with_keys_advanced, with_recorded}

@@ -1,5 +1,0 @@
-use Rattle.std.proofs.Common.{rules}
-use Rattle.desk_core.proofs.end.End.number.Goals as goal
-
-pub returns-in-ReadFault : goal.returns-in-ReadFault
-returns-in-ReadFault c = search rules

@@ -1,1 +1,0 @@
--- The texts of an export and of a report, as they grow row by row.

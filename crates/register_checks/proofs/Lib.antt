@@ -1,0 +1,11 @@
+pub mod AllMet
+pub mod Ordered
+pub mod Asked
+pub mod RowsFailed
+pub mod MetaChecked
+pub mod KeysChecked
+pub mod EntriesChecked
+pub mod NameLists
+pub mod CustodiansChecked
+pub mod ApprovalsChecked
+pub mod Chained

@@ -1,0 +1,261 @@
+//! Serves connections one after the other, one HTTP exchange each.
+ghost use Rattle.std.specs.Prelude.{◌≡◌, List, true};
+ghost use Rattle.register_requests.specs.declared.request.Request.{Request};
+ghost use Rattle.register_desk.specs.Desk.{IsClean, IsWhole, KeepsToSteps};
+ghost use Rattle.register_desk.specs.{Register.StandsFor, Run.LeavesDesk};
+ghost use Rattle.register_http.specs.{Exchange.Exchanges, OneItem.LeavesOne};
+ghost use Rattle.register_http.specs.ServedExchanges.{ServesClients, TookThenSome, nobody};
+ghost use Rattle.register_http.specs.Within.{may_serve_on};
+
+use crate::attendance::Attendance;
+use crate::exchanging::exchange;
+use http_messages::Routes;
+use machine_traits::{Client, Listener, Network, ReadHalf, WriteHalf};
+use moment_core::Moment;
+use register_desk::{Desk, End, Finish, Outcome};
+use register_words::Bounds;
+use sqlite::Alter;
+use std::alloc::Global;
+use std::io::{self, ErrorKind, Read, Write};
+use std::time::{Clock, Duration, Instant, SystemTime, UNIX_EPOCH};
+use streams::Watched;
+
+/// How many seconds the client of one exchange may keep it waiting in all.
+const MAX_CLIENT_SECONDS: u64 = 10;
+
+/// Tells the moment of an exchange.
+pub trait Now {
+    /// The moment, or `None` where the clock fails or is out of the range of moments.
+    fn now(&self) -> Option<Moment>;
+}
+
+/// The machine's clock, in whole seconds.
+#[derive(Drop)]
+pub struct MachineClock<'a, C: Clock> {
+    clock: &'a C,
+}
+
+impl<'a, C: Clock> MachineClock<'a, C> {
+    /// The clock that the runtime reads.
+    pub fn new(clock: &'a C) -> Self {
+        MachineClock { clock }
+    }
+}
+
+impl<C: Clock> Now for MachineClock<'_, C> {
+    fn now(&self) -> Option<Moment> {
+        let time = SystemTime::now(self.clock).ok()?;
+        let since = time.duration_since(UNIX_EPOCH).ok()?;
+        Moment::new(since.as_secs())
+    }
+}
+
+/// What serving stands on.
+#[derive(Drop)]
+pub struct Means<'a, L: Listener, C: Clock, N: Now> {
+    /// Where clients come.
+    pub listener: &'a L,
+    /// Measures how long a client takes.
+    pub timer: &'a C,
+    /// Tells the moment of each exchange.
+    pub moments: &'a N,
+}
+
+/// A half of a client's connection, for as long as its exchange may take.
+#[derive(Drop)]
+struct Timed<'a, H, C: Clock> {
+    half: H,
+    timer: &'a C,
+    /// When the exchange began, where the timer told it.
+    start: Option<Instant>,
+}
+
+impl<H, C: Clock> Timed<'_, H, C> {
+    /// How long the client may still keep the exchange waiting.
+    fn time_left(&self) -> io::Result<Duration> {
+        let start = self.start.ok_or(io::Error::from(ErrorKind::Other))?;
+        let elapsed = start.elapsed(self.timer)?;
+        match Duration::from_secs(MAX_CLIENT_SECONDS).checked_sub(elapsed) {
+            Some(left) if !left.is_zero() => Ok(left),
+            _ => Err(io::Error::from(ErrorKind::TimedOut)),
+        }
+    }
+}
+
+impl<R: ReadHalf, C: Clock> Read for Timed<'_, R, C> {
+    ghost remaining = { λ timed. R.remaining timed.half };
+
+    fn read(&mut self, buf: &mut [u8]) -> io::Result<usize> {
+        let wait = self.time_left()?;
+        self.half.read_within(wait, buf)
+    }
+}
+
+impl<W: WriteHalf, C: Clock> Write for Timed<'_, W, C> {
+    ghost contents = { λ timed. W.contents timed.half };
+
+    fn write(&mut self, buf: &[u8]) -> io::Result<usize> {
+        let wait = self.time_left()?;
+        self.half.write_within(wait, buf)
+    }
+
+    fn flush(&mut self) -> io::Result<()> {
+        // The system keeps nothing back of what it took.
+        Ok(())
+    }
+}
+
+/// A client who was accepted.
+#[derive(Drop)]
+pub struct Accepted<'a, R, W, C: Clock> {
+    /// Its connection.
+    pub client: Client<R, W>,
+    /// Measures how long it takes.
+    pub timer: &'a C,
+    /// The moment of its exchange.
+    pub moment: Moment,
+}
+
+/// What serving one connection came to.
+#[derive(Drop)]
+pub struct ServedConnection<R, W> {
+    /// What the exchange did.
+    pub outcome: Outcome,
+    /// The connection, on which no more is written or read.
+    pub client: Client<R, W>,
+}
+
+/// Serves one connection: one [`exchange`] at this moment, for which the client has ten seconds in
+/// all. The client is then told that no more comes, and what it has sent besides its request is
+/// taken off. It ends by [`End::ReadFault`], too, where the timer fails.
+pub fn serve_connection<S: Alter, R: ReadHalf, W: WriteHalf, C: Clock>(
+    alloc: Global,
+    routes: &mut Routes,
+    desk: &mut Desk<S>,
+    accepted: Accepted<'_, R, W, C>,
+) -> ServedConnection<R, W>
+    // Where the client's bytes are known, the reply is to those, and it is what was sent.
+    ensures exchanges { Exchanges S.Store accepted.entry.moment
+        (R.remaining accepted.entry.client.read_half) desk.old desk.new
+        (W.contents accepted.entry.client.write_half) (W.contents result.client.write_half)
+        result.outcome }
+    ensures reads { TookThenSome (R.remaining accepted.entry.client.read_half)
+        (R.remaining result.client.read_half) result.outcome.read }
+    ensures ended { W.has_ended result.client.write_half ≡ true }
+    ensures drained { R.is_drained result.client.read_half ≡ true }
+    // Whatever the client tells of its bytes, at most one request was handed to the register.
+    ensures leaves { (h : List Request) → StandsFor S.Store desk.old h → IsWhole desk.old
+        → IsClean S.Store desk.new → LeavesOne S.Store h desk.new result.outcome.end }
+    ensures clean { IsClean S.Store desk.new → IsClean S.Store desk.old }
+    ensures desk { LeavesDesk desk.old desk.new result.outcome.end }
+    ensures steps { KeepsToSteps S.Store 51 desk.old desk.new }
+{
+    let Accepted {
+        client,
+        timer,
+        moment,
+    } = accepted;
+    let Client {
+        read_half,
+        write_half,
+    } = client;
+    let start = Instant::now(timer).ok();
+    let mut reader = Watched::new(Timed {
+        half: read_half,
+        timer,
+        start,
+    });
+    let mut writer = Watched::new(Timed {
+        half: write_half,
+        timer,
+        start,
+    });
+    let outcome = exchange(alloc, routes, desk, moment, &mut reader, &mut writer);
+    let mut read_half = reader.into_inner().half;
+    let mut write_half = writer.into_inner().half;
+    write_half.end_writing();
+    read_half.drain();
+    ServedConnection {
+        outcome,
+        client: Client {
+            read_half,
+            write_half,
+        },
+    }
+}
+
+/// Whether a next exchange may follow one that ended so: the register may be asked again.
+fn may_serve_on(finish: Finish) -> bool
+    ensures { result ≡ may_serve_on finish }
+{
+    match finish {
+        Finish::Ended(End::Store) => false,
+        Finish::Ended(End::Broken) => false,
+        _ => true,
+    }
+}
+
+/// Serves so many connections that come to the listener, one after the other, each one exchange at
+/// the moment that is told once it was accepted. A client that is slow keeps the next one waiting
+/// no longer than ten seconds, and a connection is closed after its reply.
+///
+/// Gives the end of what there is to do after that many, or [`End::Store`] or [`End::Broken`] of
+/// an exchange, or [`End::ReadFault`] where a connection could not be accepted or no moment was
+/// told, as the attendance marks it.
+pub fn serve_on<S: Alter, L: Listener, C: Clock, N: Now>(
+    alloc: Global,
+    desk: &mut Desk<S>,
+    means: &Means<'_, L, C, N>,
+    exchanges: u32,
+    attendance: &mut Attendance,
+) -> Finish
+    requires { attendance.old ≡ nobody }
+    ensures { ServesClients S.Store exchanges attendance.new desk.old desk.new result }
+{
+    let mut routes = Routes::new();
+    let mut served = 0;
+    'exchanges: while served < exchanges {
+        let Some(client) = attendance.accept(means.listener) else {
+            return Finish::Ended(End::ReadFault);
+        };
+        let Some(moment) = attendance.tell_moment(means.moments) else {
+            return Finish::Ended(End::ReadFault);
+        };
+        let accepted = Accepted {
+            client,
+            timer: means.timer,
+            moment,
+        };
+        let connection = serve_connection(alloc, &mut routes, desk, accepted);
+        let finish = connection.outcome.end;
+        if !may_serve_on(finish) {
+            return finish;
+        }
+        served += 1;
+    }
+    Finish::AtEnd { rest: 0 }
+}
+
+/// Serves so many connections that come to the port of the machine itself, as [`serve_on`], by its
+/// clock. It ends by [`End::ReadFault`], too, where the port cannot be listened at.
+pub fn serve_at<S: Alter, N: Network + Clock>(
+    alloc: Global,
+    desk: &mut Desk<S>,
+    network: &N,
+    bounds: &Bounds,
+    attendance: &mut Attendance,
+) -> Finish
+    requires { attendance.old ≡ nobody }
+    ensures { ServesClients S.Store bounds.now.exchanges attendance.new desk.old desk.new result }
+{
+    let Some(listener) = attendance.listen(network, bounds.port) else {
+        return Finish::Ended(End::ReadFault);
+    };
+    let moments = MachineClock::new(network);
+    let means = Means {
+        listener: &listener,
+        timer: network,
+        moments: &moments,
+    };
+    serve_on(alloc, desk, &means, bounds.exchanges, attendance)
+}

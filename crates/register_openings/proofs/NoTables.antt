@@ -1,1 +1,0 @@
--- In an empty database none of the register's tables is there.

@@ -1,7 +1,0 @@
-use Rattle.std.proofs.Common.{◌≡◌, length}
-use Rattle.register_openings.specs.Within.CheckedRows.{AreEmpty}
-use Rattle.register_openings.proofs.custody_check.empty_name_lists.Given as goal
-
--- the lists so far
-abbrev pub invariant-loop : goal.invariant-loop
-invariant-loop l = AreEmpty l.lists.items × (length l.lists.items ≡ l.counter)

@@ -1,0 +1,12 @@
+pub mod EachIndex
+pub mod Creating
+pub mod RowCounts
+pub mod WhereNone
+pub mod NextTexts
+pub mod TableTexts
+pub mod NewTables
+pub mod VersionSet
+pub mod BesideShapes
+pub mod BesideMade
+pub mod BesideMeta
+pub mod Beside

@@ -1,2 +1,0 @@
-pub mod ServedExchanges
-pub mod Within
