@@ -23,12 +23,13 @@ use Rattle.register_desk.specs.{declared.desk.Desk.Desk, declared.outcome.Finish
 use Rattle.register_desk.proofs.{LinesCut.items_in, Lives.lawful_on}
 use Rattle.register_desk.proofs.{Appended.appends_none, Lived.items_in_range}
 use Rattle.register_program.specs.declared.refused.RefusedFiles.TheVariants.{Failed, Shut}
-use Rattle.register_program.specs.FileCalls.{Exports, LivesAnyway, MakesFile, OpensFirst, Reports, RunsLines}
+use Rattle.register_program.specs.FileCalls.{Exports, ImportsRows, LivesAnyway, MakesFile, OpensFirst, Reports}
+use Rattle.register_program.specs.FileCalls.{RunsLines}
 use Rattle.register_program.specs.FileCalls.{ServesExchanges}
 use Rattle.register_program.specs.Life.{LeavesInFiles, LeavesNoRequest, LeavesNothing, LivesOver, OfLeft}
 use Rattle.register_program.specs.Life.{SparesRegister}
 use Rattle.register_program.specs.declared.acting.Done.TheVariants.{Lived, Made}
-use Rattle.register_program.specs.Sentence.{WroteAnswers, AreItemsOf, Follow, FoundAgain, HoldsHistory, IsLifeOf}
+use Rattle.register_program.specs.Sentence.{AreRowItemsOf, WroteAnswers, AreItemsOf, Follow, FoundAgain, HoldsHistory, IsLifeOf}
 use Rattle.register_program.specs.Sentence.{LeadsFrom, LeftBy, LeftByClosed, LeftByRefused, ProgramRun, WasLife}
 use Rattle.register_program.specs.Sentence.{outcome_of}
 use Rattle.register_program.specs.declared.register_file.FileLife.{FileLife}
@@ -37,6 +38,8 @@ use Rattle.register_program.specs.{declared.refused.Refused.Refused, declared.re
 use Rattle.register_program.specs.{declared.acting.Done.Done, Job.Performs}
 use Rattle.machine_traits.specs.Closing.{LeftIn}
 use Rattle.register_http.proofs.Served.{AppliesWithin, applies_within, served_life}
+use Rattle.register_report.proofs.TableRead.{has_header, rows_in_range, table_in}
+use Rattle.register_words.specs.declared.values.Terms.{Terms}
 use Rattle.register_words.specs.declared.words.Job.{Job}
 use Rattle.register_words.specs.declared.words.Job.TheVariants.{Export, Import, Init, Report, Run, Serve}
 
@@ -221,11 +224,11 @@ module _ {S U : Type 0} (g : Ghosts S) (may_leave : S → Image → Type 0) (may
     opened_none (Err refused) leaves opens keeps from =
         unopened_as refused.files refused.refusal leaves opens.refuses.nothing (opens.refuses.spares h lawful) from
 
-    -- a life over the items of an input, with so many replies
-    abbrev LifeOver : Option (List ℕ) → ℕ → Type 0
-    LifeOver input replies =
+    -- a life over items of which this is said, with so many replies
+    abbrev LifeOver : (List (Option Request) → Type 0) → ℕ → Type 0
+    LifeOver AreIts replies =
         (life : Life) × AreInRange life.items × AppliesWithin life
-        × ((life.replies ≡ replies) × AreItemsOf input life.items × WroteAnswers h life old new)
+        × ((life.replies ≡ replies) × AreIts life.items × WroteAnswers h life old new)
         × HoldsHistory (after h life) left
 
     -- a life over some items, and what was written of it
@@ -249,26 +252,27 @@ module _ {S U : Type 0} (g : Ghosts S) (may_leave : S → Image → Type 0) (may
         ))
 
     -- a life over the items of the input, of which perhaps one more was applied than were answered
-    module _ (bytes : List ℕ) (items : List (Option Request)) (rest : List ℕ) (has : HasItems bytes items rest)
-        (lived : FileLife S) (desk : Desk S g) (may : Image → Type 0) (may_be : may left)
+    module _ (AreIts : List (Option Request) → Type 0) (items : List (Option Request)) (rest : List ℕ)
+        (its : AreIts items) (in_range : AreInRange items) (lived : FileLife S) (desk : Desk S g)
+        (may : Image → Type 0) (may_be : may left)
         (lives : LivesOver g h items rest lived.outcome old new desk may) where
       fitting : (one_more : Bool) → (lived.outcome.end ≡ Ended WriteFault → one_more ≡ true)
-          → (lived.outcome.replies ≡ lived.outcome.replies) × AreItemsOf (Some bytes) items
+          → (lived.outcome.replies ≡ lived.outcome.replies) × AreIts items
           × WroteAnswers h (life_of items lived.outcome.replies one_more) old new
       fitting one_more applied = (
         refl,
-        (rest, has),
+        its,
         told_over g h items lived.outcome.replies old new desk one_more rest lived.outcome.end applied lives.over,
       )
 
       -- of so many, and no more
       no_more : lived.outcome.end ≢ Ended WriteFault → HoldsRegister (history h (take lived.outcome.replies items)) left
-          → LifeOver (Some bytes) lived.outcome.replies
+          → LifeOver AreIts lived.outcome.replies
       no_more whole holds =
           let some = within g h items lived.outcome.replies old new desk false rest lived.outcome.end lives.over in
           let still : lived.outcome.replies ≡ lived.outcome.replies + 0 = omega arith in (
             life_of items lived.outcome.replies false,
-            items_in_range has.0 items has.2,
+            in_range,
             applies_within items lived.outcome.replies false (omega (arith, some)),
             fitting false (λ is. absurd (whole is)),
             inr (subst (λ (k : ℕ). HoldsRegister (history h (take k items)) left) still holds),
@@ -277,10 +281,10 @@ module _ {S U : Type 0} (g : Ghosts S) (may_leave : S → Image → Type 0) (may
       -- or of one more
       more : lived.outcome.replies < length items
           → HoldsRegister (history h (take (lived.outcome.replies + 1) items)) left
-          → LifeOver (Some bytes) lived.outcome.replies
+          → LifeOver AreIts lived.outcome.replies
       more within_items holds = (
         life_of items lived.outcome.replies true,
-        items_in_range has.0 items has.2,
+        in_range,
         applies_within items lived.outcome.replies true (omega (arith, within_items)),
         fitting true (λ is. refl),
         inr holds,
@@ -288,7 +292,7 @@ module _ {S U : Type 0} (g : Ghosts S) (may_leave : S → Image → Type 0) (may
 
       one_or_none : lived.outcome.end ≢ Ended WriteFault
           → HoldsRegister (history h (take (lived.outcome.replies + 1) items)) left
-          → LifeOver (Some bytes) lived.outcome.replies
+          → LifeOver AreIts lived.outcome.replies
       one_or_none whole holds = elim (cases_lt lived.outcome.replies (length items)) [
         | inl less ↦ more less holds
         | inr all ↦ no_more whole (subst (λ (taken : List (Option Request)). HoldsRegister (history h taken) left)
@@ -296,7 +300,7 @@ module _ {S U : Type 0} (g : Ghosts S) (may_leave : S → Image → Type 0) (may
             ∙ sym (take_all lived.outcome.replies items all)) holds)
       ]
 
-      known_life : ∥ LifeOver (Some bytes) lived.outcome.replies ∥₁
+      known_life : ∥ LifeOver AreIts lived.outcome.replies ∥₁
       known_life = elim (is_part lived.outcome.end) [
         | inl is ↦
             ∥∥₁_map (lives.in_part is left may_be)
@@ -310,14 +314,46 @@ module _ {S U : Type 0} (g : Ghosts S) (may_leave : S → Image → Type 0) (may
     -- of request lines
     ran : (input : Option (List ℕ)) (lived : FileLife S) → LeftByClosed g may_leave lived.files left
         → RunsLines g may_leave may_stay found input old new (Ok lived) → HoldsRegister h found
-        → ∥ LifeOver input lived.outcome.replies ∥₁
+        → ∥ LifeOver (AreItemsOf input) lived.outcome.replies ∥₁
     ran None lived leaves runs holds =
         ∥∥₁_map (some_life None lived leaves runs.anyway holds)
         (λ one. (one.0, one.1, one.2, (one.3.0, tt, one.3.1), inr one.4))
     ran (Some bytes) lived leaves runs holds =
         let cut = items_in bytes in
         let of = runs.lives h bytes cut.0 cut.1 lawful holds refl cut.2 leaves.0 in
-        known_life bytes cut.0 cut.1 cut.2 lived of.0 (LeftIn g may_leave lived.files) leaves.1 of.1.from
+        known_life (AreItemsOf (Some bytes)) cut.0 cut.1 (cut.1, cut.2) (items_in_range cut.2.0 cut.0 cut.2.2) lived
+        of.0 (LeftIn g may_leave lived.files) leaves.1 of.1.from
+
+    -- of the rows of a table
+    imported : (terms : Terms) (input : Option (List ℕ)) (lived : FileLife S)
+        → LeftByClosed g may_leave lived.files left
+        → ImportsRows g may_leave may_stay found terms input old new (Ok lived) → HoldsRegister h found
+        → ∥ LifeOver (AreRowItemsOf terms input) lived.outcome.replies ∥₁
+    imported terms None lived leaves imports holds =
+        ∥∥₁_map (some_life None lived leaves imports.anyway holds)
+        (λ one. (one.0, one.1, one.2, (one.3.0, tt, one.3.1), inr one.4))
+    imported terms (Some bytes) lived leaves imports holds = elim (has_header bytes) [
+      | inl begins ↦
+          let items = table_in terms.moment terms.caller terms.first bytes begins in
+          let of = imports.lives h bytes items.0 lawful holds refl items.1 leaves.0 in
+          known_life (AreRowItemsOf terms (Some bytes)) items.0 [] (inl items.1)
+          (rows_in_range terms.moment terms.caller terms.first items.1.rows items.0 items.1.each) lived of.0
+          (LeftIn g may_leave lived.files) leaves.1 of.1.from
+      | inr none ↦
+          let of = imports.without h bytes lawful holds refl none leaves.0 in
+          let ends = of.1.from in
+          ∥∥₁_map (ends.leaves left leaves.1) (λ one. (
+            no_life,
+            tt,
+            (omega arith, omega arith, omega arith),
+            (
+              sym ends.none,
+              inr (none, refl),
+              told_none g h [] 0 old new of.0 false ends.same refl,
+            ),
+            inr (either h left one),
+          ))
+    ]
 
     -- ---- each job
 
@@ -338,19 +374,21 @@ module _ {S U : Type 0} (g : Ghosts S) (may_leave : S → Image → Type 0) (may
         (opened_none (Err refused) leaves runs.anyway.opens (λ lived same holds. absurd (cc same)) from)
 
     imported_as : (input : Option (List ℕ)) (job : Job) (came : Result (FileLife S) (Refused S U))
-        → ((lived : FileLife S) (life : Life) → (life.replies ≡ lived.outcome.replies) × WroteAnswers h life old new
+        → (terms : Terms) → ((lived : FileLife S) (life : Life)
+        → (life.replies ≡ lived.outcome.replies) × AreRowItemsOf terms input life.items × WroteAnswers h life old new
         → Fits input job (Lived (Ok lived)) life)
         → ((refused : Refused S U) → Fits input job (Lived (Err refused)) no_life)
-        → LeftBy g may_leave may_stay (Lived came) left → LivesAnyway g may_leave may_stay found old new came
+        → LeftBy g may_leave may_stay (Lived came) left
+        → ImportsRows g may_leave may_stay found terms input old new came
         → (from : HoldsHistory h found) → WasOne input job (Lived came)
-    imported_as input job (Ok lived) is none leaves anyway (inl nothing) =
-        absurd (anyway.opens.nothing nothing.0 leaves.0)
-    imported_as input job (Ok lived) is none leaves anyway (inr holds) =
-        ∥∥₁_map (some_life input lived leaves anyway holds)
-        (λ one. (one.0, record { in_range = one.1; applied = one.2; is = is lived one.0 one.3 }, inr one.4))
-    imported_as input job (Err refused) is none leaves anyway from =
+    imported_as input job (Ok lived) terms is none leaves imports (inl nothing) =
+        absurd (imports.anyway.opens.nothing nothing.0 leaves.0)
+    imported_as input job (Ok lived) terms is none leaves imports (inr holds) =
+        ∥∥₁_map (imported terms input lived leaves imports holds)
+        (λ one. (one.0, record { in_range = one.1; applied = one.2; is = is lived one.0 one.3 }, one.4))
+    imported_as input job (Err refused) terms is none leaves imports from =
         was_none input job (Lived (Err refused)) (none refused)
-        (opened_none (Err refused) leaves anyway.opens (λ lived same holds. absurd (cc same)) from)
+        (opened_none (Err refused) leaves imports.anyway.opens (λ lived same holds. absurd (cc same)) from)
 
     served_as : (input : Option (List ℕ)) (job : Job) (most : ℕ) (came : Result (FileLife S) (Refused S U))
         → ((lived : FileLife S) (life : Life) → Fits input job (Lived (Ok lived)) life)
@@ -395,7 +433,7 @@ module _ {S U : Type 0} (g : Ghosts S) (may_leave : S → Image → Type 0) (may
     by_job input Run (Lived came) performs leaves =
         ran_as input Run came (λ lived life is. is) (λ refused. refl) leaves performs.0 start
     by_job input (Import terms) (Lived came) performs leaves =
-        imported_as input (Import terms) came (λ lived life is. is) (λ refused. refl) leaves performs.0.anyway start
+        imported_as input (Import terms) came terms (λ lived life is. is) (λ refused. refl) leaves performs.0 start
     by_job input Export (Lived came) performs leaves =
         was_none input Export (Lived came) refl (exported came leaves performs.0)
     by_job input (Report days) (Lived came) performs leaves =

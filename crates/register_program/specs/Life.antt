@@ -183,10 +183,12 @@ pub record LivesSome {S : Type 0} (g : Ghosts S) (h : List Request) (outcome : O
   pub over : outcome.end ≢ Ended BadHeader → RunsOver g h items rest outcome.end outcome.replies old new desk
   pub leaves : LeavesLifeInFiles h items outcome.end outcome.replies may_leave
 
--- An import without its header row wrote nothing, and whatever a stop leaves in the files holds the register as it was.
+-- An import without its header row answered no row and wrote nothing, and whatever a stop leaves in the files holds the
+-- register as it was.
 pub record EndsUnbegun (h : List Request) (outcome : Outcome) (old new : Option (List ℕ))
     (may_leave : Image → Type 0) : Type 0 where
   pub ends : EndsWithoutHeader outcome.end
+  pub none : outcome.replies ≡ 0
   pub same : new ≡ old
   pub leaves : LeavesInFiles h h may_leave
 

@@ -17,6 +17,8 @@ use Rattle.register_program.specs.declared.refused.RefusedFiles.TheVariants.{Fai
 use Rattle.register_program.specs.declared.acting.Done.TheVariants.{Lived, Made}
 use Rattle.register_program.specs.declared.acting.Done.{Done}
 use Rattle.machine_traits.specs.{declared.files.Closed.Closed, Closing.LeftIn}
+use Rattle.register_report.specs.ImportRows.{BeginsWithHeader, HasRowItems}
+use Rattle.register_words.specs.declared.values.Terms.{Terms}
 use Rattle.register_words.specs.declared.words.Job.{Job}
 use Rattle.register_words.specs.declared.words.Job.TheVariants.{Import, Run, Serve}
 
@@ -39,6 +41,12 @@ pub record ProgramRun : Type 0 where
 abbrev pub AreItemsOf : Option (List ℕ) → List (Option Request) → Type 0
 AreItemsOf input items = IfSome input (λ bytes. (rest : List ℕ) × HasItems bytes items rest)
 
+-- The items are those of the rows of the input, by the terms of its import, where its bytes are known: of an input
+-- without its header row there are none.
+abbrev pub AreRowItemsOf : Terms → Option (List ℕ) → List (Option Request) → Type 0
+AreRowItemsOf terms input items = IfSome input (λ bytes.
+    HasRowItems terms.moment terms.caller terms.first bytes items ⊎ ((BeginsWithHeader bytes → ⊥) × (items ≡ [])))
+
 -- What was written has the reply line of each item that was answered, whole and in order, and nothing past the line of
 -- one that was applied.
 pub record WroteAnswers (h : List Request) (life : Life) (old new : Option (List ℕ)) : Type 0 where
@@ -47,14 +55,14 @@ pub record WroteAnswers (h : List Request) (life : Life) (old new : Option (List
   pub answered : IsPrefixOf (answer_lines (take life.replies (answers h life.items))) text
   pub at_most_applied : IsPrefixOf text (answer_lines (take life.applied (answers h life.items)))
 
--- How a life fits the job of its run and its end. `Run` and `Import` wrote its answers and counted its replies;
--- the items of `Run` are those of its input. `Serve` may be any life. Any other job, or one that opened no register,
+-- How a life fits the job of its run and its end. `Run` and `Import` wrote its answers and counted its replies; the items
+-- are those of the input's lines, or of its rows. `Serve` may be any life. Any other job, or one that opened no register,
 -- has no items.
 abbrev pub IsLifeOf : List Request → Job → Option Outcome → ProgramRun → Life → Type 0
 IsLifeOf h Run (Some outcome) run life =
     (life.replies ≡ outcome.replies) × AreItemsOf run.input life.items × WroteAnswers h life run.old run.new
 IsLifeOf h (Import terms) (Some outcome) run life =
-    (life.replies ≡ outcome.replies) × WroteAnswers h life run.old run.new
+    (life.replies ≡ outcome.replies) × AreRowItemsOf terms run.input life.items × WroteAnswers h life run.old run.new
 IsLifeOf h (Serve bounds) (Some outcome) run life = Unit {0}
 IsLifeOf h job outcome run life = life.items ≡ []
 

@@ -15,8 +15,8 @@ use crate::register_file::{
 use clap::Error;
 use machine_traits::{Closed, Files, Network};
 use register_desk::{Finish, OpenRefusal, Outcome, Watched};
-use register_in_memory::run_in_memory;
 use register_http::Attendance;
+use register_in_memory::run_in_memory;
 use register_words::{GivenTask, Job, Task, read_words};
 use std::alloc::Global;
 use std::io::{Read, Write};

@@ -12,8 +12,8 @@ ghost use Rattle.register_program.specs.{Closing.ClosesDesk, Within.LeavesAsDesk
 use crate::refused::{Refused, close_connection_into_store};
 use machine_traits::{Absent, Closed, Files, Network};
 use register_desk::{Desk, DeskMark, Outcome, Watched, run};
-use register_report::{export, import, rotation};
 use register_http::{Attendance, serve_at};
+use register_report::{export, import, rotation};
 use register_words::{Bounds, Terms};
 use std::alloc::Global;
 use std::io::{Read, Write};

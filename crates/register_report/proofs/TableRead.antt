@@ -19,6 +19,7 @@ use Rattle.register_requests.specs.{Number.max_request_number, Purpose.IsPurpose
 use Rattle.register_requests.proofs.{Texts.IsExact, FieldTexts.key_types, FieldTexts.names, FieldTexts.purposes}
 use Rattle.register_report.specs.ImportRows.{AreRowItems, BeginsWithHeader, HasRowItems, HasRows, IsRowItem, IsRowOf}
 use Rattle.register_report.specs.ImportRows.{Item, RowTexts, date_field, header}
+use Rattle.register_desk.specs.Lives.{AreInRange}
 use Rattle.register_report.proofs.RowsLemmas.{same_tail, none_after, one_item, rows_split}
 
 -- ---- what is so, or is not
@@ -44,6 +45,16 @@ is_same xs ys = by (bytes_eq xs ys) refl
     by : (check : Bool) → bytes_eq xs ys ≡ check → Decided (xs ≡ ys)
     by true e = inl ((bytes_eq-Decides xs ys).0 e)
     by false e = inr (λ same. absurd (let both = sym e ∙ (bytes_eq-Decides xs ys).1 same in cc))
+
+are_same : (xs ys : RowTexts) → Decided (xs ≡ ys)
+are_same [] [] = inl refl
+are_same [] (y ∷ ys) = inr (λ same. absurd (cc same))
+are_same (x ∷ xs) [] = inr (λ same. absurd (cc same))
+are_same (x ∷ xs) (y ∷ ys) = by (both (is_same x y) (are_same xs ys))
+  where
+    by : Decided ((x ≡ y) × (xs ≡ ys)) → Decided (x ∷ xs ≡ y ∷ ys)
+    by (inl same) = inl (ap (λ (z : List ℕ). z ∷ xs) same.0 ∙ ap (λ (zs : RowTexts). y ∷ zs) same.1)
+    by (inr never) = inr (λ same. never (cc same, cc same))
 
 -- ---- fields
 
@@ -323,6 +334,33 @@ rows_in bytes begins =
     let p = begins.reached in
     let more = records_of (length p.0.2) p.0.1 p.0.2 (omega arith) in
     (more.0, (more.1.0, more.1.1, (p.0, p.1, p.2, more.1.2), more.1.3))
+
+-- an input begins with its header row, or does not
+pub has_header : (bytes : List ℕ) → BeginsWithHeader bytes ⊎ (BeginsWithHeader bytes → ⊥)
+unfolding Reached
+has_header bytes = by (next_record default_config states.StartRecord [] [] (strip_bom bytes)) refl
+  where
+    by : (o : Option Read) → next_record default_config states.StartRecord [] [] (strip_bom bytes) ≡ o
+        → Decided (BeginsWithHeader bytes)
+    by None e = inr (λ begins. absurd (let p = begins.reached in let both = sym e ∙ p.1 in cc))
+    by (Some read) e = elim (are_same header read.0) [
+      | inl same ↦ inl (record { state = read.1; left = read.2; reached = (read, e, same, (refl, refl)) })
+      | inr other ↦ inr (λ begins. absurd (
+          let p = begins.reached in
+          let one : read ≡ p.0 = let both = sym e ∙ p.1 in cc in
+          other (p.2 ∙ ap (λ (r : Read). r.0) (sym one))))
+    ]
+
+-- items of rows are in their ranges
+pub rows_in_range : (moment : ℕ) (caller : List ℕ) (number : ℕ) (rows : List RowTexts) (items : List Item)
+    → AreRowItems moment caller number rows items → AreInRange items
+rows_in_range moment caller number [] [] each = tt
+rows_in_range moment caller number [] (item ∷ items) each = absurd each
+rows_in_range moment caller number (row ∷ rows) [] each = absurd each
+rows_in_range moment caller number (row ∷ rows) (None ∷ items) each =
+    (tt, rows_in_range moment caller (number + 1) rows items each.1)
+rows_in_range moment caller number (row ∷ rows) (Some q ∷ items) each =
+    (each.0.in_range, rows_in_range moment caller (number + 1) rows items each.1)
 
 pub table_in : (moment : ℕ) (caller : List ℕ) (first : ℕ) (bytes : List ℕ)
     → BeginsWithHeader bytes

@@ -32,6 +32,7 @@ returns-clause-imports g c =
           let still : LeavesEither g.F.Opened.Store h h run.new.desk = rw without.0.desk alone in
           of_desk (c.close_desk-files.ensures.closes clean) (λ may leaves. record {
             ends = without.1;
+            none = without.0.replies;
             same = rw without.0.writer refl;
             leaves = leaves.one_of h h still;
           });
