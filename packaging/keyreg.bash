@@ -1,7 +1,7 @@
 # Completion of keyreg for bash.
 _keyreg() {
     local word=${COMP_WORDS[COMP_CWORD]} before=${COMP_WORDS[COMP_CWORD - 1]} options
-    local commands="init run import export report serve help" IFS=$'\n'
+    local commands="init run import export report serve" IFS=$'\n'
     if ((COMP_CWORD == 1)); then
         COMPREPLY=($(compgen -W "${commands// /$IFS}$IFS--help$IFS--version" -- "$word"))
         return
@@ -26,7 +26,6 @@ _keyreg() {
     import) options="--file --moment --caller --first --help" ;;
     report) options="--file --days --help" ;;
     serve) options="--file --port --exchanges --help" ;;
-    help) options=$commands ;;
     esac
     COMPREPLY=($(compgen -W "${options// /$IFS}" -- "$word"))
 }

@@ -9,7 +9,6 @@ _keyreg() {
         'export:write all keys as CSV'
         'report:write which keys are due for rotation'
         'serve:serve HTTP exchanges on 127.0.0.1'
-        'help:print the help of a command'
     )
     # Braces are expanded among the words of an array, and in no other assignment.
     local -a help=('(- *)'{-h,--help}'[print help]')
@@ -30,7 +29,6 @@ _keyreg() {
         ;;
     report) _arguments $file '--days=[how many days ahead]:days:' $help ;;
     serve) _arguments $file '--port=[the port]:port:' '--exchanges=[how many to serve]:number:' $help ;;
-    help) _describe command commands ;;
     esac
 }
 _keyreg "$@"

@@ -1,6 +1,6 @@
 #!/usr/bin/env python3
 """A person who types `keyreg`, some letters and Tab gets the rest: in bash, zsh and fish, each in a terminal of its
-own, which shows the line, the choices and nothing else.
+own, which shows the line, the choices and nothing else. A word that the program does not know is never completed.
 
     checks/package/completion.py [SHELL..]
 
@@ -36,6 +36,8 @@ COMPLETED = (
     ("keyreg run --file=folder/ye", "keyreg run --file=folder/year.keyreg"),
     ("keyreg run --file=two", "keyreg run --file=two\\ words.keyreg"),
 )
+# What is typed before one Tab, and stays as it is: what the program knows no word for.
+LEFT = ("keyreg h", "keyreg help")
 # What is typed before two Tabs, and the choices that are to stand on the screen.
 CHOICES = (("keyreg ", "init run import export report serve"),
            ("keyreg import --", "--file --moment --caller --first --help"),
@@ -124,6 +126,14 @@ def faults_of(shell: str, words: Sequence[str], folder: pathlib.Path, files: str
             if line_of(lines) not in right or len(lines) != 1:
                 yield f"{shell}: `{text}` and Tab: {lines}, not {wanted!r}"
             terminal.clear()
+        for text in LEFT:
+            # What is typed after the Tab stands there once the shell is done with it.
+            terminal.typed(text, "Tab")
+            terminal.typed("+")
+            lines = terminal.until(lambda lines: line_of(lines).endswith("+"))
+            if line_of(lines) != f"{text}+":
+                yield f"{shell}: `{text}`, Tab and `+`: {lines}"
+            terminal.clear()
         for text, choices in CHOICES:
             terminal.typed(text, "Tab", "Tab")
             lines = terminal.until(lambda lines, choices=choices: not missing_in(lines, choices))
@@ -141,7 +151,8 @@ def main() -> None:
         clean = ["env", "-i", f"HOME={folder}/home", "PATH=/usr/bin:/bin", "TERM=screen", "LC_ALL=C.UTF-8"]
         for shell in shells:
             faults += faults_of(shell, clean, folder, SHELLS[shell][2].format(folder / "files"))
-    verdict(f"{', '.join(shells)}: {len(COMPLETED) + len(CHOICES)} completions each, {len(faults)} faults", faults)
+    count = len(COMPLETED) + len(LEFT) + len(CHOICES)
+    verdict(f"{', '.join(shells)}: {count} completions each, {len(faults)} faults", faults)
 
 
 if __name__ == "__main__":

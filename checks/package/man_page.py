@@ -30,8 +30,9 @@ FLAG = re.compile(r"Fl ([hV] [|,] -\w+|-[\w-]+)(?: Ar (\w+))?")
 QUOTED = re.compile(r'^\.It Li "keyreg: (\w+)"', re.M)
 NAMED = re.compile(r"^\| 3\d \| `(\w+)` \||`keyreg: (\w+)`", re.M)
 LINTERS = (["mandoc", "-T", "lint", "-W", "style"], ["groff", "-mdoc", "-ww", "-Tutf8", "-z"])
-# How the files of completion have an option.
+# How the files of completion have an option, and a command.
 COMPLETIONS = {"bash": r"--([a-z]+)", "zsh": r"--([a-z]+)", "fish": r"complete .* -l ([a-z]+)"}
+COMMANDS = {"bash": r'commands="([a-z ]+)"', "zsh": r"(?m)^ +'([a-z]+):", "fish": r"set -l commands ([a-z ]+)"}
 
 # Each with the name of its value, by the commands; the program itself has no name.
 Options = dict[str, list[tuple[str, Optional[str]]]]
@@ -91,8 +92,9 @@ def other_faults(wanted: Options) -> Iterator[str]:
         text = read(f"packaging/keyreg.{shell}")
         yield from (f"packaging/keyreg.{shell}: no --{name} in both"
                     for name in sorted(names ^ set(re.findall(pattern, text))))
-        yield from (f"packaging/keyreg.{shell}: no command {word}" for word in wanted
-                    if not re.search(rf"\b{word}\b", text))
+        words = " ".join(re.findall(COMMANDS[shell], text)).split()
+        yield from (f"packaging/keyreg.{shell}: no command {word} in both"
+                    for word in sorted((wanted.keys() - {""}) ^ set(words)))
 
 
 def main() -> None:
