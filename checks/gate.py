@@ -70,6 +70,7 @@ GATE = (
     Part("desk/rules.py", 60),
     Part("office/advance_tried.py", 60),
     Part("office/audit_views.py", 60),
+    Part("office/users_tried.py", 60),
     Part("program/worked.py", 60),
     Part("program/tables.py", 60),
     Part("program/every_command.py", 30),
