@@ -15,15 +15,21 @@ answer came:
 
     echo '{"kind":"advance"}' | client.py --caller clock.job --numbers clock.numbers
 
+By way of nginx it needs the caller's password, which is the first line of a file that nobody else may read, and for a
+certificate of the office's own that of who signed it:
+
+    client.py --address https://keyreg.example --password clock.password --trust office.pem ..
+
 What it takes off its writer:
 
 - Numbers that never come twice. Each is above all before it, and not below the microseconds of the clock, so neither a
   clock that is set back nor a lost file brings one back alone. The last one stands in a file, on the disk before it is
   sent. One client at a time has the file.
-- Sending again. After a lost or broken answer, a 500, a 502, a 503 or a 504 the same request goes out under the same
-  number, ever more slowly, until an answer comes: it acts once. What was not answered when patience ended, or when the
-  client was killed, stands in the file, and `resume` sends it again; no other request goes out before it. So it is with
-  an answer that is none of keyreg's, as a proxy's own, which does not tell whether it acted: `forget` gives up.
+- Sending again. After a lost or broken answer, a 429 of nginx, a 500, a 502, a 503 or a 504 the same request goes out
+  under the same number, ever more slowly, until an answer comes: it acts once. What was not answered when patience
+  ended, or when the client was killed, stands in the file, and `resume` sends it again; no other request goes out
+  before it. So it is with an answer that is none of keyreg's, as a proxy's own, which does not tell whether it acted:
+  `forget` gives up.
 - Refusals as exceptions, with the values that they tell.
 """
 import argparse
@@ -34,14 +40,16 @@ import http.client
 import itertools
 import json
 import os
+import ssl
 import sys
 import time
 import urllib.parse
 from typing import Any, Iterator, NamedTuple, Optional
 
 GREATEST_NUMBER = 9007199254740991
-# Statuses that do not tell whether a request acted: of keyreg, and of what stands before it.
-UNTOLD = (500, 502, 503, 504)
+# Statuses after which a request is sent again: of nginx, which takes no more of this address yet; and those that do not
+# tell whether it acted, of keyreg and of what stands before it.
+UNTOLD = (429, 500, 502, 503, 504)
 
 
 class Refused(Exception):
@@ -59,6 +67,10 @@ class Unexpected(Exception):
     def __init__(self, status, body):
         super().__init__(f"status {status}: {body[:200]!r}")
         self.status, self.body = status, body
+
+
+class InUse(OSError):
+    """Another client has the file of numbers."""
 
 
 class NoAnswer(Exception):
@@ -81,8 +93,10 @@ class Numbers:
         self.lock = os.open(self.path + ".lock", os.O_RDWR | os.O_CREAT, 0o600)
         try:
             fcntl.flock(self.lock, fcntl.LOCK_EX | fcntl.LOCK_NB)
-        except OSError:
+        except OSError as fault:
             os.close(self.lock)
+            if isinstance(fault, BlockingIOError):
+                raise InUse(f"another client has the numbers of {self.path}: one at a time") from None
             raise
         self.last, self.request = 0, None
         if os.path.exists(self.path):
@@ -268,13 +282,25 @@ def main():
     words.add_argument("--caller", required=True)
     words.add_argument("--numbers", required=True, metavar="FILE", help="the file of the last number")
     words.add_argument("--patience", type=float, default=60, metavar="SECONDS")
+    words.add_argument("--password", metavar="FILE", help="the file with the caller's password, for nginx")
+    words.add_argument("--trust", metavar="FILE", help="the certificate of who signed that of an https address")
     words = words.parse_args()
     try:
-        with Client(words.address, words.caller, words.numbers, patience=words.patience) as office:
+        password = words.password and first_line(words.password)
+        context = ssl.create_default_context(cafile=words.trust) if words.trust else None
+        with Client(words.address, words.caller, words.numbers, password, words.patience, context=context) as office:
             return typed(office, sys.stdin)
+    except InUse as fault:
+        print(f"client: {fault}", file=sys.stderr)
+        return 2
     except (NoAnswer, Unexpected, OSError, ValueError, KeyError, TypeError) as fault:
         print(f"client: {type(fault).__name__}: {fault}", file=sys.stderr)
         return 2
+
+
+def first_line(path):
+    with open(path, encoding="utf-8") as file:
+        return file.readline().rstrip("\n")
 
 
 def told(word, reply):

@@ -1,33 +1,45 @@
 #!/usr/bin/env python3
 """A register behind nginx with office/units/nginx-keyreg.conf, and what reaches it without, as docs/OPERATING.md says:
-who a request is from, who is refused, and what a page of another site may ask. A client that stalls holds up nobody.
-All of it is tried with the file as it stands, and by TLS, after the edit that the file's head names, with a certificate
-that is made here.
+who a request is from, who is refused, and what a page of another site may ask. A client that stalls holds up nobody,
+and who guesses passwords himself alone. All of it is tried with the file as it stands, and by TLS, after the edit that
+the file's head names, with a certificate that is made here; then what is asked without TLS is led to it. What nginx
+answers by itself is as docs/openapi.yaml says.
 
     checks/office/behind_nginx.py
 
 It needs Debian's nginx-light, and openssl.
 """
 import base64
+import contextlib
+import io
 import json
+import os
 import pathlib
 import socket
 import ssl
 import sys
 import time
+import unittest.mock
 from typing import Any, NamedTuple, Optional, Union
 
 sys.path.insert(1, str(pathlib.Path(__file__).resolve().parents[1] / "shared"))
-from nginx import HOST, USERS, Guard
-from registers import database
+from places import use
+from nginx import HOST, USERS, Guard, has_ipv6
+from registers import File, database
 from script import expect, verdict
 from serving import PATIENCE, Served, head, received
+from tools import run_tool
+use("checks/program")
+import client
+from openapi import unmet_by_nginx
 
 PERIOD = {"kind": "set-period", "type": "master", "originator": 6, "recipient": 0}
 KEY = {"kind": "register", "type": "master", "owner": "bob", "activation": None, "protect_stop": None,
        "deactivation": None, "purpose": "root"}
 POLICY = "content-security-policy: default-src 'none'; script-src 'self'; style-src 'self'; connect-src 'self';"
 EVIL = "Origin: http://evil.example"
+# How many wrong passwords are tried at once, and how many exchanges of one address go on by the file.
+TRIED, MOST = 60, 40
 # Users without their password: none is given, another one, and nobody's.
 STRANGERS = ((None, None), ("office", "another"), ("nobody", "desk"))
 
@@ -36,27 +48,33 @@ Place = Union[Guard, int]
 
 
 class Answer(NamedTuple):
-    """The status, the lines of the head in small letters, the body, and its value where it is JSON."""
+    """The status, the lines of the head in small letters, the body, its value where it is JSON, and the fields of the
+    head by their names in small letters."""
     status: int
     lines: str
     body: bytes
     value: Any
+    fields: dict[str, str]
 
 
 def basic(user: str, word: Optional[str] = None) -> str:
     return "Authorization: Basic " + base64.b64encode(f"{user}:{word or USERS[user]}".encode()).decode()
 
 
-def asked(place: Place, *lines: str, body: bytes = b"", user: Any = None, word: Any = None) -> Answer:
+def asked(place: Place, *lines: str, body: bytes = b"", user: Any = None, word: Any = None,
+          source: str = "127.0.0.1") -> Answer:
     """The answer to a request; a user gives a password."""
     lines = (*lines, basic(user, word)) if user else lines
     is_port = isinstance(place, int)
-    with socket.create_connection(("127.0.0.1", place), PATIENCE) if is_port else place.connected() as connection:
+    with (socket.create_connection(("::1" if ":" in source else "127.0.0.1", place), PATIENCE) if is_port
+          else place.connected(source=source)) as connection:
         connection.sendall(head(*lines, "Connection: close") + body)
         reply = received(connection)
     first, _, body = reply.partition(b"\r\n\r\n")
     value = json.loads(body) if b"application/json" in first and body else None
-    return Answer(int(first.split()[1]), first.decode().lower(), body, value)
+    fields = {name.lower(): value for name, value in
+              (line.split(": ", 1) for line in first.decode("latin-1").split("\r\n")[1:])}
+    return Answer(int(first.split()[1]), first.decode().lower(), body, value, fields)
 
 
 def posted(place: Place, value: Any, *fields: str, user: Any = None, word: Any = None, host: str = HOST) -> Answer:
@@ -65,8 +83,8 @@ def posted(place: Place, value: Any, *fields: str, user: Any = None, word: Any =
     return asked(place, *lines, body=body, user=user, word=word)
 
 
-def got(place: Place, path: str, user: Any = None, word: Any = None) -> Answer:
-    return asked(place, f"GET {path} HTTP/1.1", f"Host: {HOST}", user=user, word=word)
+def got(place: Place, path: str, user: Any = None, word: Any = None, source: str = "127.0.0.1") -> Answer:
+    return asked(place, f"GET {path} HTTP/1.1", f"Host: {HOST}", user=user, word=word, source=source)
 
 
 def expect_no_preflight(place: Place, status: int, host: str, *fields: str) -> None:
@@ -102,9 +120,20 @@ def behind(guard: Guard) -> None:
     expect_no_preflight(guard, 401, HOST)
 
 
-def desk(guard: Guard) -> None:
-    """The desk, the user's name and the list: each for users alone, with the content policy."""
-    pathlib.Path(guard.list_folder, "list.json").write_text('{"form":1}', encoding="ascii")
+def by_document(guard: Guard, path: str, status: int, user: Any = None, word: Any = None) -> Answer:
+    """An answer to a GET of a path that is nginx's own, as docs/openapi.yaml has it."""
+    answer = got(guard, path, user, word)
+    fault = unmet_by_nginx(path, answer.status, answer.fields, answer.body.decode())
+    expect(answer.status == status and not fault, f"{path}: {answer}, {fault}")
+    return answer
+
+
+def desk(guard: Guard, file: File) -> None:
+    """The desk, the user's name and the list: each for users alone, with the content policy, and by TLS with the word
+    that browsers keep to it."""
+    by_document(guard, "/list.json", 404, "office")
+    made = run_tool("list", file, pathlib.Path(guard.list_folder, "list.json"), text=True)
+    expect(made.returncode == 0, f"the list: {made}")
     for path in ("/", "/desk.js", "/me", "/list.json"):
         for user, word in STRANGERS:
             answer = got(guard, path, user, word)
@@ -112,9 +141,85 @@ def desk(guard: Guard) -> None:
         answer = got(guard, path, "office")
         is_held = (path == "/list.json" or POLICY in answer.lines) and "nosniff" in answer.lines
         expect(answer.status == 200 and answer.body and is_held and "unsafe" not in answer.lines, f"{path}: {answer}")
+        for answer in (answer, got(guard, path)):
+            keeps = answer.fields.get("strict-transport-security")
+            expect(keeps == ("max-age=31536000" if guard.tls else None), f"{path}, kept to TLS: {answer}")
+    for path in ("/me", "/list.json"):
+        by_document(guard, path, 401, "office", "another")
+        by_document(guard, path, 200, "office")
     expect(got(guard, "/me", "alice.meyer").body == b"alice.meyer", "the name of the user")
     for path in ("/../list/list.json", "/nginx.conf", "/%2e%2e/users"):
         expect(got(guard, path, "office").status in (400, 404), f"{path} is handed out")
+
+
+def led_to_tls(guard: Guard) -> None:
+    """What is asked without TLS is led to the same page by TLS, by both kinds of addresses, of which each is served."""
+    for source in ("127.0.0.1", "::1")[:1 + has_ipv6()]:
+        answer = asked(guard.plain_port, "GET /list.json?a=b HTTP/1.1", f"Host: {HOST}", source=source)
+        place = f"https://{HOST}/list.json?a=b"
+        expect(answer.status == 301 and answer.fields["location"] == place, f"without TLS from {source}: {answer}")
+        expect(got(guard, "/me", "office", source=source).body == b"office", f"by TLS from {source}")
+
+
+def guessed(port: int) -> None:
+    """Who tries many passwords at once gets few answers, and none that tells a right one from a wrong one before there
+    is room again, also where he goes away and comes again. Another address is served meanwhile."""
+    def ask_right(source: str = "127.0.0.1") -> int:
+        return got(guard, "/me", "office", source=source).status
+
+    # One wrong password in ten seconds is answered, so that nothing hangs on how fast this machine is.
+    with Guard(port, rate="6r/m") as guard, contextlib.ExitStack() as tries:
+        expect(got(guard, "/me", "office", "another").status == 401, "the first wrong password is refused")
+        guesses = [tries.enter_context(guard.connected()) for _ in range(TRIED)]
+        for guess in guesses:
+            guess.sendall(head("GET /me HTTP/1.1", f"Host: {HOST}", basic("office", "another"), "Connection: close"))
+        time.sleep(1)
+        statuses = []
+        for guess in guesses:
+            guess.setblocking(False)
+            with contextlib.suppress(BlockingIOError):
+                statuses.append(int(guess.recv(65536).split()[1]))
+        expect(statuses == [429] * (TRIED - MOST), f"of {TRIED} wrong passwords are answered {statuses}")
+        expect(ask_right() == 429, "a right password among wrong ones is told from them")
+        tries.close()
+        time.sleep(0.5)
+        expect(ask_right() == 429, "a right password of who went away and came again is told from wrong ones")
+        expect(ask_right("127.0.0.2") == 200, "another address is not served meanwhile")
+        late = time.monotonic() + PATIENCE
+        while ask_right() != 200:
+            expect(time.monotonic() < late, "an address is shut out for good")
+            time.sleep(0.2)
+
+
+def by_client(guard: Guard) -> None:
+    """office/client.py, as a shell calls it, gives the password of its file, and says plainly that a file of numbers
+    is in use. The host's name leads here."""
+    folder = pathlib.Path(guard.folder, "client")
+    folder.mkdir()
+    (folder / "right").write_text(f"{USERS['alice.meyer']}\n", "ascii")
+    (folder / "wrong").write_text("another\n", "ascii")
+    address = f"http{'s' * guard.tls}://{HOST}:{guard.port}"
+    trust = ["--trust", str(guard.folder / "certificate.pem")] if guard.tls else []
+
+    def called(word: str) -> tuple[int, str]:
+        words = ["client.py", "--address", address, "--caller", "alice.meyer", "--numbers", str(folder / "numbers"),
+                 "--password", str(folder / word), *trust]
+        output, here = io.StringIO(), [(socket.AF_INET, socket.SOCK_STREAM, 6, "", ("127.0.0.1", guard.port))]
+        typed = io.StringIO('{"kind":"advance"}')
+        with (unittest.mock.patch("sys.argv", words), unittest.mock.patch("sys.stdin", typed),
+              unittest.mock.patch("socket.getaddrinfo", lambda *_, **__: here),
+              contextlib.redirect_stdout(output), contextlib.redirect_stderr(output)):
+            return client.main(), output.getvalue()
+
+    status, told = called("wrong")
+    expect(status == 2 and told.startswith("client: Unexpected: status 401"), f"by a wrong password: {status}, {told}")
+    status, told = called("right")
+    expect(status == 0 and told.startswith("resumed 0 - ") and "ok 0 - " in told, f"by the right one: {status}, {told}")
+    numbers = client.Numbers(str(folder / "numbers"))
+    status, told = called("right")
+    os.close(numbers.lock)
+    wanted = f"client: another client has the numbers of {folder / 'numbers'}: one at a time\n"
+    expect((status, told) == (2, wanted), f"of numbers in use: {status}, {told}")
 
 
 def stalled(guard: Guard) -> None:
@@ -154,22 +259,29 @@ def tried(tls: bool) -> None:
         with Guard(served.port, tls=tls) as guard:
             behind(guard)
             stalled(guard)
-            desk(guard)
+            desk(guard, served.file)
+            by_client(guard)
             if tls:
                 other_names(guard)
+                led_to_tls(guard)
+        if not tls:
+            guessed(served.port)
         without(served.port)
         served.kill()
         with database(served.file) as connection:
             rows = connection.execute("SELECT caller, number FROM request ORDER BY rowid").fetchall()
-    wanted = [("alice.meyer", 5), ("office", 11), ("alice.meyer", 16), ("office", 51), ("office", 60)]
+    # client.py sent two, under numbers of its own.
+    rows = [(caller, min(number, 1000)) for caller, number in rows]
+    wanted = [("alice.meyer", 5), ("office", 11), ("alice.meyer", 16), ("office", 51), *[("alice.meyer", 1000)] * 2,
+              ("office", 60)]
     expect(rows == wanted, f"accepted were {rows}, not {wanted}")
 
 
 def main() -> None:
     tried(tls=False)
     tried(tls=True)
-    verdict("behind nginx, without TLS and by it, a caller is the user who sent the request, and a foreign host is "
-            "refused; without it both are taken")
+    verdict("behind nginx, without TLS and by it, a caller is the user who sent the request, a foreign host is "
+            "refused, and who guesses passwords waits; without it both are taken")
 
 
 main()

@@ -1,4 +1,5 @@
-"""docs/openapi.yaml as exchanges_by_curl.py uses it: what it says of a reply, and whether a body is a command by it."""
+"""docs/openapi.yaml as exchanges_by_curl.py and behind_nginx.py use it: what it says of a reply of keyreg's or of
+nginx's own, and whether a body is a command by it."""
 import functools
 import json
 import operator
@@ -38,8 +39,10 @@ def fault_of(schema: Any, value: Any) -> Optional[str]:
 
 
 def responses(method: str, target: str) -> Any:
-    """The replies to this method and target, by their statuses."""
+    """The replies of keyreg to this method and target, by their statuses. A path with servers of its own is nginx's."""
     for path, item in DOCUMENT["paths"].items():
+        if "servers" in item:
+            continue
         place = re.fullmatch(path.replace("{key}", "([1-9][0-9]*)"), target)
         if place and not any(fault_of(KEY, int(number)) for number in place.groups()):
             operation = {"GET": item.get("get"), "POST": item.get("post")}.get(method)
@@ -68,6 +71,18 @@ def unmet(method: str, target: str, reply: bytes) -> Optional[str]:
     # A client that asks by HEAD shows no body.
     fault = body and fault_of(response["content"][kind]["schema"], json.loads(body))
     return f"a body of status {status}: {fault}" if fault else None
+
+
+def unmet_by_nginx(target: str, status: int, fields: dict[str, str], body: str) -> Optional[str]:
+    """What of an answer to a GET of a path that is nginx's own is not as the document says, or None."""
+    response = resolved(DOCUMENT["paths"][target]["get"]["responses"].get(str(status), {}))
+    for name, header in response.get("headers", {}).items():
+        if fault := fault_of(header["schema"], fields.get(name.lower())):
+            return f"the header {name}: {fault}"
+    kind = fields["content-type"].split(";")[0]
+    if kind not in response.get("content", {}):
+        return f"a content of type {kind} and status {status}"
+    return fault_of(response["content"][kind]["schema"], json.loads(body) if kind == "application/json" else body)
 
 
 def is_command(body: bytes) -> bool:

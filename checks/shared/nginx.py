@@ -1,4 +1,5 @@
 """nginx before a served register, with the office's own file: what the checks over nginx share."""
+import contextlib
 import os
 import pathlib
 import re
@@ -11,15 +12,23 @@ from typing import Mapping, Optional, Union
 
 from places import DESK, UNITS
 from script import expect, output_of
-from serving import PATIENCE, begins_to_listen, free_port
+from serving import PATIENCE, begins_to_listen, free_ports
 
 CONF = UNITS / "nginx-keyreg.conf"
 HOST, USERS = "keyreg.example", {"alice.meyer": "wonder", "office": "desk"}
 MAIN = """daemon off; pid {folder}/pid; error_log {folder}/error.log; {user}
-events {{ worker_connections 64; }}
+events {{ worker_connections 512; }}
 http {{ access_log off; client_body_temp_path {folder}/body; proxy_temp_path {folder}/proxy;
 fastcgi_temp_path {folder}/f; uwsgi_temp_path {folder}/u; scgi_temp_path {folder}/s; include {folder}/keyreg.conf; }}
 """
+
+
+def has_ipv6() -> bool:
+    """Whether this machine has the address ::1."""
+    with contextlib.suppress(OSError), socket.socket(socket.AF_INET6) as tried:
+        tried.bind(("::1", 0))
+        return True
+    return False
 
 
 def by_tls(text: str, folder: pathlib.Path) -> str:
@@ -33,23 +42,32 @@ def by_tls(text: str, folder: pathlib.Path) -> str:
 
 
 class Guard:
-    """nginx with the example's file, on ports of its own. The desk's list is handed out of the folder's `list`."""
+    """nginx with the example's file, on ports of its own, that of what is asked without TLS too. The desk's list is
+    handed out of the folder's `list`. Wrong passwords are answered at this rate, which is not the file's."""
 
-    def __init__(self, register_port: int, words: Optional[Mapping[str, str]] = None, tls: bool = False) -> None:
-        self.port, self.held, self.tls = free_port(), tempfile.TemporaryDirectory(), tls
+    def __init__(self, register_port: int, words: Optional[Mapping[str, str]] = None, tls: bool = False,
+                 rate: str = "1000r/s") -> None:
+        self.port, self.plain_port, refused_port = free_ports(3)
+        self.held, self.tls = tempfile.TemporaryDirectory(), tls
         self.folder = folder = pathlib.Path(self.held.name)
         # nginx reads the list and the desk as another user.
         folder.chmod(0o755)
         self.list_folder = os.path.join(folder, "list")
         os.mkdir(self.list_folder)
         text, changes = CONF.read_text(encoding="ascii"), {
-            "8420": str(register_port), "/etc/nginx/keyreg.users": f"{folder}/users",
+            "127.0.0.1:8420": f"127.0.0.1:{register_port}", "127.0.0.1:8422": f"127.0.0.1:{refused_port}",
+            "/etc/nginx/keyreg.users": f"{folder}/users", "rate=1r/s": f"rate={rate}",
             "/usr/local/share/keyreg/desk": str(DESK), "/var/lib/keyreg-list": self.list_folder}
         if tls:
             text = by_tls(text, folder)
-            changes |= {"listen 443": f"listen 127.0.0.1:{self.port}",
-                        "/etc/ssl/certs/keyreg.pem": f"{folder}/certificate.pem",
+            changes |= {"/etc/ssl/certs/keyreg.pem": f"{folder}/certificate.pem",
                         "/etc/ssl/private/keyreg.pem": f"{folder}/key.pem"}
+            if not has_ipv6():
+                # By the head of the file.
+                text = re.sub(r"(?m)^.*listen \[::\].*\n", "", text)
+            for there, here in (("", "127.0.0.1:"), ("[::]:", "[::1]:"))[:1 + has_ipv6()]:
+                changes |= {f"listen {there}443": f"listen {here}{self.port}",
+                            f"listen {there}80;": f"listen {here}{self.plain_port};"}
         else:
             changes["127.0.0.1:8421"] = f"127.0.0.1:{self.port}"
         for old, new in changes.items():
@@ -67,9 +85,10 @@ class Guard:
             self.process.terminate()
             expect(False, f"nginx does not listen: {self.process.stderr.read()}")
 
-    def connected(self, name: str = HOST) -> Union[socket.socket, ssl.SSLSocket]:
-        """A connection to it, by TLS with this name in its first message."""
-        connection = socket.create_connection(("127.0.0.1", self.port), timeout=PATIENCE)
+    def connected(self, name: str = HOST, source: str = "127.0.0.1") -> Union[socket.socket, ssl.SSLSocket]:
+        """A connection to it from an address of this machine, by TLS with this name in its first message."""
+        there = "::1" if ":" in source else "127.0.0.1"
+        connection = socket.create_connection((there, self.port), PATIENCE, (source, 0))
         if not self.tls:
             return connection
         context = ssl.create_default_context(cafile=self.folder / "certificate.pem")

@@ -37,6 +37,14 @@ def free_port() -> int:
     return expect(False, "no port is free")
 
 
+def free_ports(count: int) -> list[int]:
+    """So many free ports, none twice."""
+    ports = set[int]()
+    while len(ports) < count:
+        ports.add(free_port())
+    return list(ports)
+
+
 def listens(port: int) -> bool:
     """Whether a socket on 127.0.0.1 listens at the port. Those that listen stand before all others."""
     with open("/proc/net/tcp", encoding="ascii") as sockets:

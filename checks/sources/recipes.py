@@ -80,7 +80,7 @@ KINDS = (
     Kind("Add a column to the export",
          r"compromised\W+occurrence\W+purpose|\"occurrence\"(, \"\"\)|: (date|moment)_text|\) \(λ d)", {}),
     Kind("Add a command about no key", r"\bSetPeriod\b|set-period|\bset_period\b|\bPeriodSet\b", {
-        "a day or a year of an office": "docs/AUDIT.md samples/office.txt samples/year.txt",
+        "a day or a year of an office": "samples/office.txt samples/year.txt",
         "what a period means for keys": "*/register_core/src/laws.rt */test_desk_trials/src/desks.rt bench/tables.py "
                                         "checks/program/rules_tried.py checks/program/tables.py",
         "who the office is": "checks/office/behind_nginx.py",
