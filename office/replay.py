@@ -30,8 +30,11 @@ A file that was taken from version 1 to version 2 does not tell when. All its re
 from any moment on. A file of version 1 is put to its own rules.
 
 What keyreg reads is read: tables and columns by their names, in any case and order, and no column more is looked at.
-It reports which part of the log counts (log_frames.py). No more than one row of a request, and each key in few
-bytes, are held: a million registrations took 240 MB, and it takes more where another order is looked for.
+keyreg looks at no definition, but what it finds and keeps hangs on them. So a line tells each table of the register
+that is defined otherwise than keyreg does it, each trigger and each unique index on one; with --since it is a
+difference where the earlier copy had it otherwise. It reports which part of the log counts (log_frames.py). No more
+than one row of a request, and each key in few bytes, are held: a million registrations took 240 MB, and it takes more
+where another order is looked for.
 """
 import argparse
 import collections
@@ -43,6 +46,7 @@ import marshal
 import operator
 import os
 import pathlib
+import re
 import shutil
 import sqlite3
 import sys
@@ -68,6 +72,33 @@ TABLES = {
     "quorum": (("key_no", "need"), 1),
 }
 OF_TEXT = {"owner", "purpose", "name", "caller", "command"}
+# What `key_no` refers to, and what stands behind the columns.
+REFERS = {name: " REFERENCES keys(number)" for name in ("custodian", "quorum")}
+ENDS = {"approval": ", FOREIGN KEY (key_no, name) REFERENCES custodian(key_no, name) ON DELETE CASCADE"}
+# A remark or room, a text, a name in quotes, a word or a mark of SQL.
+TOKEN = re.compile(r"(--[^\n]*|/\*.*?(?:\*/|$)|\s+)|'(?:[^']|'')*'|\"((?:[^\"]|\"\")*)\"|\[([^\]]*)\]|`([^`]*)`|\w+|.",
+                   re.S)
+
+
+def definition(name: str) -> str:
+    """The statement that makes a table, as keyreg writes it."""
+    columns, width = TABLES[name]
+    cells = [f"{column} {'TEXT' if column in OF_TEXT else 'INTEGER'} NOT NULL" for column in columns]
+    cells[0] = cells[0].replace("NOT NULL", "PRIMARY KEY") if width == 1 else cells[0]
+    cells[0] += REFERS.get(name, "")
+    keys = f", PRIMARY KEY ({', '.join(columns[:width])})" if width > 1 else ""
+    return f"CREATE TABLE {name} ({', '.join(cells)}{keys}{ENDS.get(name, '')}) STRICT"
+
+
+def wanted_of(name: str) -> str:
+    """What keyreg makes by this name: a table, or nothing."""
+    return definition(name) if name in TABLES else "none"
+
+
+def tokens(sql: str) -> list[str]:
+    """A statement as SQLite reads it: without remarks and quotes of names, and texts alone in their case."""
+    return [token[0] if token[0][0] == "'" else ((token[2] or token[3] or token[4] or token[0]).lower())
+            for token in TOKEN.finditer(sql) if not token[1]]
 
 
 def accepted_of(row: Sequence, version: int) -> Request:
@@ -139,6 +170,9 @@ class File:
         self.faults += [f"{name}: a table of version 2 in a file of version 1" for name in TABLES
                         if name in made and name not in self.kept]
         self.places = {name: self.place_of(*made.get(name, (name, ""))) for name in self.kept}
+        self.defined = {name: tokens(made[name][1]) for name in self.kept} | dict(self.further())
+        self.schema = [f"schema: {name} is {' '.join(words)}, and keyreg makes {wanted_of(name)}"
+                       for name, words in self.defined.items() if words != tokens(wanted_of(name))]
         for name in self.kept:
             mistyped = self.rows(name, where=self.is_mistyped(name))
             self.faults += [f"{name} {row}: a cell of another type" for row in mistyped]
@@ -150,6 +184,13 @@ class File:
         if not columns.keys() >= set(wanted) or any(columns.values()) or not sql.upper().startswith("CREATE TABLE"):
             raise Unreadable(f"it has no table {name} with the columns {wanted}")
         return row_place(columns)
+
+    def further(self):
+        """The triggers and the unique indexes on the tables, each by a name that no table has, in tokens."""
+        for kind, name, table, sql in self.connection.execute(
+                "SELECT type, name, tbl_name, sql FROM sqlite_schema WHERE type IN ('trigger', 'index') AND sql <> ''"):
+            if table.lower() in self.kept and (kind == "trigger" or tokens(sql)[1] == "unique"):
+                yield f"{kind} {name}", tokens(sql)
 
     @staticmethod
     def is_mistyped(name):
@@ -309,6 +350,15 @@ def lines_of_order(file, ordered, met_bound):
         yield "order: the bound was met: not all orders of requests at one moment were tried"
 
 
+def defined_since(earlier, file):
+    """What is defined otherwise than in the earlier copy. The tables that version 2 adds may have come."""
+    for name in {**earlier.defined, **file.defined}:
+        now, then = file.defined.get(name), earlier.defined.get(name)
+        if now != then and not (then is None and name in TABLES):
+            yield (f"schema: {name} is {' '.join(now or ['none'])}, and in the earlier copy it was "
+                   f"{' '.join(then or ['none'])}")
+
+
 def since(earlier, file):
     """What of an earlier copy's requests is not here as it was and in its order, and what came in among them."""
     now = file.rows("request")
@@ -384,11 +434,12 @@ def main():
             if words.since:
                 path = words.since
                 with opened(path) as other:
-                    before = since(File(other), file)
+                    earlier = File(other)
+                    before = [*since(earlier, file), *defined_since(earlier, file)]
                 path = words.copy
             faults, order, is_another_order = judged(file)
             counts = f"{file.count('request')} requests, {file.count('keys')} keys, version {file.version}"
-            order += lines_of_log(path)
+            order += file.schema + lines_of_log(path)
     except Unreadable as fault:
         print(f"{path}: it cannot be read as a register: {fault}")
         return 2
@@ -397,6 +448,7 @@ def main():
         print(line.encode(errors="backslashreplace").decode())
     verdict = "each row of each table is as the requests give"
     verdict += ", in another order than that of their rows" * is_another_order
+    verdict += f"; definitions that are not keyreg's: {len(file.schema)}" if file.schema else ""
     print(f"{words.copy}: {counts}: {f'{len(faults)} differences' if faults else verdict}")
     return 1 if faults else 3 if is_another_order else 0
 

@@ -1,8 +1,9 @@
 #!/usr/bin/env python3
 """Puts registers to office/replay.py: those that keyreg wrote, of both versions, drawn ones, and many requests of one
 moment; one change in each column of each table, a row too many and one too few; requests that the rules refuse; rows in
-another order than in an earlier copy; tables as keyreg reads them, under other names and orders; logs of a killed
-program, whole and damaged. Last a register of many requests, for its time and memory.
+another order than in an earlier copy; tables as keyreg reads them, under other names and orders; definitions that are
+another than keyreg's; logs of a killed program, whole and damaged. Last a register of many requests, for its time and
+memory.
 
     checks/office/replay_tried.py [--requests N] [--seed N]
 """
@@ -18,7 +19,7 @@ sys.path.insert(1, str(pathlib.Path(__file__).resolve().parents[1] / "shared"))
 from places import VERSION_1
 from command_day import SHORT
 from drawn_registers import DAY, FULL, KINDS, anew, at_one_moment, changed, drawn, made, rows_of
-from registers import File, answered_and_killed, columns_of, copy_files, database, keyreg, new_register
+from registers import TABLES, File, answered_and_killed, columns_of, copy_files, database, keyreg, new_register
 from register_rules import COMMANDS, command_text
 from script import expect, fresh_folder, options, output_of, verdict
 from tools import many_requests, run_tool, words_of
@@ -198,6 +199,51 @@ def earlier_copies(folder: pathlib.Path, full: File, chance: random.Random) -> i
     return len(cases)
 
 
+def remade(table: str, old: str, new: str) -> list[str]:
+    """Statements that make a table of the register again with this change of its definition."""
+    made = re.search(rf"(?m)^CREATE TABLE {table} (.*);$", TABLES)[1]
+    expect(old in made, f"no {old!r} in {made}")
+    return [f"CREATE TABLE other {made.replace(old, new, 1)}",
+            f"INSERT INTO other SELECT * FROM {table} ORDER BY rowid", f"DROP TABLE {table}", f"ALTER TABLE other RENAME TO {table}"]
+
+
+def defined_otherwise(folder: pathlib.Path, first: File, full: File) -> int:
+    """A definition that another program changed is told by its table, and is a difference where the earlier copy had
+    another; how many there were. Nothing is told of tables that were made again as they were, and of what an office
+    has beside them."""
+    cases = [(table, remade(table, ") STRICT", ")")) for table in rows_of(full)] + [
+        ("request", remade("request", "TEXT NOT NULL", "TEXT NOT NULL COLLATE NOCASE")),
+        ("request", remade("request", "PRIMARY KEY (caller, number)", "PRIMARY KEY (caller COLLATE NOCASE, number)")),
+        ("keys", remade("keys", "TEXT NOT NULL", "TEXT NOT NULL CHECK (owner <> 'zed')")),
+        ("keys", remade("keys", "purpose TEXT NOT NULL", "purpose TEXT")),
+        ("approval", remade("approval", " ON DELETE CASCADE", "")),
+        ("custodian", remade("custodian", " REFERENCES keys(number)", "")),
+        ("period", remade("period", "recipient INTEGER NOT NULL", "recipient INTEGER NOT NULL DEFAULT 0")),
+        ("quorum", ["ALTER TABLE quorum ADD COLUMN more INTEGER"]),
+        ("trigger late", ["CREATE TRIGGER late AFTER INSERT ON request BEGIN SELECT 1; END"]),
+        ("index once", ["CREATE UNIQUE INDEX once ON request (moment, caller, number)"])]
+    told = "^schema: {} is .* in the earlier copy it was".format
+    for name, statements in cases:
+        expect_told(full, 0, f"^schema: {name} is ", *statements)
+        expect_told(full, 0, r"each row of each table .*; definitions that are not keyreg's: 1$", *statements)
+        expect_told(full, 1, told(name), *statements, since=full)
+        expect_told(full, 1, told(name), since=shutil.copy(changed(full, *zip(statements)), folder / "other.keyreg"))
+    later = shutil.copy(first, folder / "later_version")
+    keyreg(["report", "--file", later, "--days", "0"])
+    spelled = ['CREATE TABLE other (\n\tkey_no integer /* its key */ PRIMARY KEY REFERENCES "keys" ([number]),\n\t'
+               '`need` Integer not null -- 2 to 5\n) Strict', "INSERT INTO other SELECT * FROM quorum",
+               "DROP TABLE quorum", "ALTER TABLE other RENAME TO quorum"]
+    for file, earlier, statements in (
+            (first, first, []), (full, full, []), (later, first, []), (full, full, remade("request", "", "")),
+            (full, full, spelled), (full, full, ["CREATE INDEX of_callers ON request (caller COLLATE NOCASE)",
+                                                 "CREATE TABLE mine (a UNIQUE)", "CREATE UNIQUE INDEX b ON mine (a)",
+                                                 "CREATE TRIGGER c AFTER INSERT ON mine BEGIN SELECT 1; END"])):
+        status, lines = replay(changed(file, *zip(statements)), "--since", earlier)
+        expect(status == 0 and not any("schema" in line or "definitions" in line for line in lines),
+               f"{file} {statements}: {status}, {lines}")
+    return len(cases)
+
+
 # ---- logs, and many requests
 
 
@@ -252,12 +298,13 @@ def main() -> None:
         first, full = untouched(folder, chance)
         count = planted(folder, first, full) + earlier_copies(folder, full, chance)
         read_as_keyreg(folder, full)
+        definitions = defined_otherwise(folder, first, full)
         kinds = logs(folder)
         few, seconds = measured(folder, given.requests // 4), measured(folder, given.requests)
     expect(seconds <= 8 * few, f"{given.requests} requests took {seconds:.1f} seconds, and a quarter of them {few:.1f}")
-    verdict(f"registers are what their requests give; each of {count} planted changes was found; {kinds} logs were "
-            f"counted as SQLite does; {given.requests} requests took {seconds:.1f} seconds and no more memory than "
-            "they may")
+    verdict(f"registers are what their requests give; each of {count} planted changes was found, and of {definitions} "
+            f"in definitions; {kinds} logs were counted as SQLite does; {given.requests} requests took {seconds:.1f} "
+            "seconds and no more memory than they may")
 
 
 main()
