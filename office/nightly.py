@@ -3,20 +3,22 @@
 by replay.py, exported, and drawn. What keyreg-nightly.service calls; it stands beside replay.py, register_rules.py and
 timeline.py with its style and its script.
 
-    nightly.py --file FILE --folder FOLDER [--keyreg PROGRAM] [--nights N] [--stale SECONDS] [--room PERCENT]
+    nightly.py --file FILE --folder FOLDER [--keyreg PROGRAM] [--nights N] [--stale SECONDS]
+        [--room PERCENT] [--room-nights N]
 
 Each night has a folder in FOLDER, by its moment, with copy.keyreg, export.csv and keys.html. `last` leads to the last
 one where nothing failed; a night that fails stays to be looked at, and the next is held to the good one before it.
 Folders beyond --nights (30) are removed, that of `last` never. Without `last` a night is held to none before it: after
 a register was set right or restored, remove `last` (docs/OPERATING.md, Set right).
 
---keyreg  the program; else the one in the path
---stale   so many seconds ago the latest accepted moment is at most
---room    so many hundredths of the disk are free at least; else 10
+--keyreg       the program; else the one in the path
+--stale        so many seconds ago the latest accepted moment is at most
+--room         a disk of which so many hundredths are free has room; else 10
+--room-nights  so has one with room for so many nights like this one, however large it is; else 100
 
 It prints a line for each step. The status is 0 where nothing differs, 1 where one of these fails: the copy, replay.py
 with any status, the export, the picture, a moment that is too old, or after the clock by more than 60 seconds, a disk
-that is too full; 2 where words are wrong.
+without room; 2 where words are wrong.
 """
 import argparse
 import contextlib
@@ -72,8 +74,18 @@ def looked_at(night, last, program):
         ran([sys.executable, HERE / "timeline.py"], "timeline.py", stdin=table, stdout=page)
 
 
-def watched(night, stale, room):
-    """How old the latest accepted moment is, and how full the disk."""
+def room_on(night, hundredths, nights):
+    """Tells how full the disk is. It has no room where both are lacking: a share of it, and room for so many nights."""
+    disk, size = shutil.disk_usage(night), sum(path.stat().st_size for path in night.iterdir())
+    free, more = 100 * disk.free / disk.total, disk.free // size
+    print(f"disk: {free:.0f} in a hundred free, room for {more} nights of {size} bytes", flush=True)
+    if free < hundredths and more < nights:
+        raise Failed(f"of the disk {free:.1f} in a hundred are free, fewer than {hundredths:g}, and there is room for "
+                     f"{more} nights, fewer than {nights}")
+
+
+def watched(night, stale):
+    """How old the latest accepted moment is."""
     with contextlib.closing(sqlite3.connect(f"file:{night / NAME}?mode=ro", uri=True)) as copy:
         (latest,) = copy.execute("SELECT latest FROM meta").fetchone()
     (night / (NAME + "-shm")).unlink(missing_ok=True)
@@ -82,13 +94,8 @@ def watched(night, stale, room):
     if age < -AHEAD:
         raise Failed(f"the latest accepted moment, {text_of(latest)}, is after the clock: until then each request is "
                      "refused")
-    disk = shutil.disk_usage(night)
-    free = 100 * disk.free / disk.total
-    print(f"disk: {free:.0f} in a hundred free", flush=True)
     if stale is not None and age > stale:
         raise Failed(f"the latest accepted moment is {age} seconds old: more than {stale}")
-    if free < room:
-        raise Failed(f"of the disk {free:.1f} in a hundred are free: fewer than {room}")
 
 
 def tidied(folder, nights):
@@ -107,7 +114,8 @@ def spent(words):
     night.mkdir(parents=True, mode=0o750)
     copied(pathlib.Path(words.file), night / NAME)
     looked_at(night, last, words.keyreg)
-    watched(night, words.stale, words.room)
+    watched(night, words.stale)
+    room_on(night, words.room, words.room_nights)
     (folder / "next").unlink(missing_ok=True)
     (folder / "next").symlink_to(name)
     os.replace(folder / "next", last)
@@ -123,6 +131,7 @@ def main():
     words.add_argument("--nights", type=int, default=30)
     words.add_argument("--stale", type=int)
     words.add_argument("--room", type=float, default=10)
+    words.add_argument("--room-nights", type=int, default=100)
     try:
         spent(words.parse_args())
     except (Failed, OSError, sqlite3.Error) as fault:

@@ -1,7 +1,8 @@
 #!/usr/bin/env python3
 """An advance that keyreg-advance.service or the line of keyreg-advance.cron, both in office/units/, posts moves a
 served register on: of a key whose Protect Stop has passed the usage says `protect` until then, and not any more after
-it. The command is run as it stands in the file, with the port of the check.
+it. A refusal is told by its name; where all is well cron, which sends by mail what is told, is told nothing. The
+command is run as it stands in the file, with the port of the check.
 
     checks/office/advance_tried.py
 """
@@ -36,12 +37,13 @@ def cron_command() -> str:
     return line.split(" ", 6)[6].replace("\\%", "%")
 
 
-def expect_status(status: int, command: str, served: Served) -> None:
-    """The command ends so, over the served register."""
+def expect_status(status: int, command: str, served: Served) -> str:
+    """The command ends so, over the served register, and tells this."""
     text = command.replace("8420", str(served.port))
     expect(text != command, f"no port 8420 in {command}")
-    done = subprocess.run(["sh", "-c", text], capture_output=True, check=False)
+    done = subprocess.run(["sh", "-c", text], capture_output=True, text=True, check=False)
     expect(done.returncode == status, f"{command}: {done}, not {status}")
+    return done.stdout + done.stderr
 
 
 def expect_protects(protects: bool, when: str, served: Served) -> None:
@@ -58,7 +60,8 @@ def moves_on(command: str) -> int:
         expect_protects(True, "a key that may protect", served)
         time.sleep(max(stop + 1.1 - time.time(), 0))
         expect_protects(True, "past its Protect Stop, without a request", served)
-        expect_status(0, command, served)
+        told = expect_status(0, command, served)
+        expect(not told or command != cron_command(), f"cron is told {told!r}")
         expect_protects(False, "after the advance", served)
         for _ in range(20):
             expect_status(0, command, served)
@@ -80,7 +83,8 @@ def main() -> None:
         counts.append(moves_on(command))
         # A register that is ahead of the clock refuses it, and the command says so.
         with Served(lines=[f"{int(time.time()) + 86400} ann 1 advance"]) as served:
-            expect_status(22, command, served)
+            told = expect_status(22, command, served)
+            expect('"MomentBehind"' in told, f"a refusal is told as {told!r}")
     verdict(f"the unit's command and cron's line move the register on; of 21 requests {counts[0]} and {counts[1]} were "
             "accepted")
 
