@@ -4,12 +4,15 @@ there what OPERATING and the heads of the units have a person do.
 
     checks/package/in_systemd.py [--base FOLDER] [--mirror URL] [PART..]
 
+           First an office is set up, by the blocks of the pages as they stand, in a Debian that has nothing of what
+           they name: each unit is active once, and the desk serves.
 units      The service, its timers and its instances start, come back and go.
 accidents  An office gets up again after each accident of OPERATING, by the very blocks of the installed page, with the
            path of the service in the place of theirs.
 
 As root, with debootstrap and systemd-container of Debian. The root is one that debootstrap fetches, or a copy of FOLDER
-with the packages of MORE. `./package` is called first. Not two at a time on a machine that no systemd manages: both
+with the packages of BASE (roots.py). What the pages install is fetched before, as no network is there. `./package` is
+called first. Not two at a time on a machine that no systemd manages: both
 would have its groups of processes.
 """
 import pathlib
@@ -20,10 +23,9 @@ from typing import Sequence
 
 sys.path.insert(1, str(pathlib.Path(__file__).resolve().parents[1] / "shared"))
 from places import TOP
-from roots import MIRROR, blocks_of, call, made_package, make_base
+from roots import MIRROR, blocks_of, call, made_package, make_base, row_words
 from script import fresh_folder, options, output_of, verdict
 
-MORE = ("systemd", "systemd-sysv", "dbus", "python3", "sqlite3", "curl", "nginx-light")
 PAGE = "usr/share/doc/keyreg/docs/OPERATING.md"
 UNIT = """[Unit]
 Description=What is tried
@@ -46,6 +48,10 @@ def furnish(root: pathlib.Path, parts: Sequence[str]) -> None:
         (root / "blocks" / heading).mkdir(parents=True)
         for place, lines in enumerate(blocks, 1):
             (root / "blocks" / heading / f"{place}.sh").write_text("\n".join([*lines, ""]))
+            for line in lines:
+                if line.startswith("apt-get install"):
+                    output_of(["chroot", root, *line.split(), "--download-only"])
+    (root / "blocks/packages/remove.sh").write_text(row_words(root / PAGE, "remove") + "\n")
     units = root / "etc/systemd/system"
     (units / "tried.service").write_text(UNIT.replace("@PARTS@", " ".join(parts)))
     (units / "multi-user.target.wants").mkdir(parents=True, exist_ok=True)
@@ -56,7 +62,7 @@ def main() -> None:
     given = options(__doc__, ("units", "accidents"), base="", mirror=MIRROR)
     with fresh_folder() as folder:
         root = folder / "root"
-        make_base(root, given.base, given.mirror, MORE)
+        make_base(root, given.base, given.mirror, ())
         furnish(root, given.parts)
         booted = call("timeout", SECONDS, "systemd-nspawn", f"--directory={root}", "--boot", "--private-network",
                       "--register=no", "--keep-unit", "--quiet", stdin=subprocess.DEVNULL, errors="replace")

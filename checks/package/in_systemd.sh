@@ -1,6 +1,7 @@
 # What checks/package/in_systemd.py has a booted systemd do, as root, with the package installed. Each `holds NAME COMMAND..` is
 # a line of what it tells. Its words are the parts that are tried: units, accidents.
 PATH=/usr/sbin:/usr/bin:/sbin:/bin
+export DEBIAN_FRONTEND=noninteractive
 parts=" $* "
 holds() {
     local name=$1
@@ -13,17 +14,84 @@ gets() { [ "$(curl -s -m 20 -o /dev/null -w '%{http_code}' "http://127.0.0.1:$1/
 mode_is() { [ "$(stat -c '%U %a' "$1")" = "$2" ] || { stat -c '%n %U %a' "$1"; return 1; }; }
 state_is() { [ "$(systemctl is-active "$1")" = "$2" ]; }
 fails() { ! "$@"; }
-# typed HEADING PLACE [EDIT]: types a block of OPERATING by its heading and its place there, edited by sed.
+# typed HEADING PLACE [EDIT [INPUT]]: types a block of OPERATING by its heading and its place there, edited by sed.
 typed() {
     sed -e "${3:-}" "/blocks/$1/$2.sh" >/tmp/block.sh || { echo "FAILED no block $2 of $1"; return; }
+    bash /tmp/block.sh >/tmp/typed 2>&1 <"${4:-/dev/null}"
+}
+# head_typed UNIT: types the first commands at the head of a unit.
+head_typed() {
+    sed -n '/^#     /,/^#$/p' "/usr/lib/systemd/system/$1.service" | sed '/^#$/q' | sed -n 's/^#     //p' >/tmp/block.sh
     bash /tmp/block.sh >/tmp/typed 2>&1 </dev/null
 }
 
-# ---- one register, by the words at the head of keyreg.service
-useradd --system --home-dir /var/lib/keyreg keyreg
-install -d -m 750 -o keyreg -g keyreg /var/lib/keyreg
-su keyreg -s /bin/sh -c 'umask 077; keyreg init --file /var/lib/keyreg/office.keyreg'
-holds "the service starts" sh -c 'systemctl daemon-reload && systemctl enable --now keyreg'
+# ---- an office is set up whole, by the pages alone, where nothing is that they have a person install
+named="curl nginx openssl python3 sqlite3"
+holds "nothing is there that the pages name" fails command -v $named
+head_typed keyreg
+holds "the service is up" until_holds 60 state_is keyreg active
+echo wonder-land >/tmp/password
+typed the-desk 1 "" /tmp/password
+cp /tmp/typed /tmp/desk_typed
+head_typed keyreg-follow
+systemctl start keyreg-follow
+for unit in list advance nightly follow; do
+    ended_well() {
+        local exit
+        exit=$(systemctl show -p ExecMainExitTimestamp --value "keyreg-$unit")
+        [ -n "$exit" ] && [ "$(systemctl show -p Result --value "keyreg-$unit")" = success ] ||
+            { systemctl status --no-pager "keyreg-$unit"; return 1; }
+    }
+    holds "set up: keyreg-$unit was active once, and ended well" ended_well
+    holds "set up: keyreg-$unit.timer goes on" state_is keyreg-$unit.timer active
+done
+holds "set up: the block ends with no unit that failed" grep -q '^0 loaded units listed' /tmp/desk_typed
+holds "set up: nothing failed" sh -c 'systemctl list-units "keyreg*" --failed | grep -q "^0 loaded units listed"'
+# asks USER PASSWORD PATH: the status that nginx answers.
+asks() {
+    curl -s -o /tmp/answer -w '%{http_code}' --user "$1:$2" -H 'Host: keyreg.example' "http://127.0.0.1:8421$3"
+}
+answers() { [ "$(asks "$1" "$2" "$3")" = "$4" ] || { asks "$1" "$2" "$3"; cat /tmp/answer /tmp/desk_typed; return 1; }; }
+holds "set up: the desk serves" answers alice.meyer wonder-land / 200
+holds "set up: it serves the list" answers alice.meyer wonder-land /list.json 200
+holds "set up: which is one" grep -q '"form":1' /tmp/answer
+holds "set up: another password is refused" answers alice.meyer another /list.json 401
+set_to() { echo "$2" | /usr/share/keyreg/users.py set "$1"; }
+holds "a password is changed" set_to alice.meyer other
+holds "the old one is refused" answers alice.meyer wonder-land /me 401
+holds "the new one is taken" answers alice.meyer other /me 200
+holds "a user comes" set_to office desk
+holds "he is taken" answers office desk /me 200
+holds "a user goes" /usr/share/keyreg/users.py remove office
+holds "he is refused" answers office desk /me 401
+holds "the passwords are root's and nginx's alone" [ "$(stat -c '%U:%G %a' /etc/nginx/keyreg.users)" = "root:www-data 640" ]
+holds "no other page is served beside the desk" fails curl -s -m 5 http://127.0.0.1/
+
+# ---- the same by TLS, by the head of nginx-keyreg.conf, at the ports of the web
+openssl req -x509 -newkey rsa:2048 -nodes -days 2 -subj /CN=keyreg.example -addext subjectAltName=DNS:keyreg.example \
+    -keyout /etc/ssl/private/keyreg.pem -out /etc/ssl/certs/keyreg.pem 2>/tmp/told
+sed -n 's/^#     //p' /etc/nginx/conf.d/keyreg.conf >/tmp/tls.sh
+holds "the edit for TLS" bash -e /tmp/tls.sh
+for at in 127.0.0.1 '[::1]'; do
+    leads() {
+        curl -s -o /tmp/answer -w '%{http_code} %{redirect_url}' --resolve "keyreg.example:80:$at" \
+            http://keyreg.example/list.json
+    }
+    served() {
+        curl -s -D /tmp/answer -o /tmp/body -w '%{http_code}' --cacert /etc/ssl/certs/keyreg.pem --user alice.meyer:other \
+            --resolve "keyreg.example:443:$at" https://keyreg.example/me
+    }
+    holds "$at: without TLS it leads there" [ "$(leads)" = "301 https://keyreg.example/list.json" ]
+    holds "$at: by TLS it serves" [ "$(served)" = 200 ]
+    holds "$at: which browsers keep to" grep -qi '^strict-transport-security: max-age=31536000' /tmp/answer
+done
+systemctl disable --now keyreg-list.timer keyreg-advance.timer keyreg-nightly.timer keyreg-follow.timer 2>/tmp/told
+rm -rf /var/lib/keyreg-standby /var/lib/keyreg/nightly/*
+
+# ---- one register
+typed a-days-work 2
+all_there() { local name; for name in $named; do command -v "$name" || { echo "no $name"; return 1; }; done; }
+holds "the page's own commands have what they need" all_there
 holds "it serves" until_holds 60 gets 8420 404
 holds "the folder is the office's alone" mode_is /var/lib/keyreg "keyreg 750"
 holds "the register is its own alone" mode_is /var/lib/keyreg/office.keyreg "keyreg 600"
@@ -37,7 +105,7 @@ client() { python3 /usr/share/keyreg/client.py --caller ann --numbers /tmp/ann.n
 if [[ $parts == *" units "* ]]; then
 # ---- a port that is taken for longer than ten starts
 mkdir -p /run/systemd/system/keyreg.service.d
-printf '[Service]\nRestartSec=100ms\n' >/run/systemd/system/keyreg.service.d/fast.conf
+printf '[Service]\nRestartSec=100ms\nExecStopPost=\n' >/run/systemd/system/keyreg.service.d/fast.conf
 systemctl stop keyreg
 systemctl daemon-reload
 python3 -c 'import socket, time
@@ -49,6 +117,30 @@ starts() { [ "$(systemctl show -p NRestarts --value keyreg)" -ge "$1" ]; }
 holds "a taken port: it is started again more than ten times" until_holds 120 starts 14
 kill "$taker"
 holds "a port that is free again: it serves" until_holds 60 gets 8420 404
+systemctl stop keyreg
+rm /run/systemd/system/keyreg.service.d/fast.conf
+
+# ---- its last exchange, and a fault
+serve="/usr/bin/keyreg serve --file /var/lib/keyreg/office.keyreg --port 8420 --exchanges"
+printf '[Service]\nExecStart=\nExecStart=%s 2\n' "$serve" >/run/systemd/system/keyreg.service.d/few.conf
+systemctl daemon-reload
+systemctl start keyreg
+until_holds 60 gets 8420 404
+away() { # Waits until it serves again, and counts the tenths of a second.
+    local begun
+    begun=$(date +%s%N)
+    until_holds 60 gets 8420 404 || return 1
+    tenths=$((($(date +%s%N) - begun) / 100000000))
+    echo "away for $tenths tenths of a second"
+}
+ends() { gets 8420 404; away && ((tenths < 25)); }
+holds "after its last exchange it serves again at once" ends
+rm /run/systemd/system/keyreg.service.d/few.conf
+systemctl daemon-reload
+systemctl restart keyreg
+until_holds 60 gets 8420 404
+waits() { systemctl kill --signal=KILL keyreg; sleep 0.3; away && ((tenths > 40)); }
+holds "after a fault it waits" waits
 systemctl stop keyreg
 
 # ---- a full disk, and a client that sends again
@@ -120,6 +212,18 @@ holds "the last good night stays" [ "$(readlink /var/lib/keyreg/nightly/last)" =
 sqlite3 /var/lib/keyreg/office.keyreg "UPDATE keys SET purpose = 'root' WHERE number = 1"
 sleep 1
 holds "a night after it was mended" systemctl start keyreg-nightly
+# A disk of which a twentieth is free, and one without room for the nights to come.
+nights=/var/lib/keyreg/nightly
+mount -t tmpfs -o size=400m,mode=750,uid=keyreg,gid=keyreg tmpfs $nights
+head -c 380m /dev/zero >$nights/filler
+systemctl reset-failed keyreg-nightly
+holds "a disk of which a twentieth is free has room for small nights" systemctl start keyreg-nightly
+sleep 1
+head -c 17m /dev/zero >>$nights/filler
+holds "a disk without room for a hundred of them has none" fails systemctl start keyreg-nightly
+holds "it says so" sh -c 'journalctl -u keyreg-nightly -o cat -n 20 | grep -q "fewer than 100"'
+umount $nights
+systemctl reset-failed keyreg-nightly
 systemctl start keyreg
 
 fi
@@ -170,9 +274,9 @@ begin_anew() { typed stop-and-go-on 2; }
 start_units() { typed stop-and-go-on 3; }
 
 if [[ $parts == *" accidents "* ]]; then
-install -d -o keyreg -g keyreg -m 750 /var/lib/keyreg-standby
-typed the-desk 1 '/openssl\|keyreg\.users/d; /^apt-get/d'
-holds "the list, by OPERATING" until_holds 30 test -s /var/lib/keyreg-list/list.json
+head_typed keyreg-follow
+systemctl enable --now keyreg-list.timer
+holds "the list, by its timer" until_holds 30 test -s /var/lib/keyreg-list/list.json
 holds "its folder is nginx's to enter" mode_is /var/lib/keyreg-list "keyreg 2750"
 holds "it is nginx's to read" su www-data -s /bin/sh -c 'grep -q form /var/lib/keyreg-list/list.json'
 holds "it is nobody else's" fails su nobody -s /bin/sh -c 'cat /var/lib/keyreg-list/list.json'
@@ -190,6 +294,7 @@ holds "future: a night fails" fails night
 says() { journalctl -u "$1" -o cat -n 30 | grep -q "$2"; }
 holds "future: it says why" says keyreg-nightly "2099-01-01T00:00:00Z, is after the clock"
 holds "future: an advance fails" fails systemctl start keyreg-advance
+holds "future: it names the refusal" says keyreg-advance MomentBehind
 holds "future: the standby has it too" follows
 stop_units
 typed a-moment-in-the-future 2 "s#aside/day\.keyreg#aside/office.keyreg#g; s#day\.keyreg#$file#g"
@@ -276,9 +381,10 @@ start_units
 holds "it serves after it" until_holds 60 gets 8420 200
 holds "its timers go on after it" state_is keyreg-nightly.timer active
 holds "systemd has the units of the package" sh -c '[ "$(systemctl show -p NeedDaemonReload --value keyreg)" = no ]'
-holds "a removal's first line" systemctl disable --now keyreg keyreg-advance.timer keyreg-nightly.timer \
-    keyreg-list.timer keyreg-follow.timer keyreg@payroll keyreg@site-b
-holds "a removal's second line" sh -c 'dpkg --purge keyreg && systemctl daemon-reload'
+systemctl enable keyreg-list.timer keyreg-follow.timer 2>/tmp/told
+sed -i '1s/$/ keyreg-follow.timer keyreg@payroll keyreg@site-b/' /blocks/packages/remove.sh
+holds "a removal, by OPERATING" bash -e /blocks/packages/remove.sh
 holds "no unit is left" sh -c '! systemctl list-units --all --no-legend --type=service,timer "keyreg*" | grep .'
 holds "no link is left" sh -c '! find /etc/systemd -name "keyreg*" | grep .'
+holds "no stamp is left" sh -c '! find /var/lib/systemd/timers -name "*keyreg*" | grep .'
 holds "the register stays" test -s /var/lib/keyreg/office.keyreg

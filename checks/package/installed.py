@@ -5,13 +5,14 @@
 
 As root, with debootstrap, lintian, systemd, tmux, binutils and a browser of Debian (`apt-get install debootstrap
 lintian systemd tmux binutils zsh fish chromium chromium-driver python3-selenium nginx-light`). The root is Debian's
-base, which debootstrap fetches, or a copy of FOLDER with the packages of MORE. `./package` is called first, of the
-program that is built or of KEYREG.
+base, which debootstrap fetches, or a copy of FOLDER with the packages of BASE (roots.py) and MORE. `./package` is
+called first, of the program that is built or of KEYREG.
 
-lintian has no error; the program runs, has its man page, completes in three shells (completion.py), and needs the
-libraries that the package names; the pages name no file that is not there, and their commands print there what stands
-there; the desk is set up, used in a browser and removed by the words of the installed OPERATING; and after the removal
-no file is there that was not before. in_systemd.py has the units.
+lintian has no error, and the newest version is the highest. apt brings what the package recommends, which is what the
+page has a person install, and the units are let do little. The program runs, has its man page, completes in three
+shells (completion.py), and needs the libraries that the package names. The pages name no file that is not there, and
+their commands print there what stands there. The desk is set up, used in a browser and removed by the words of the
+installed OPERATING; and after the removal no file is there that was not before. in_systemd.py has the units.
 
 From the base on all is in a network of its own, in which the ports of the units and of nginx are free.
 """
@@ -33,18 +34,19 @@ import types
 from typing import Any, Iterator
 
 sys.path.insert(1, str(pathlib.Path(__file__).resolve().parents[1] / "shared"))
-from places import read, use
+from places import TOP, read, use
 import completion
 from document_commands import anchor_of, compared
-from roots import MIRROR, PACKAGES, blocks_of, call, made_package, make_base
+from roots import ALONE, MIRROR, NAMED, PACKAGES, blocks_of, call, made_package, make_base, present, row_words
 from script import expect, fresh_folder, options, verdict
 from serving import begins_to_listen
 
-MORE = ("man-db", "bash-completion", "zsh", "fish", "python3", "sqlite3", "curl", "systemd", "nginx-light", "openssl")
+# What shows the man page, and the shells.
+MORE = ("man-db", "bash-completion", "zsh", "fish")
 # What dpkg, apt, man, nginx and the users' programs keep of their own, which no package can take away.
 OWN = re.compile(r"/var/(lib/(dpkg|apt|nginx)/|log/|cache/(man|apt|debconf|ldconfig)/)|/etc/ld\.so\.cache$"
                  r"|/etc/g?(passwd|group|shadow)-$|/(proc|sys|dev|tmp|run)/")
-# What the service is let do besides its work, at most, by the measure of systemd-analyze in tenths.
+# What a unit is let do besides its work, at most, by the measure of systemd-analyze in tenths.
 EXPOSURE = 15
 # The packages of the libraries that a program may load.
 LIBRARIES = {"libc.so.6": "libc6", "libm.so.6": "libc6", "ld-linux-x86-64.so.2": "libc6",
@@ -163,12 +165,6 @@ def unit_words(root: pathlib.Path, unit: pathlib.Path) -> list[str]:
                   f"umask 077; exec {line}")
 
 
-def row_words(docs: pathlib.Path, name: str) -> str:
-    """What the row of this name in the table of *Packages* has a person type; a name of a unit is no command."""
-    row = re.search(rf"(?m)^\| {name} \| (.*) \|$", (docs / "docs/OPERATING.md").read_text("utf-8"))[1]
-    return "\n".join(words for words in re.findall(r"`([^`]*)`", row) if " " in words)
-
-
 def in_terminal(words: list[str]) -> None:
     """Calls a command in a terminal, and types the password as often as it is asked for: it is shown nowhere."""
     process, terminal = pty.fork()
@@ -236,27 +232,51 @@ def desk(root: pathlib.Path, docs: pathlib.Path, units: pathlib.Path) -> None:
               wanted="keyreg:www-data 640")
     for name in ("remove what was set up of the desk", "remove registers for good"):
         # Folders that are not there are none to remove.
-        call_well(*as_root(root, row_words(docs, name).replace("rm -r ", "rm -rf ")))
+        call_well(*as_root(root, row_words(docs / "docs/OPERATING.md", name).replace("rm -r ", "rm -rf ")))
 
 
 # ---- the package and the tar file
 
 
+def versions_rise(package: pathlib.Path) -> None:
+    """The versions of CHANGES, the newest of which the package has, each above the one before it by Debian's order."""
+    versions = re.findall(r"(?m)^## ([0-9.]+(?:-[0-9]+)?)$", read("CHANGES.md"))
+    told = call("dpkg-deb", "--field", package, "Version").stdout.strip()
+    fault(told == versions[0], f"the package has version {told}, and CHANGES {versions[0]}")
+    for newer, older in zip(versions, versions[1:]):
+        call_well("dpkg", "--compare-versions", newer, "gt", older)
+
+
+def installs(root: pathlib.Path, package: pathlib.Path) -> None:
+    """The package installs by the words of OPERATING, with what it recommends, and that is all that the block of the
+    desk installs. What the commands of the page need besides comes by its own words."""
+    shutil.copy(package, root / "tmp")
+    page = root / "usr/share/doc/keyreg/docs/OPERATING.md"
+    words = row_words(pathlib.Path(TOP / "docs/OPERATING.md"), "install").split("\n")[0]
+    call_well(*inside(root, "/tmp", *ALONE, "sh", "-c", words))
+    fault(present(root) == [name for name in NAMED if name != "sqlite3"], f"apt has brought {present(root)}")
+    blocks = blocks_of(page)
+    desk_line, page_line = blocks["the-desk"][0][0], blocks["a-days-work"][1][0]
+    wanted = call("dpkg-deb", "--field", package, "Recommends").stdout.strip().split(", ")
+    fault(desk_line.split()[3:] == wanted, f"the desk's block has {desk_line}, and the package recommends {wanted}")
+    call_well(*inside(root, "/tmp", *ALONE, "sh", "-c", page_line))
+    fault(present(root) == list(NAMED), f"the page's line has brought {present(root)}")
+    call_well(*inside(root, "/", "dpkg", "--purge", "keyreg"))
+
+
 def packaged(root: pathlib.Path, package: pathlib.Path) -> None:
     """The package: all goes by the words of the installed OPERATING."""
     docs, before = root / "usr/share/doc/keyreg", files_of(root)
-    shutil.copy(package, root / "tmp" / package.name)
     call_well(*inside(root, "/", "dpkg", "--install", f"/tmp/{package.name}"))
     call_well(*inside(root, "/", "keyreg"), input="100 ann 1 advance\n", wanted="ok 0 - 100\n")
     call_well(*inside(root, "/", "MANPAGER=cat", "man", "keyreg"), wanted="register of cryptographic keys")
     completes(root)
     depends(package, root / "usr/bin/keyreg")
     read_there(root, docs)
-    call_well("systemd-analyze", "security", "--offline=true", f"--root={root}", f"--threshold={EXPOSURE}",
-              root / "usr/lib/systemd/system/keyreg.service")
+    for unit in sorted((root / "usr/lib/systemd/system").glob("keyreg*[!@].service")):
+        call_well("systemd-analyze", "security", "--offline=true", f"--root={root}", f"--threshold={EXPOSURE}", unit)
     desk(root, docs, root / "usr/lib/systemd/system")
-    removal = row_words(docs, "remove").replace("keyreg keyreg-", "keyreg keyreg-list.timer keyreg-", 1)
-    call_well(*as_root(root, removal))
+    call_well(*as_root(root, row_words(docs / "docs/OPERATING.md", "remove")))
     fault(files_of(root) <= before, f"left behind: {sorted(files_of(root) - before)}")
     fault("keyreg" not in call(*inside(root, "/", "dpkg", "-l")).stdout, "dpkg knows keyreg still")
 
@@ -280,7 +300,7 @@ def unpacked(root: pathlib.Path) -> None:
     completes(root)
     read_there(root, root / "usr/local/share/doc/keyreg")
     desk(root, root / "usr/local/share/doc/keyreg", root / "usr/local/lib/systemd/system")
-    call(*as_root(root, "systemctl disable keyreg keyreg-list.timer"))
+    call(*as_root(root, row_words(root / "usr/local/share/doc/keyreg/docs/OPERATING.md", "remove").split("\n")[0]))
     call_well(*inside(root, "/tmp", "sh", "-c", remove))
     left = sorted(path for path in files_of(root) - before if not (root / path.lstrip("/")).is_dir())
     fault(not left, f"left behind of the tar file: {left}")
@@ -295,6 +315,8 @@ def main() -> None:
         root = folder / "root"
         make_base(root, given.base, given.mirror, MORE)
         (root / "etc/hostname").write_text("packaged\n")
+        versions_rise(package)
+        installs(root, package)
         go_alone()
         packaged(root, package)
         unpacked(root)

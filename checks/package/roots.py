@@ -1,16 +1,25 @@
-"""A root with Debian's base, the package that goes into it, and the blocks of commands of a page."""
+"""A root with Debian's base, the package that goes into it, and the blocks of commands of a page.
+
+The base has nothing of what the pages have a person install, and what they name alone is brought in by their words."""
 import os
 import pathlib
+import re
 import subprocess
 import sys
 from typing import Any, Sequence
 
 from places import PROGRAM, TOP
 from document_commands import anchor_of
-from script import output_of
+from script import expect, output_of
 
 PACKAGES = TOP / "packages"
 MIRROR = "http://deb.debian.org/debian"
+# What a machine has that boots.
+BASE = ("systemd", "systemd-sysv", "dbus")
+# What the pages have a person install, by its commands.
+NAMED = ("curl", "nginx", "openssl", "python3", "sqlite3")
+# Installing asks nothing, and starts no service.
+ALONE = ("env", "DEBIAN_FRONTEND=noninteractive", "RUNLEVEL=1")
 
 
 def call(*words: Any, **more: Any) -> subprocess.CompletedProcess:
@@ -24,12 +33,27 @@ def made_package() -> pathlib.Path:
 
 
 def make_base(root: pathlib.Path, base: str, mirror: str, more: Sequence[str]) -> None:
-    """Debian's base with more packages in a root: a copy of a folder, or what debootstrap fetches."""
+    """Debian's base with more packages in a root, none of which is named by the pages: a copy of a folder, or what
+    debootstrap fetches. apt knows what there is."""
     if base:
         output_of(["cp", "-a", base, root])
     else:
         print("fetching Debian's base", file=sys.stderr)
-        output_of(["debootstrap", "--variant=minbase", f"--include={','.join(more)}", "bookworm", root, mirror])
+        output_of(["debootstrap", "--variant=minbase", f"--include={','.join([*BASE, *more])}", "bookworm", root,
+                   mirror])
+    output_of(["chroot", root, "apt-get", "--quiet", "--quiet", "update"])
+    expect(not (there := present(root)), f"the base has {there}, which the pages have a person install")
+
+
+def present(root: pathlib.Path) -> list[str]:
+    """Which of the commands that the pages have a person install are there."""
+    return [name for name in NAMED if any((root / folder / name).exists() for folder in ("usr/bin", "usr/sbin"))]
+
+
+def row_words(page: pathlib.Path, name: str) -> str:
+    """What the row of this name in the table of *Packages* has a person type; a name of a unit is no command."""
+    row = re.search(rf"(?m)^\| {name} \| (.*) \|$", page.read_text("utf-8"))[1]
+    return "\n".join(words for words in re.findall(r"`([^`]*)`", row) if " " in words)
 
 
 def blocks_of(page: pathlib.Path) -> dict[str, list[list[str]]]:

@@ -115,8 +115,8 @@ def look_at_wrong_words(folder: pathlib.Path) -> None:
     for words, first in FIRST_LINES:
         said = run_program(words, LINES.encode()).stderr.decode()
         expect(said.startswith(f"{first}\n"), f"{words}: {said!r} does not begin with {first!r}")
-    # The newest version of CHANGES, that of the tables, and the program logic that README names.
-    newest = re.search(r"^## ([0-9.]+)$", read("CHANGES.md"), re.M)[1]
+    # The newest version of CHANGES without a package's number, that of the tables, and the logic that README names.
+    newest = re.search(r"^## ([0-9.]+)(?:-[0-9]+)?$", read("CHANGES.md"), re.M)[1]
     logic = re.search(r"logic ([0-9a-f]{16})", read("README.md"))[1]
     for word in ("--version", "-V"):
         look([word], (1, f"keyreg {newest} (tables of version {VERSION}, program logic {logic})\n"))
