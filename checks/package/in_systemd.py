@@ -62,7 +62,7 @@ def main() -> None:
     given = options(__doc__, ("units", "accidents"), base="", mirror=MIRROR)
     with fresh_folder() as folder:
         root = folder / "root"
-        make_base(root, given.base, given.mirror, ())
+        make_base(root, given.base, given.mirror)
         furnish(root, given.parts)
         booted = call("timeout", SECONDS, "systemd-nspawn", f"--directory={root}", "--boot", "--private-network",
                       "--register=no", "--keep-unit", "--quiet", stdin=subprocess.DEVNULL, errors="replace")

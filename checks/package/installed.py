@@ -5,8 +5,8 @@
 
 As root, with debootstrap, lintian, systemd, tmux, binutils and a browser of Debian (`apt-get install debootstrap
 lintian systemd tmux binutils zsh fish chromium chromium-driver python3-selenium nginx-light`). The root is Debian's
-base, which debootstrap fetches, or a copy of FOLDER with the packages of BASE (roots.py) and MORE. `./package` is
-called first, of the program that is built or of KEYREG.
+base, which debootstrap fetches, or a copy of FOLDER with the packages of BASE (roots.py). `./package` is called first,
+of the program that is built or of KEYREG.
 
 lintian has no error, and the newest version is the highest. apt brings what the package recommends, which is what the
 page has a person install, and the units are let do little. The program runs, has its man page, completes in three
@@ -41,7 +41,7 @@ from roots import ALONE, MIRROR, NAMED, PACKAGES, blocks_of, call, made_package,
 from script import expect, fresh_folder, options, verdict
 from serving import begins_to_listen
 
-# What shows the man page, and the shells.
+# What shows the man page, and the shells, of which fish needs Python: they come behind what the pages bring.
 MORE = ("man-db", "bash-completion", "zsh", "fish")
 # What dpkg, apt, man, nginx and the users' programs keep of their own, which no package can take away.
 OWN = re.compile(r"/var/(lib/(dpkg|apt|nginx)/|log/|cache/(man|apt|debconf|ldconfig)/)|/etc/ld\.so\.cache$"
@@ -262,6 +262,7 @@ def installs(root: pathlib.Path, package: pathlib.Path) -> None:
     call_well(*inside(root, "/tmp", *ALONE, "sh", "-c", page_line))
     fault(present(root) == list(NAMED), f"the page's line has brought {present(root)}")
     call_well(*inside(root, "/", "dpkg", "--purge", "keyreg"))
+    call_well(*inside(root, "/", *ALONE, "apt-get", "install", "--yes", "--no-install-recommends", *MORE))
 
 
 def packaged(root: pathlib.Path, package: pathlib.Path) -> None:
@@ -313,7 +314,7 @@ def main() -> None:
     call_well("lintian", "--allow-root", "--fail-on", "error", package)
     with fresh_folder() as folder:
         root = folder / "root"
-        make_base(root, given.base, given.mirror, MORE)
+        make_base(root, given.base, given.mirror)
         (root / "etc/hostname").write_text("packaged\n")
         versions_rise(package)
         installs(root, package)

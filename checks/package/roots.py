@@ -6,7 +6,7 @@ import pathlib
 import re
 import subprocess
 import sys
-from typing import Any, Sequence
+from typing import Any
 
 from places import PROGRAM, TOP
 from document_commands import anchor_of
@@ -32,15 +32,14 @@ def made_package() -> pathlib.Path:
     return next(PACKAGES.glob("*.deb"))
 
 
-def make_base(root: pathlib.Path, base: str, mirror: str, more: Sequence[str]) -> None:
-    """Debian's base with more packages in a root, none of which is named by the pages: a copy of a folder, or what
+def make_base(root: pathlib.Path, base: str, mirror: str) -> None:
+    """Debian's base in a root, with nothing that the pages have a person install: a copy of a folder, or what
     debootstrap fetches. apt knows what there is."""
     if base:
         output_of(["cp", "-a", base, root])
     else:
         print("fetching Debian's base", file=sys.stderr)
-        output_of(["debootstrap", "--variant=minbase", f"--include={','.join([*BASE, *more])}", "bookworm", root,
-                   mirror])
+        output_of(["debootstrap", "--variant=minbase", f"--include={','.join(BASE)}", "bookworm", root, mirror])
     output_of(["chroot", root, "apt-get", "--quiet", "--quiet", "update"])
     expect(not (there := present(root)), f"the base has {there}, which the pages have a person install")
 
