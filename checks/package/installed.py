@@ -47,7 +47,7 @@ MORE = ("man-db", "bash-completion", "zsh", "fish")
 OWN = re.compile(r"/var/(lib/(dpkg|apt|nginx)/|log/|cache/(man|apt|debconf|ldconfig)/)|/etc/ld\.so\.cache$"
                  r"|/etc/g?(passwd|group|shadow)-$|/(proc|sys|dev|tmp|run)/")
 # What a unit is let do besides its work, at most, by the measure of systemd-analyze in tenths.
-EXPOSURE = 15
+EXPOSURE = 12
 # The packages of the libraries that a program may load.
 LIBRARIES = {"libc.so.6": "libc6", "libm.so.6": "libc6", "ld-linux-x86-64.so.2": "libc6",
              "ld-linux-aarch64.so.1": "libc6", "libgcc_s.so.1": "libgcc-s1"}
