@@ -190,6 +190,17 @@ holds "an instance's folder is the office's alone" mode_is /var/lib/keyreg/payro
 typed several-registers 1
 holds "a list of an instance, by OPERATING" systemctl start keyreg-list-payroll
 holds "it is nginx's alone" mode_is /var/lib/keyreg-list-payroll/list.json "keyreg 640"
+# Its desk, by the words there: another port, the register's and the list's, and nothing that stands once.
+sed -e '/# once$/d' -e 's/443/8443/; s/8420/8431/; s#/var/lib/keyreg-list;#/var/lib/keyreg-list-payroll;#' \
+    /etc/nginx/conf.d/keyreg.conf >/etc/nginx/conf.d/payroll.conf
+holds "a desk of an instance" sh -c 'nginx -t && systemctl reload nginx'
+lists() {
+    curl -s --cacert /etc/ssl/certs/keyreg.pem --user alice.meyer:other --resolve keyreg.example:8443:127.0.0.1 \
+        https://keyreg.example:8443/list.json | grep -q '"count":0'
+}
+holds "it serves the list of the instance" until_holds 10 lists
+rm /etc/nginx/conf.d/payroll.conf
+systemctl reload nginx
 systemctl disable --now keyreg-list-payroll.timer
 rm /etc/systemd/system/keyreg-list-payroll.*
 systemctl daemon-reload
