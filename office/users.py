@@ -28,11 +28,12 @@ import tempfile
 sys.dont_write_bytecode = True
 from register_rules import NAME
 
-LEFT = """{0} is no user any more. In the register stand still, until
-- each key that {0} owns is assigned: by {0} alone, so set a password once more and do it by that
-- each key's owner removes {0} as a custodian: an approval stands until then
-- for good, the requests of {0}: give the name to nobody else
-A copy of the register lists both kinds of keys: docs/AUDIT.md, the view `part`."""
+# What a user leaves behind.
+LEFT = """{0} is no user any more. In the register
+- keys that {0} owns wait: {0} alone assigns them, so set a password once more and assign them by that
+- approvals of {0} stand until each key's owner removes {0} as a custodian
+- requests of {0} stay for good: give the name to nobody else
+A copy of the register lists these keys: docs/AUDIT.md, the view `part`."""
 # Of a new file: its owner writes it and its group reads it.
 MODE = 0o640
 
