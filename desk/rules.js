@@ -8,11 +8,15 @@
 
 export const LAST_MOMENT = 253402300799;
 export const GREATEST_NUMBER = 9007199254740991;
+// From here to the greatest go the requests of tables, and below it all others.
+export const LEAST_OF_TABLES = 2 ** 52;
 export const MOST_CUSTODIANS = 16;
 export const MOST_KEYS = 1000000;
 const LEAST_NEED = 2;
 export const OFFICE = "office";
 export const DAY = 86400;
+// By so many seconds a register may be ahead of its machine's clock and is waited for.
+export const NEAR = 60;
 
 // Months of originator use, and of recipient use after, where the office has set none.
 export const PERIODS = {

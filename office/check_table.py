@@ -1,7 +1,7 @@
 #!/usr/bin/env python3
 """Tells what a spreadsheet did to a table before it is imported.
 
-    office/check_table.py TABLE --export EXPORT [--copy COPY --caller NAME]
+    office/check_table.py TABLE --export EXPORT [--caller NAME [--copy COPY] [--requests FILE]]
 
 TABLE is the CSV that is about to be imported, EXPORT what `keyreg export` wrote of the keys that it came from. A row
 of TABLE is found again among the keys where each of its fields is the key's, or is what a spreadsheet may have made of
@@ -18,8 +18,15 @@ Each such field is printed, with its row (the first after the header row is 1) a
 already, whose import makes a second key: type, owner, purpose and each date that the row gives are the key's, and of a
 row without dates the key is in use. So are rows that ask for the same key as a row before them, and rows that the
 register would refuse for their form. With a copy of the register (docs/AUDIT.md takes one) it prints the first number
-that the caller's next import may take. register_rules.py and replay.py have to stand beside it. The last line is the
-verdict. The status is 0 where every row is new and would be a request, 1 where not, 2 where a file cannot be read.
+that the caller's next import may take.
+
+--requests  writes the new rows to FILE as request lines of the caller, for `keyreg run`, with the moment of the clock
+            and under the numbers under which the desk sends them: 2^52 plus the number that the first 13 digits of the
+            SHA-256 of `CALLER TIME COMMAND` are, where COMMAND is the line's own and TIME is 1 for the first row of the
+            table with this command, 2 for the second, and so on. So a row of a caller acts once, whoever sends it
+
+register_rules.py and replay.py have to stand beside it. The last line is the verdict. The status is 0 where every row
+is new and would be a request, 1 where not, 2 where a file cannot be read or written.
 """
 import argparse
 import collections
@@ -27,22 +34,26 @@ import contextlib
 import csv
 import decimal
 import functools
+import hashlib
 import io
 import itertools
 import pathlib
 import re
 import sys
+import time
 from datetime import datetime
 
 # What is read from beside this file leaves none there.
 sys.dont_write_bytecode = True
-from register_rules import GREATEST_NUMBER, NAME, NO_PURPOSE, PERIODS, Refused, fitted, moment_of
+from register_rules import NAME, NO_PURPOSE, PERIODS, Refused, fitted, moment_of
 from replay import Unreadable, opened
 
 COLUMNS = "type owner activation protect_stop deactivation purpose".split()
 DATES = COLUMNS[2:5]
 WORDS = ("type", "owner", "purpose")
 IN_USE = ("Pre-Active", "Active")
+# From here to the greatest number go the requests of tables, and below it all others.
+LEAST_OF_TABLES = 1 << 52
 FORMULA = "taken for a formula, and this is its result"
 # How spreadsheets write dates, the least ambiguous first.
 FORMS = ["%Y-%m-%d", "%Y/%m/%d", "%d.%m.%Y", "%d.%m.%y", "%m/%d/%Y", "%m/%d/%y", "%d/%m/%Y", "%d/%m/%y", "%d-%m-%Y",
@@ -237,8 +248,8 @@ def asked_for(row):
 SORTS = ("changed by a spreadsheet", "there already", "repeated", "of another form", "new")
 
 
-def looked_at(rows, keys, counts):
-    """A line for each thing to tell of the rows, which are counted by their sorts."""
+def looked_at(rows, keys, counts, new):
+    """A line for each thing to tell of the rows, which are counted by their sorts; the places of new ones are added."""
     before = {}
     for place, row in enumerate(rows):
         others, changes, row_no = list(refusals(row)), {}, f"row {place + 1}"
@@ -257,34 +268,65 @@ def looked_at(rows, keys, counts):
         others = [why for why in others if why.split(" ")[0] not in changes]
         yield from (f"{row_no}: {why}" for why in others)
         counts["changed by a spreadsheet" if changes else "of another form" if others else "new"] += 1
+        new += [] if changes or others else [place]
 
 
 def last_number(path, caller):
-    """The greatest number of the caller's accepted requests."""
+    """The greatest number of the caller's accepted requests, but for those of tables."""
     with opened(path) as connection:
-        asked = "SELECT max(number) FROM request WHERE caller = ?"
-        return connection.execute(asked, [caller]).fetchone()[0] or 0
+        asked = "SELECT max(number) FROM request WHERE caller = ? AND number < ?"
+        return connection.execute(asked, [caller, LEAST_OF_TABLES]).fetchone()[0] or 0
+
+
+def requests_of(rows, caller):
+    """Of each row its number and its command, or None where it is no request. The desk (desk/numbers.js) has the same
+    rule."""
+    times, taken = collections.Counter(), set()
+    for row in rows:
+        if any(refusals(row)):
+            yield None
+            continue
+        dates = [moment_of(row[column]) if row[column] else "-" for column in DATES]
+        command, number = " ".join(map(str, ("register", row["type"], row["owner"], *dates, row["purpose"]))), None
+        while number is None or number in taken:
+            times[command] += 1
+            digest = hashlib.sha256(f"{caller} {times[command]} {command}".encode()).hexdigest()
+            number = LEAST_OF_TABLES + int(digest[:13], 16)
+        taken.add(number)
+        yield number, command
+
+
+def write_requests(path, rows, new, caller):
+    """Writes the new rows as request lines of the caller."""
+    moment, requests = int(time.time()), list(requests_of(rows, caller))
+    lines = [f"{moment} {caller} {number} {command}\n" for number, command in map(requests.__getitem__, new)]
+    try:
+        pathlib.Path(path).write_text("".join(lines), encoding="utf-8")
+    except OSError as fault:
+        raise Unreadable(f"{path}: {fault.strerror}") from None
 
 
 def main():
     words = argparse.ArgumentParser(description="Tells what a spreadsheet did to a table before it is imported.")
     words.add_argument("table")
     words.add_argument("--export", required=True)
-    words.add_argument("--copy")
-    words.add_argument("--caller")
+    for name in ("--copy", "--caller", "--requests"):
+        words.add_argument(name)
     words = words.parse_args()
-    if (words.copy is None) != (words.caller is None):
-        sys.exit("--copy and --caller are given together")
+    if bool(words.copy or words.requests) != bool(words.caller) or not NAME.fullmatch(words.caller or "none"):
+        sys.exit("--copy and --requests are of a --caller, which is a name")
     try:
         keys = Keys([key for key in rows_of(words.export, ["number", *COLUMNS]) if key])
-        rows, counts = rows_of(words.table, COLUMNS), collections.Counter()
-        for line in looked_at(rows, keys, counts):
+        rows, counts, new = rows_of(words.table, COLUMNS), collections.Counter(), []
+        for line in looked_at(rows, keys, counts, new):
             print(line, flush=True)
         if words.copy:
             last = last_number(words.copy, words.caller)
-            has_room = last + len(rows) <= GREATEST_NUMBER
+            has_room = last + len(rows) < LEAST_OF_TABLES
             first = f"--first {last + 1}" if has_room else "none above: take one that is free"
             print(f"the next first number of {words.caller}: {first}")
+        if words.requests:
+            write_requests(words.requests, rows, new, words.caller)
     except Unreadable as fault:
         print(fault)
         return 2

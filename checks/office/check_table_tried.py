@@ -18,12 +18,14 @@ from typing import Any, Iterable, Mapping, Sequence
 
 sys.path.insert(1, str(pathlib.Path(__file__).resolve().parents[1] / "shared"))
 from places import DESK
+from check_table import requests_of
 from registers import IMPORT_COLUMNS, File, copy_files, new_register, run_program
 from register_rules import moment_of, text_of
 from script import expect, fresh_folder, output_of, verdict
 from tools import exported, run_tool, words_of
 
-CASES, SHEETS = (json.loads((DESK / "tests" / f"{name}.json").read_text("utf-8")) for name in ("made", "sheets"))
+CASES, SHEETS, NUMBERS = (json.loads((DESK / "tests" / f"{name}.json").read_text("utf-8"))
+                          for name in ("made", "sheets", "numbers"))
 COLUMNS, DATES = list(IMPORT_COLUMNS), IMPORT_COLUMNS[2:5]
 START = "2026-02-01T00:00:00Z"
 # A key's column, its text, what spreadsheets were seen to make of it, and what is said of that: the words behind a
@@ -173,6 +175,37 @@ def known_again(folder: pathlib.Path) -> int:
     return len(cases)
 
 
+def requests_written(desk: Desk, rows: Iterable[Row], caller: str) -> list[str]:
+    """The request lines of the new rows of a table."""
+    put(desk.table, rows)
+    target = desk.table.with_suffix(".txt")
+    checked(desk.table, desk.export, "--caller", caller, "--requests", target)
+    return target.read_text("utf-8").splitlines()
+
+
+def sent_once(folder: pathlib.Path) -> None:
+    """The numbers of rows are those of the cases, which the desk has too. A table that `keyreg run` takes twice is
+    taken once; of one that was corrected in between the corrected row alone is new, and no import's number comes of
+    it."""
+    desk = Desk(folder, [KEY])
+    for case in NUMBERS:
+        rows = [dict(zip(COLUMNS, case["row"]))] * case["time"]
+        *_, (number, _) = requests_of([*rows[1:], None, {**rows[0], "owner": "zoe"}, rows[0]], case["caller"])
+        expect(number == case["number"], f"{case} has the number {number}")
+    rows = [{**KEY, "purpose": f"volume {place}"} for place in range(1000)]
+    lines = requests_written(desk, rows, "intake")
+    replies = [run_program(["run", "--file", desk.file], "\n".join([*some, ""]).encode()).stdout.decode().splitlines()
+               for some in (lines[:400], lines, lines)]
+    expect(len(set(replies[1])) == len(rows) and replies[1] == replies[2] and replies[1][:400] == replies[0]
+           and all(reply.startswith("ok ") for reply in replies[1]), f"replies: {replies[2][:3]}, {replies[1][:3]}")
+    corrected = [*rows[:499], {**rows[499], "purpose": "corrected"}, *rows[500:]]
+    others = requests_written(desk, corrected, "intake")
+    new = [line for line, other in zip(others, lines) if line.split(" ")[2] != other.split(" ")[2]]
+    expect(len(new) == 1 and new[0].endswith(" corrected"), f"of a corrected table new are {new}")
+    desk.expect_lines(rows[:1], 0, "1 new", ("the next first number of intake: --first 2", ""),
+                      more=("--copy", desk.file, "--caller", "intake"))
+
+
 def no_tables(folder: pathlib.Path) -> None:
     """Of what is no table it is said what is wrong."""
     table, export, whole = folder / "none.csv", folder / "export.csv", ",".join(COLUMNS) + "\nmaster,a,,,,Schlüssel\n"
@@ -216,6 +249,7 @@ def main() -> None:
         print(by_libreoffice(folder))
         rows_reported(folder)
         known = known_again(folder)
+        sent_once(folder)
         no_tables(folder)
         few, most = all_changed(folder, FEW), all_changed(folder, MANY)
     grown = sum(most) / sum(few)
