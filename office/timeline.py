@@ -187,7 +187,7 @@ def page_of(keys, moment, days):
 <html lang="en"><head><meta charset="utf-8"><title>Keys at {text_of(moment)}</title>
 <meta http-equiv="Content-Security-Policy"
  content="default-src 'none'; style-src 'sha256-{hashes[0]}'; script-src 'sha256-{hashes[1]}'">
-<meta name="viewport" content="width=device-width"><style>{STYLE}</style></head><body>
+<meta name="viewport" content="width=device-width"><style>{STYLE}</style></head><body><main>
 <h1>Keys at {text_of(moment)}</h1>
 <p>{len(keys)} keys. States are those of this moment by the dates of the export. Due: Active, and its Protect Stop
 Date is within {days} days. A bar is high while the key may protect data, and low while it may only process what is
@@ -198,8 +198,8 @@ protected. A key's number opens all of its texts and dates.</p>
 <svg class="defs" aria-hidden="true"><defs>{patterns}</defs></svg>
 <table data-page="{PAGE}" data-first="{scale.first}" data-last="{scale.last}">
 <colgroup>{"".join(f'<col class="{name}">' for name in columns)}</colgroup>
-<thead><tr>{heads}<th scope="col" class="time" aria-label="years">
-<svg aria-hidden="true">{"".join(scale.years_drawn())}</svg></th></tr></thead><tbody></tbody></table>
+<thead><tr>{heads}<th scope="col" class="time" aria-label="years"><span class="unseen">years</span>
+<svg aria-hidden="true">{"".join(scale.years_drawn())}</svg></th></tr></thead><tbody></tbody></table></main>
 <script type="application/json" id="data">{text}</script><script>{SCRIPT}</script></body></html>
 """
 

@@ -2,8 +2,9 @@
 """Looks at what office/timeline.py draws of an export, in chromium. Each key is drawn once, with the state that
 office/register_rules.py gives, and its line by the cases that the desk draws by. Every text of a key stays a text, and
 nothing is loaded. At 380, 800 and 1600 wide, light and dark, nothing runs over its neighbour or past the edge, and each
-row's button gives all texts and dates of its key. Printed, each row stands whole on one sheet. Ten thousand keys are
-sorted, filtered, and turned over by pages, and are shown in at most TIMES the time that a thousand take.
+row's button gives all texts and dates of its key; axe finds nothing. Printed, each row stands whole on one sheet. Ten
+thousand keys are sorted, filtered, and turned over by pages, and are shown in at most TIMES the time that a thousand
+take.
 
     checks/office/timeline_tried.py
 
@@ -20,6 +21,7 @@ from typing import Any, Iterator, Mapping
 
 sys.path.insert(1, str(pathlib.Path(__file__).resolve().parents[1] / "shared"))
 from places import TOP
+from axe import violations
 from browser import as_seen, as_usual, chromium, print_page
 from registers import EXPORT_COLUMNS, EXPORT_DATES, export_row, new_register
 from register_rules import STATES, moment_of, state_at, text_of
@@ -53,7 +55,7 @@ LINES = [re.sub(r"(?<![^ ])[+-]\d+(?![^ ])", lambda days: str(NOW + int(days[0])
 WIDTHS = (380, 800, 1600)
 # How much longer ten thousand keys may take than a thousand.
 TIMES = 3
-TAGS = ("html head meta title style body h1 p div span svg rect path line text defs pattern circle form label "
+TAGS = ("html head meta title style body main h1 p div span svg rect path line text defs pattern circle form label "
         "select option input button script noscript table colgroup col thead tbody tr th td")
 PROBE = pathlib.Path(__file__).with_name("page_seen.js")
 
@@ -255,6 +257,23 @@ def contrast_faults(text: str) -> Iterator[str]:
                 yield f"{name}: {which} {colour} has {(high + 0.05) / (low + 0.05):.2f}, not {least}, to 1"
 
 
+# What one acts on that is smaller than WCAG 2.2 (2.5.8) wants it, though nothing else may be near.
+SMALL = """return [...document.querySelectorAll("button, select, input")].filter((one) => {
+  const {width, height} = one.getBoundingClientRect(); return width > 0 && Math.min(width, height) < 24; })
+  .map((one) => one.outerHTML.slice(0, 80));"""
+
+
+def axe_faults(browser: Browser, name: str) -> Iterator[str]:
+    """What axe finds in the page with a row opened, light, dark and narrow, and small targets."""
+    for width, is_dark in ((1200, False), (1200, True), (320, False)):
+        as_seen(browser.driver, width, 900, is_dark)
+        browser.open(name)
+        browser.driver.execute_script("document.querySelector('td.number button').click()")
+        yield from (f"{width} wide{', dark' * is_dark}: axe: {found}" for found in violations(browser.driver))
+        yield from (f"{width} wide: small is {one}" for one in browser.driver.execute_script(SMALL))
+    as_usual(browser.driver)
+
+
 def print_faults(sheets: list[str], filled: list[float], count: int) -> Iterator[str]:
     """What is missing or cut on the sheets of a printed page of so many keys `key N`."""
     rows = [int(row) for sheet in sheets for row in re.findall(r"(?m)^\s*(\d+) .*\bkey \1\b", sheet)]
@@ -286,6 +305,7 @@ def main() -> None:
         for width in WIDTHS:
             for is_dark in (False, True):
                 faults += layout_faults(browser.seen("small", width, is_dark), rows, width, is_dark)
+        faults += axe_faults(browser, "small")
         sheets, filled = browser.printed("thousand")
         faults += print_faults(sheets, filled, 1000)
         expect(not faults, "\n".join(faults[:12]))
