@@ -61,8 +61,76 @@ export function field(label, input, ...more) {
   return el("div", {class: "field"}, el("label", {for: input.id}, label), input, ...more);
 }
 
-export function select(options, given = {}) {
-  return el("select", given, options.map(([value, text]) => el("option", {value}, text)));
+// A choice of one of these, which begins with the chosen one, or the first.
+export function select(options, given = {}, chosen = undefined) {
+  return el("select", given, options.map(([value, text]) => el("option", {value, selected: value === chosen}, text)));
+}
+
+// ---- what is heard
+
+const QUIET = 1000;
+let saying = 0;
+
+// Says a text to whoever does not see the page: in a while, so that not each letter that is typed is told, and nothing
+// where that is told already. What was to be said before it is not said any more.
+export function announce(text, milliseconds = QUIET) {
+  clearTimeout(saying);
+  saying = setTimeout(() => {
+    const place = document.getElementById("heard");
+    if (place.textContent !== text) place.textContent = text;
+  }, milliseconds);
+}
+
+export function hush() {
+  clearTimeout(saying);
+  document.getElementById("heard").textContent = "";
+}
+
+// ---- what was typed stays
+
+function isTyped(field) {
+  if (field.tagName !== "SELECT") return field.value !== field.defaultValue;
+  const begun = [...field.options].findIndex((option) => option.defaultSelected);
+  return field.selectedIndex !== Math.max(begun, 0);
+}
+
+// What was typed into the forms of commands of a place, and which of these are open. A form that is as it began is not
+// among them, so that it begins with what stands by then.
+export function formsIn(place) {
+  return [...place.querySelectorAll("form.command")].map((form) => {
+    const fields = [...form.elements].filter(({name}) => name);
+    return {
+      kind: form.dataset.kind,
+      isOpen: form.closest("details")?.open,
+      values: fields.some(isTyped) ? fields.map(({name, value}) => [name, value]) : [],
+    };
+  });
+}
+
+// Puts it back into the forms that are there again, but for the kind that was sent.
+export function fillForms(place, before, sent = null) {
+  for (const {kind, isOpen, values} of before) {
+    const form = place.querySelector(`form.command[data-kind='${kind}']`);
+    if (!form || isOpen === false || kind === sent) continue;
+    if (isOpen) form.closest("details").open = true;
+    // What is done with a date is put back behind the date, which sets it.
+    values.sort(([one], [other]) => one.endsWith("-edit") - other.endsWith("-edit"));
+    for (const [name, value] of values) {
+      const input = form.elements[name];
+      if (!input) continue;
+      input.value = value;
+      input.dispatchEvent(new Event("input", {bubbles: true}));
+    }
+  }
+}
+
+// Shows a place anew: what was typed into its forms stays, and the focus in them.
+export function keepingForms(place, show, sent = null) {
+  const before = formsIn(place), at = document.activeElement, form = at?.closest("form.command");
+  show();
+  fillForms(place, before, sent);
+  if (!form || form.isConnected || form.dataset.kind === sent) return;
+  place.querySelector(`form.command[data-kind='${form.dataset.kind}'] [name='${at.name}']`)?.focus();
 }
 
 // A table with these heads and rows of cells, shown as cards where the page is narrow. It keeps its roles then, which

@@ -1,9 +1,8 @@
-// Keys that are found, what waits for the reader, and the periods of the types.
-import {byParts, cards, el, field, freshId, name, plain, replace, select, shown} from "./dom.js";
-import {commandForm} from "./forms.js";
-import {allNames, keyAt, known, list, matching, periods, waiting} from "./list.js";
+// Keys that are found, and what waits for the reader.
+import {announce, byParts, cards, el, field, freshId, name, replace, select, shown} from "./dom.js";
+import {allNames, isComing, keyAt, known, list, matching, waiting} from "./list.js";
 import {now} from "./register.js";
-import {OFFICE, PERIODS, STATES, isOverdue} from "./rules.js";
+import {PERIODS, STATES, isOverdue} from "./rules.js";
 import {away, counted, state, utcText} from "./words.js";
 
 const SHOWN = 50;
@@ -64,7 +63,10 @@ function written(fields) {
 }
 
 function lacking() {
-  if (!list.isThere) return "The list of keys is not there: keys are asked for by their numbers alone.";
+  if (!list.isThere) {
+    return isComing() ? "The list of keys is on its way: keys are asked for by their numbers meanwhile."
+      : "The list of keys is not there: keys are asked for by their numbers alone.";
+  }
   if (!list.hasKeys) {
     return `The register has ${list.count} keys, too many for the list: they are asked for by their numbers alone.`;
   }
@@ -83,12 +85,15 @@ function lookAtDays(input, hint) {
 
 export function findPage(place, given) {
   const fields = filterFields(), results = el("div", {class: "results"});
-  const count = el("p", {class: "count", role: "status"}), hint = el("span", {class: "hint", role: "alert"});
-  const look = () => {
+  const count = el("p", {class: "count"}), hint = el("span", {class: "hint", id: freshId("hint")});
+  fields.days.setAttribute("aria-describedby", hint.id);
+  const look = (event) => {
     const at = now(), filter = written(fields), numbers = matching(filterOf(filter), at);
     lookAtDays(fields.days, hint);
-    history.replaceState(null, "", `#find${filter.size ? `?${filter}` : ""}`);
-    replace(count, `${numbers.length} of ${counted(known(), "key")}`);
+    history.replaceState(history.state, "", `#find${filter.size ? `?${filter}` : ""}`);
+    replace(count, `${numbers.length} of ${counted(known(), "key")}`
+      + (list.hasKeys ? "" : " that this page was told of: the others are not looked through"));
+    if (event) announce([hint.textContent, count.textContent].filter(Boolean).join("; "));
     byParts(numbers, SHOWN, (some) => (some.length ? keyTable(some, at, "Keys found") : null), results);
   };
   for (const [member, input] of Object.entries(fields)) {
@@ -98,7 +103,7 @@ export function findPage(place, given) {
   const go = (event) => {
     event.preventDefault();
     const number = fields.text.value.trim();
-    if (/^[1-9]\d{0,9}$/.test(number)) location.hash = `#key/${number}`;
+    if (/^\d+$/.test(number)) location.hash = `#key/${number}`;
   };
   const names = [...allNames()].sort().slice(0, 2000);
   replace(place, el("h1", {}, "Find keys"), lackingNote(),
@@ -124,45 +129,21 @@ const WAITS = [
 
 // The keys stay in their order until the page is opened anew: none moves under the hand of who is about to open one.
 export function waitsPage(place, desk) {
-  const at = now(), keys = waiting(desk.me, at);
+  const at = now(), keys = waiting(desk.me, at), none = list.hasKeys ? "None." : "Not known: there is no list.";
   const parts = WAITS.map(([sort, head, hint]) => {
     const results = el("div", {class: "results"}), numbers = keys[sort];
     byParts(numbers, SHOWN, (some) =>
-      (some.length ? keyTable(some, at, counted(numbers.length, "key")) : el("p", {}, "None.")), results);
+      (some.length ? keyTable(some, at, counted(numbers.length, "key")) : el("p", {}, none)), results);
     return el("section", {class: sort}, el("h2", {}, head), el("p", {class: "hint"}, hint), results);
   });
   replace(place, el("h1", {}, "What waits for you"), lackingNote(), el("div", {id: "newer", role: "status"}), parts);
 }
 
-// Says on the page of what waits that a newer list is there.
+// Says on a page that has room for it that a newer list is there.
 export function tellNewer(place, show) {
   const newer = place.querySelector("#newer");
   if (newer) {
     replace(newer, el("p", {class: "note"}, "A newer list is there. ",
       el("button", {type: "button", onclick: show}, "Show it")));
   }
-}
-
-// ---- periods, and a registration
-
-export function periodsPage(place, desk) {
-  const set = periods();
-  const rows = Object.entries(PERIODS).map(([type, [first, second]]) => {
-    const [originator, recipient] = set[type] ?? [first, second];
-    return [el("strong", {}, type), String(originator), String(recipient),
-      set[type] ? `set by ${OFFICE}` : "as the register began"];
-  });
-  const note = "The list is not there, which has the periods that are set: these may be others.";
-  replace(place, el("h1", {}, "Periods of the types"),
-    list.isThere ? null : el("p", {class: "note"}, note),
-    cards(["Type", "Months of protecting", "Months of processing after", "Whose"], rows,
-      {"aria-label": "Periods of the types"}),
-    desk.me === OFFICE ? [el("h2", {}, "Set the periods of a type"), commandForm("set-period", {desk})]
-      : el("p", {}, `Only the user ${OFFICE} sets them; you are `, plain(desk.me), "."));
-}
-
-export function registerPage(place, desk) {
-  replace(place, el("h1", {}, "Register a key"),
-    el("p", {}, "A date that you leave out follows from the period of the type, once there is an Activation."),
-    commandForm("register", {desk}));
 }

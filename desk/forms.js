@@ -1,6 +1,6 @@
 // Forms for commands. Each shows the JSON that it sends and what the page knows of its answer before it is sent.
-import {el, field, freshId, plain, replace, select, shown} from "./dom.js";
-import {allNames, judgement, list} from "./list.js";
+import {announce, el, field, freshId, hush, plain, replace, select, shown} from "./dom.js";
+import {allNames, judgement, list, periodOf} from "./list.js";
 import {now} from "./register.js";
 import {COMPROMISES, PERIODS, RANGES, REASONS, SETTABLE, wrongMembers} from "./rules.js";
 import {WORDS, localText, momentOf, momentText, refusalText, textFault, utcText} from "./words.js";
@@ -16,12 +16,19 @@ const HINTS = {
 };
 
 // ---- fields. Each has its element, the member that it gives, its value, undefined where it is none, and what is wrong
-// with that where something was given.
+// with that where something was given. `tell` says beside the field what is wrong, or an empty text.
 
-function withHint(label, input, hint, ...more) {
+// A field with its label, and what describes it: what is wrong with it, and its hint.
+function described(label, input, hint, ...more) {
+  const wrong = el("span", {class: "wrong", id: freshId("wrong")});
   hint.id = freshId("hint");
-  input.setAttribute("aria-describedby", hint.id);
-  return field(label, input, ...more, hint);
+  input.setAttribute("aria-describedby", `${wrong.id} ${hint.id}`);
+  const tell = (fault) => {
+    if (wrong.textContent !== fault) wrong.textContent = fault;
+    if (fault) input.setAttribute("aria-invalid", "true");
+    else input.removeAttribute("aria-invalid");
+  };
+  return {tell, element: field(label, input, ...more, wrong, hint)};
 }
 
 const inputText = (moment) => (moment === null || moment === undefined ? "" : momentText(moment).replace("Z", ""));
@@ -43,7 +50,7 @@ function date(member, label, given = null) {
   };
   const look = () => {
     const value = dateOf(input);
-    hint.textContent = value === null ? "none" : value === undefined ? NO_DATE
+    hint.textContent = value === null ? "none" : value === undefined ? ""
       : `${utcText(value)}, in your time ${localText(value)}`;
   };
   // Not each letter of a date that is typed changes its value.
@@ -54,7 +61,7 @@ function date(member, label, given = null) {
     el("button", {type: "button", "aria-label": `Now, for ${about}`, onclick: () => set(inputText(now()))}, "Now"),
     el("button", {type: "button", "aria-label": `No date, for ${about}`, onclick: () => set("")}, "None"));
   const fault = () => (dateOf(input) === undefined ? NO_DATE : "");
-  return {member, input, fault, element: withHint(`${label} (UTC)`, input, hint, buttons), value: () => dateOf(input)};
+  return {member, input, fault, value: () => dateOf(input), ...described(`${label} (UTC)`, input, hint, buttons)};
 }
 
 // An edit of a date: kept, cleared or set.
@@ -62,7 +69,10 @@ function edit(member, label, given) {
   const how = select([["keep", "keep it"], ["set", "set it"], ["clear", "clear it"]],
     {name: `${member}-edit`, "aria-label": `${label}: what to do`});
   const entry = date(member, label, given);
-  const look = () => entry.element.classList.toggle("kept", how.value !== "set");
+  const look = () => {
+    entry.element.classList.toggle("kept", how.value !== "set");
+    entry.input.required = how.value === "set";
+  };
   for (const event of ["input", "change"]) how.addEventListener(event, look);
   for (const event of ["input", "keyup"]) {
     entry.input.addEventListener(event, ({isTrusted}) => {
@@ -74,53 +84,74 @@ function edit(member, label, given) {
   look();
   const value = () => (how.value === "keep" ? "keep" : how.value === "clear" ? null : entry.value() ?? undefined);
   const fault = () => (how.value === "set" ? entry.fault() : "");
-  return {member, input: entry.input, fault, element: el("div", {class: "edit"}, how, entry.element), value};
+  return {...entry, fault, element: el("div", {class: "edit"}, how, entry.element), value};
 }
 
 function text(member, label, given = {}) {
-  const input = el("input", {type: "text", name: member, autocomplete: "off", spellcheck: "false", ...given});
+  const input = el("input", {type: "text", name: member, required: true, autocomplete: "off", spellcheck: "false",
+    ...given});
   const hint = el("span", {class: "hint"}, HINTS[member]);
   const fault = () => (input.value === "" ? "" : textFault(member, input.value));
-  return {member, input, fault, element: withHint(label, input, hint), value: () => input.value};
+  return {member, input, fault, value: () => input.value, ...described(label, input, hint)};
 }
 
-// A name that somebody has, or a new one, which is told and has to be confirmed: what is given to a name that nobody
-// has is not to be had back.
+// A name that somebody has, or another one, which is told and has to be confirmed: what is given to a name that nobody
+// has is not to be had back. Without a list nobody knows.
 function person(member, label, me) {
   const names = allNames().add(me), id = freshId("names");
   const entry = text(member, label, {list: id});
   const options = el("datalist", {id}, [...names].sort().slice(0, 2000).map((value) => el("option", {value})));
-  const isNew = () => list.isThere && entry.input.value !== "" && !entry.fault() && !names.has(entry.input.value);
+  const isNew = () => entry.input.value !== "" && !entry.fault() && !names.has(entry.input.value);
   const sure = el("input", {type: "checkbox", required: true, id: freshId("sure")});
   const said = el("label", {for: sure.id}), place = el("div");
   const look = () => {
-    said.textContent = `No key, custodian or request has the name ${entry.input.value}. It is the one I mean`;
+    said.textContent = list.hasKeys
+      ? `No key, custodian or request has the name ${entry.input.value}. It is the one I mean`
+      : `Whether anybody has the name ${entry.input.value} is not known: there is no list. It is the one I mean`;
     sure.checked = false;
     replace(place, isNew() ? el("div", {class: "sure"}, sure, said) : null);
   };
   entry.input.addEventListener("input", look);
   entry.element.append(options, place);
-  return {...entry, isOpen: () => isNew() && !sure.checked, sure};
+  return {...entry, open: () => (isNew() && !sure.checked ? said.textContent : ""), sure};
 }
 
-function choice(member, label, options, take = (value) => value) {
-  const input = select(options, {name: member});
-  return {member, input, fault: () => "", element: field(label, input), value: () => take(input.value)};
+function choice(member, label, options, {take = (value) => value, chosen} = {}) {
+  const input = select(options, {name: member}, chosen);
+  return {member, input, fault: () => "", tell: () => {}, element: field(label, input), value: () => take(input.value)};
 }
 
-function months(member, label, given) {
-  const [min, max] = RANGES[member];
-  const input = el("input", {type: "number", name: member, min, max, step: 1, value: given, inputmode: "numeric"});
+function months(member, label) {
+  const [min, max] = RANGES[member], hint = el("span", {class: "hint"}, HINTS[member]);
+  const input = el("input", {type: "number", name: member, required: true, min, max, step: 1, inputmode: "numeric"});
   const value = () => (/^\d{1,4}$/.test(input.value) ? Number(input.value) : undefined);
-  const fault = () => (value() === undefined || value() < min || value() > max ? HINTS[member] : "");
-  return {member, input, fault, element: withHint(label, input, el("span", {class: "hint"}, HINTS[member])), value};
+  const isWrong = () => input.validity.badInput || (input.value !== "" && !(value() >= min && value() <= max));
+  const fault = () => (isWrong() ? `It is not ${HINTS[member]}` : "");
+  return {member, input, fault, value, ...described(label, input, hint)};
 }
 
 const types = () => choice("type", "Type", Object.keys(PERIODS).map((type) => [type, type]));
 
+// The months of a type, which begin with those that stand, also where another type is chosen.
+function periodFields() {
+  const fields = [types(), months("originator", "Months of protecting (originator use)"),
+    months("recipient", "Months of processing after (recipient use)")];
+  const [type, ...ends] = fields;
+  const put = () => {
+    const standing = list.isThere ? periodOf(type.value()) : ["", ""];
+    ends.forEach(({input}, place) => {
+      if (input.value === input.defaultValue) input.value = standing[place];
+      input.defaultValue = standing[place];
+    });
+  };
+  for (const event of ["input", "change"]) type.input.addEventListener(event, put);
+  put();
+  return fields;
+}
+
 function reasons(isOwners) {
   const options = Object.entries(REASONS).filter(([number]) => isOwners || COMPROMISES.includes(Number(number)));
-  return choice("reason", "Reason", options.map(([number, name]) => [number, `${number} ${name}`]), Number);
+  return choice("reason", "Reason", options.map(([number, name]) => [number, `${number} ${name}`]), {take: Number});
 }
 
 const LABELS = {activation: "Activation", protect_stop: "Protect Stop", deactivation: "Deactivation"};
@@ -135,44 +166,72 @@ function fieldsOf(kind, {key, isOwners, desk}) {
     "assign": () => [person("owner", "New owner", desk.me)],
     "add-custodian": () => [person("name", "Custodian", desk.me)],
     "remove-custodian": () => [choice("name", "Custodian", key.custodians.map((name) => [name, plain(name)]))],
-    "set-quorum": () => [choice("need", "Approvals needed", [2, 3, 4, 5].map((need) => [need, String(need)]), Number)],
-    "set-period": () => [types(), months("originator", "Months of protecting (originator use)", 24),
-      months("recipient", "Months of processing after (recipient use)", 36)],
+    "set-quorum": () => [choice("need", "Approvals needed", [2, 3, 4, 5].map((need) => [need, String(need)]),
+      {take: Number, chosen: key.need})],
+    "set-period": periodFields,
   };
   return fields[kind]?.() ?? [];
 }
 
 // ---- what is told before it is sent
 
-function becomes(command, before, after) {
-  const changes = [];
-  for (const [member, label] of Object.entries(LABELS)) {
-    if (after[member] === (before?.[member] ?? null)) continue;
-    const given = command[member];
-    const isOwn = given === after[member] || command.kind === "revoke"
-      || (command.kind === "activate" && member === "activation");
-    const text = after[member] === null ? "none" : `${utcText(after[member])}, ${localText(after[member])}`;
-    changes.push(`${label}: ${text}${isOwn ? "" : " (by the period of the type)"}`);
-  }
-  if (after.state !== before?.state) changes.push(`State: ${after.state}`);
-  const have = after.approvals.length;
-  if (before && have !== before.approvals.length) changes.push(`Approvals: ${have} of ${after.need}`);
-  return changes;
+function datesAfter(command, before, after) {
+  return Object.entries(LABELS).filter(([member]) => after[member] !== (before?.[member] ?? null))
+    .map(([member, label]) => {
+      const given = command[member];
+      const isOwn = given === after[member] || command.kind === "revoke"
+        || (command.kind === "activate" && member === "activation");
+      const text = after[member] === null ? "none" : `${utcText(after[member])}, ${localText(after[member])}`;
+      return `${label}: ${text}${isOwn ? "" : " (by the period of the type)"}`;
+    });
 }
 
-function foretold(command, answer, key) {
+const namesText = (names) => (names.length ? names.map(plain).join(", ") : "none");
+
+// What else of a key changes: each with its words, and how a value is said.
+const OTHERS = [
+  ["owner", "Owner", plain],
+  ["need", "Approvals needed", String],
+  ["custodians", "Custodians", namesText],
+  ["approvals", "Approvals", namesText],
+];
+
+// What a command changes in a key; nothing where the key is known and stays as it is.
+function becomes(command, before, after) {
+  const others = !before ? [] : OTHERS.filter(([member]) => String(before[member]) !== String(after[member]));
+  return [...datesAfter(command, before, after),
+    ...(after.state !== before?.state ? [`State: ${after.state}`] : []),
+    ...others.map(([member, label, say]) => `${label}: ${say(after[member])} (it was ${say(before[member])})`)];
+}
+
+function periodAfter({type, originator, recipient}) {
+  const [first, second] = periodOf(type);
+  if (list.isThere && first === originator && second === recipient) return [];
+  return [`Periods of ${type}: ${originator} and ${recipient} months`
+    + (list.isThere ? ` (it was ${first} and ${second})` : "")];
+}
+
+// What a command changes by the judgement of it; null where nobody knows, or where a change is not to be seen in a key.
+function changesOf(command, answer, key) {
+  if (!answer || answer.refused || command.kind === "advance") return null;
+  return command.kind === "set-period" ? periodAfter(command) : becomes(command, key, answer.key);
+}
+
+const NOTHING = "Nothing would change: it stands so already, and is not sent.";
+
+function foretold(command, answer, changes) {
   if (answer === undefined) return [el("p", {}, "What the register will say the page cannot know.")];
   if (answer.refused) {
     return [el("p", {class: "refused"}, el("strong", {}, "Would be refused: "), refusalText(answer, command))];
   }
-  const changes = answer.key ? becomes(command, key, answer.key) : [];
-  return [el("p", {class: "accepted"}, el("strong", {}, "Would be accepted"), changes.length ? ", and then:" : "."),
-    changes.length ? el("ul", {}, changes.map((change) => el("li", {}, change))) : null];
+  if (changes?.length === 0) return [el("p", {class: "hint"}, NOTHING)];
+  return [el("p", {class: "accepted"}, el("strong", {}, "Would be accepted"), changes ? ", and then:" : "."),
+    changes && el("ul", {}, changes.map((change) => el("li", {}, change)))];
 }
 
 const labelOf = ({element}) => element.querySelector("label").textContent;
 
-// What keeps a form from being sent: fields in which nothing stands yet, and what is wrong with others.
+// What keeps a form from being sent: what is wrong with fields, and those in which nothing stands yet.
 function lacking(fields, wrong) {
   const faulty = fields.filter(({fault}) => fault());
   const empty = fields.filter(({member, fault}) => wrong.includes(member) && !fault()).map(labelOf);
@@ -180,16 +239,20 @@ function lacking(fields, wrong) {
     empty.length ? el("p", {class: "hint"}, `Still lacking: ${empty.join(", ")}`) : null];
 }
 
+// Says at each field what is wrong with it; of an empty one once somebody tried to send it.
 function markWrong(fields, wrong, isTried) {
-  for (const {member, input, fault} of fields) {
-    if (fault() || (wrong.includes(member) && isTried)) input.setAttribute("aria-invalid", "true");
-    else input.removeAttribute("aria-invalid");
+  for (const {member, fault, tell} of fields) {
+    tell(fault() || (wrong.includes(member) && isTried ? "It is lacking" : ""));
   }
 }
 
 // ---- a form
 
 const LAST = ["destroy", "revoke"];
+
+// What is said of a form at once, in one text.
+const heard = (place, fields) => [...[...place.querySelectorAll("p, li")].map((part) => part.textContent),
+  ...fields.map((entry) => entry.open?.()).filter(Boolean)].join("; ");
 
 // A form of a command. `desk` has the user's name as `me`, and `send`, which sends the command and shows its answer.
 export function commandForm(kind, {desk, key, isOwners = true}) {
@@ -203,22 +266,29 @@ export function commandForm(kind, {desk, key, isOwners = true}) {
     if (kind === "revoke" && !COMPROMISES.includes(members.reason)) members.occurrence = null;
     return {kind, ...(key ? {key: key.number} : {}), ...members};
   };
+  // Shows what is known of the form as it stands; gives it, with what is wrong in it, and what it would change.
   const look = () => {
     const body = command(), wrong = wrongMembers(body);
+    const answer = wrong.length ? null : judgement(body, {caller: desk.me, key});
+    const changes = changesOf(body, answer, key);
     markWrong(fields, wrong, isTried);
     if (kind === "revoke") fields[1].element.hidden = !COMPROMISES.includes(body.reason);
     replace(sentence, shown(JSON.stringify(body)));
-    replace(before, wrong.length ? lacking(fields, wrong)
-      : foretold(body, judgement(body, {caller: desk.me, key}), key));
+    replace(before, wrong.length ? lacking(fields, wrong) : foretold(body, answer, changes));
+    if (form.contains(document.activeElement)) announce(heard(before, fields));
+    return {body, wrong, changes};
   };
   const submit = (event) => {
     event.preventDefault();
     isTried = true;
-    look();
-    const body = command(), wrong = wrongMembers(body), open = fields.find((entry) => entry.isOpen?.());
+    const {body, wrong, changes} = look(), open = fields.find((entry) => entry.open?.());
     if (wrong.length) fields.find(({member}) => wrong.includes(member))?.input.focus();
     else if (open) open.sure.focus();
-    else desk.send(body);
+    else if (changes?.length === 0) {
+      // At each press anew.
+      hush();
+      announce(NOTHING, 100);
+    } else desk.send(body);
   };
   const form = el("form", {class: `command ${kind}`, novalidate: !sure, "aria-label": title, onsubmit: submit,
     oninput: look, onchange: look, onkeyup: look, onfocusout: look},
@@ -229,30 +299,4 @@ export function commandForm(kind, {desk, key, isOwners = true}) {
   form.dataset.kind = kind;
   look();
   return form;
-}
-
-// ---- what was typed stays
-
-// Shows a page anew: in forms that are there again, but of the kind that was sent, stands what was typed into them, and
-// one that was open is open.
-export function keepingForms(place, show, sent = null) {
-  const before = [...place.querySelectorAll("form.command")].map((form) => ({
-    kind: form.dataset.kind,
-    isOpen: form.closest("details")?.open,
-    values: [...form.elements].filter(({name}) => name).map(({name, value}) => [name, value]),
-  }));
-  show();
-  for (const {kind, isOpen, values} of before) {
-    const form = place.querySelector(`form.command[data-kind='${kind}']`);
-    if (!form || isOpen === false || kind === sent) continue;
-    if (isOpen) form.closest("details").open = true;
-    // What is done with a date is put back behind the date, which sets it.
-    values.sort(([one], [other]) => one.endsWith("-edit") - other.endsWith("-edit"));
-    for (const [name, value] of values) {
-      const input = form.elements[name];
-      if (!input) continue;
-      input.value = value;
-      input.dispatchEvent(new Event("input", {bubbles: true}));
-    }
-  }
 }

@@ -1,9 +1,9 @@
 // One key, whole: its dates as a line, what it may be used for and as of when, and what the reader may do with it.
-import {cards, el, name, replace, shown, svg} from "./dom.js";
-import {commandForm, keepingForms} from "./forms.js";
+import {cards, el, keepingForms, name, replace, shown, svg} from "./dom.js";
+import {commandForm} from "./forms.js";
 import {keyAt, latest, learnKey, learntOf, list, periodOf, requestsOf} from "./list.js";
 import {AnotherUser, Unanswered, keyOf, now} from "./register.js";
-import {COMMANDS, SETTABLE, barred, isLong, isOverdue, spansOf, stateAt, usageAt} from "./rules.js";
+import {COMMANDS, RANGES, SETTABLE, barred, isLong, isOverdue, spansOf, stateAt, usageAt} from "./rules.js";
 import {WORDS, away, moment, refusalText, requestText, state, utcText} from "./words.js";
 
 // Each date with its words and its letter.
@@ -19,27 +19,28 @@ const DATES = [
 
 // ---- the line
 
-const LETTERS_HIGH = 13, APART = 4;
+// A row of letters in pixels, and a letter with its gap in hundredths of the narrowest line.
+const LETTERS_HIGH = 17, LETTER_WIDE = 4.5;
 
-// The places of a line's dates, in hundredths of its width.
+// The places of a line's dates, in hundredths of its width. Behind the last one there is room for its letters.
 function scaleOf(key, at) {
   const dates = DATES.map(([member, words, letter]) => ({words, letter, date: key[member] ?? null}))
     .filter(({date}) => date !== null);
   const all = [...dates.map(({date}) => date), at], least = Math.min(...all), most = Math.max(...all, least + 1);
-  return {dates, place: (date) => 4 + 92 * (Math.min(date, most) - least) / (most - least)};
+  return {dates, place: (date) => 2 + 86 * (Math.min(date, most) - least) / (most - least)};
 }
 
-// The letters of the dates, those of one date together, in rows, so that none stands on another.
+// The letters of the dates, those of one date together, each behind the tick of its date as a flag behind its staff. A
+// flag that would meet the staff of another one hangs above that one's.
 function lettersOf(dates, place) {
-  const labels = new Map();
+  const labels = new Map(), flags = [];
   for (const {date, letter} of dates) labels.set(date, [...(labels.get(date) ?? []), letter]);
-  const ends = [];
-  return [...labels].sort(([one], [other]) => one - other).map(([date, letters]) => {
-    const text = letters.join(" "), at = place(date);
-    const lane = ends.findIndex((end) => at - end >= APART), row = lane < 0 ? ends.length : lane;
-    ends[row] = at + APART * (letters.length - 1);
-    return {text, at, row};
-  });
+  for (const [date, letters] of [...labels].sort(([one], [other]) => other - one)) {
+    const at = place(date), end = at + LETTER_WIDE * letters.length;
+    const rows = flags.filter((flag) => flag.at <= end).map(({row}) => row);
+    flags.push({text: letters.join(" "), at, row: Math.max(-1, ...rows) + 1});
+  }
+  return flags;
 }
 
 const percent = (value) => `${value.toFixed(2)}%`;
@@ -58,12 +59,12 @@ function bar([kind, from, to], place, top) {
 function line(key, at) {
   const {dates, place} = scaleOf(key, at), letters = lettersOf(dates, place);
   const top = LETTERS_HIGH * (1 + Math.max(...letters.map(({row}) => row))) + 6;
-  const parts = [svg("line", {class: "axis", x1: "4%", x2: "96%", y1: top + 8, y2: top + 8}),
+  const parts = [svg("line", {class: "axis", x1: "2%", x2: "88%", y1: top + 8, y2: top + 8}),
     ...spansOf(key).map((span) => bar(span, place, top))];
   for (const {text, at: x, row} of letters) {
     const y = top - 6 - LETTERS_HIGH * row;
-    parts.push(svg("line", {class: "tick", x1: percent(x), x2: percent(x), y1: y + 2, y2: top + 20}),
-      svg("text", {x: percent(x), y, "text-anchor": "middle"}, text));
+    parts.push(svg("line", {class: "tick", x1: percent(x), x2: percent(x), y1: y - 9, y2: top + 20}),
+      svg("text", {x: percent(x), dx: 3, y}, text));
   }
   const x = percent(place(at));
   parts.push(svg("line", {class: "now", x1: x, x2: x, y1: top - 4, y2: top + 30}),
@@ -176,40 +177,65 @@ function picture(key, at) {
     el("span", {class: "legend"}, "The letters stand at the dates above.")));
 }
 
+// What is seen of a key, but for times. Where it is as it was, the page stays, with whatever has the focus in it.
+const seen = (number, note) => JSON.stringify([number, note, latest(), keyAt(number, now()), learntOf(number)?.usage,
+  requestsOf(number)]);
+
+function sourceText(number) {
+  const heard = learntOf(number);
+  return heard ? `As the register told it at ${utcText(heard.at)}.` : `As the list of ${utcText(list.made)} has it.`;
+}
+
 function show(place, number, desk, note) {
   const at = now(), heard = learntOf(number), key = keyAt(number, at);
   if (!key) {
     replace(place, el("h1", {}, `Key ${number}`), el("p", {class: "refused"}, note || "It is asked for."));
     return;
   }
-  const isPast = isLong(key, periodOf(key.type)), source = heard ? `As the register told it at ${utcText(heard.at)}.`
-    : `As the list of ${utcText(list.made)} has it.`;
+  const isPast = isLong(key, periodOf(key.type));
   replace(place, el("h1", {}, `Key ${number} `, state(key.state, isOverdue(key, at))),
     note ? el("p", {class: "note", role: "alert"}, note) : null,
     isPast ? el("p", {class: "note"}, "Its dates go past the period that the office set since.") : null,
-    el("p", {class: "hint"}, source), facts(key, at), picture(key, at), usage(key, heard, at, desk),
-    heard ? acts(key, desk, at) : null, history(number, at));
+    el("p", {class: "hint source", "data-seen": seen(number, note)}, sourceText(number)), facts(key, at),
+    picture(key, at), usage(key, heard, at, desk), heard ? acts(key, desk, at) : null, history(number, at));
 }
+
+// So many milliseconds a register may take that answers others first, and nothing is said of it.
+const PATIENCE = 4000;
 
 // Shows the key as it is known, by `put`, asks the register, and shows it as it is. What is typed into a form meanwhile
 // stays.
 export async function keyPage(place, number, desk, {isCurrent, put}) {
-  const before = learntOf(number);
-  const again = (note) => keepingForms(place, () => show(place, number, desk, note));
-  put(() => show(place, number, desk, ""));
+  if (!(number >= RANGES.key[0] && number <= RANGES.key[1])) {
+    replace(place, el("h1", {}, "No such key"),
+      el("p", {class: "refused"}, `The numbers of keys go from ${RANGES.key[0]} to ${RANGES.key[1]}.`));
+    return;
+  }
+  const look = (note, by = (fill) => keepingForms(place, fill)) => {
+    const source = place.querySelector(".source");
+    if (source?.dataset.seen === seen(number, note)) replace(source, sourceText(number));
+    else by(() => show(place, number, desk, note));
+  };
+  // A page that stands waits for what the register says, where the list alone is newer: its forms stay.
+  const stands = place.querySelector(".source")?.dataset.seen.startsWith(`[${number},`);
+  if (!stands || learntOf(number)) look("", put);
+  const slow = setTimeout(() => {
+    if (isCurrent()) look("The register has not answered yet. It answers one after the other, and is waited for.");
+  }, PATIENCE);
   try {
     const heard = await keyOf(number);
     if (!isCurrent()) return;
-    if (!heard) {
+    if (heard) {
+      learnKey(heard);
+      look("");
+    } else {
       replace(place, el("h1", {}, `Key ${number}`), el("p", {class: "refused"}, `There is no key ${number}.`));
-      return;
     }
-    learnKey(heard);
-    const isSame = before && JSON.stringify([before.key, before.usage]) === JSON.stringify([heard.key, heard.usage]);
-    if (!isSame) again("");
   } catch (fault) {
     if (fault instanceof AnotherUser) return;
     if (!(fault instanceof Unanswered)) throw fault;
-    if (isCurrent()) again("The register does not answer now. What stands here is older.");
+    if (isCurrent()) look("The register does not answer now. What stands here is older.");
+  } finally {
+    clearTimeout(slow);
   }
 }

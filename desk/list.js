@@ -1,7 +1,7 @@
 // The keys that the desk knows: those of the list, and over them what it learnt from the register since the list was
 // made.
 import {listed, now} from "./register.js";
-import {DAY, PERIODS, isLong, judged, mayHaveMade, stateAt} from "./rules.js";
+import {DAY, NEAR, PERIODS, isLong, judged, mayHaveMade, stateAt} from "./rules.js";
 
 const LEARNT = "keyreg.learnt";
 const DATES = ["activation", "protect_stop", "deactivation", "destroyed", "compromised", "occurrence"];
@@ -19,15 +19,16 @@ function stored(part, otherwise) {
 // `made` and `latest` are of the list; 0 where there is none.
 export const list = {made: 0, latest: 0, count: 0, isThere: false, hasKeys: false, periods: {}};
 // What the register told since: of each key {key, usage, at}; of each type whose period was set {months, at}; the
-// requests that were accepted, {number of the key: [{moment, caller, text}]}; and its latest moment.
+// requests that were accepted, {number of the key: [{moment, caller, text}]}; its latest moment, {moment, at}.
 const learnt = {
   keys: stored("keys", {}),
   periods: stored("periods", {}),
   requests: stored("requests", {}),
-  latest: stored("latest", 0),
+  last: stored("last", {moment: 0, at: 0}),
 };
-// The keys of which a row of a table was accepted, as they were foretold: {number: {key, caller}}. The table is kept,
-// and they follow from it after a reload.
+// The keys behind the list: of which a row of a table was accepted, as they were foretold, and those that were asked
+// for since, {number: {key, caller}}, with a caller where it is known. The table is kept, and they follow from it after
+// a reload.
 let registered = new Map();
 let columns = noColumns(), names = [], types = Object.keys(PERIODS);
 // What is looked through for a text, in small letters, by key; and how many keys there are in it.
@@ -49,12 +50,22 @@ function putHay({number, owner, type, purpose}) {
 
 // ---- what the register told
 
-export const latest = () => Math.max(list.latest, learnt.latest);
+// What is of a moment that is still to come was learnt while a clock was wrong.
+const isPast = (at) => at <= now() + NEAR;
 
-export function learnMoment(moment) {
-  if (moment <= learnt.latest) return;
-  learnt.latest = moment;
-  save("latest");
+// The register's latest moment: what it told since the list was made, or the list's. It falls where a register was set
+// right.
+export function latest() {
+  const {moment, at} = learnt.last;
+  return at > 0 && isPast(at) && (at >= list.made || !isPast(list.made)) ? moment : list.latest;
+}
+
+// Learns the moment of an answer. A lower one than was known counts where it is as of now: an answer that the register
+// kept has that of the first time.
+export function learnMoment(moment, isOfNow = moment >= now() - NEAR) {
+  if (moment < latest() && !isOfNow) return;
+  learnt.last = {moment, at: now()};
+  save("last");
 }
 
 export function learnKey({key, usage, at}) {
@@ -63,7 +74,7 @@ export function learnKey({key, usage, at}) {
   save("keys");
 }
 
-// A key that a row of a table registered: the page does not ask for it.
+// A key behind the list, as that of a row that was accepted: the page does not ask for it.
 export function learnRegistered(key, caller) {
   if (learnt.keys[key.number] || key.number <= columns.type.length) return;
   registered.set(key.number, {key, caller});
@@ -92,26 +103,30 @@ export function periods() {
 
 export const periodOf = (type) => periods()[type] ?? PERIODS[type];
 
-// What the page can know of the register's answer to a command.
+// What the page can know of the register's answer to a command. A register that is ahead of the clock by less than a
+// minute is waited for.
 export function judgement(command, {caller, key}) {
-  return judged(command, {caller, moment: now(), latest: latest(), key, periods: periods(), count: list.count});
+  const at = now(), last = latest(), moment = last - at <= NEAR ? Math.max(at, last) : at;
+  return judged(command, {caller, moment, latest: last, key, periods: periods(), count: list.count});
 }
 
 // ---- the list
 
 // What the list has no later than the page learnt it goes over the list; the rest is the list's.
 function forget(made) {
+  const isLater = (at) => at >= made && isPast(at);
   for (const part of ["keys", "periods"]) {
-    for (const [name, {at}] of Object.entries(learnt[part])) if (at < made) delete learnt[part][name];
+    for (const [name, {at}] of Object.entries(learnt[part])) if (!isLater(at)) delete learnt[part][name];
     save(part);
   }
   for (const [number, requests] of Object.entries(learnt.requests)) {
-    const later = requests.filter(({moment}) => moment >= made);
+    const later = requests.filter(({moment}) => isLater(moment));
     if (later.length) learnt.requests[number] = later;
     else delete learnt.requests[number];
   }
   save("requests");
-  registered = new Map([...registered].filter(([number]) => number > columns.type.length));
+  registered = new Map([...registered].filter(([number, {key}]) =>
+    number > columns.type.length && isLater(key.initial)));
 }
 
 // Takes a list in, as office/list.py makes it.
@@ -129,11 +144,23 @@ export function take(made) {
   for (const {key} of [...registered.values(), ...Object.values(learnt.keys)]) putHay(key);
 }
 
-// Takes in a newer list where there is one; tells whether there was.
-export async function load() {
-  const made = await listed();
-  if (made) take(made);
-  return made !== null;
+let coming = null;
+export const isComing = () => coming !== null;
+
+async function loaded() {
+  try {
+    const made = await listed();
+    if (made) take(made);
+    return made !== null;
+  } finally {
+    coming = null;
+  }
+}
+
+// Takes in a newer list where there is one; tells whether there was. It is asked for once at a time.
+export function load() {
+  coming ??= loaded();
+  return coming;
 }
 
 // ---- keys
@@ -168,7 +195,7 @@ export function requestsOf(number) {
     requests.push({moment: cells[place], caller: names[cells[place + 1]], text: cells[place + 2]});
   }
   const {key, caller} = registered.get(number) ?? {};
-  if (key && !requests.length) requests.push({moment: key.initial, caller, text: "register"});
+  if (caller && !requests.length) requests.push({moment: key.initial, caller, text: "register"});
   const isThere = (request) => requests.some(({moment, caller: other, text}) =>
     moment === request.moment && other === request.caller && text === request.text);
   return [...requests, ...(learnt.requests[number] ?? []).filter((request) => !isThere(request))];

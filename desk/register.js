@@ -2,17 +2,21 @@
 //
 // A request's number is drawn once. It is kept with its body until the register's answer came, and sent again under
 // that number after a broken connection, a 500 or a 503, also after a reload of the page. Each says for which user it
-// is: a browser has one password for all its pages, and where that is another user's by now, nothing acts.
-import {GREATEST_NUMBER} from "./rules.js";
+// is: a browser has one password for all its pages, and where that is another user's by now, nothing acts. What is kept
+// of another user waits for that one.
+import {firstAnswer} from "./begin.js";
+import {LEAST_OF_TABLES, NEAR} from "./rules.js";
 
 const KEPT = "keyreg.kept", DRAWN = "keyreg.drawn";
 // Seconds between two sendings of one request; the last one stays.
 const PAUSES = [1, 2, 4, 8, 15, 30];
 const PATIENCE = 60000;
-const OTHER_USER = 412;
+const OTHER_USER = 412, NO_USER = 401;
+// So many keys are asked for at once.
+const AT_ONCE = 6;
 
 // Tells whoever listens: `kept` when what waits for an answer changed, `other` when this browser sends as another user
-// than the page shows.
+// than the page shows, `signed` when its password is taken no more, or is again.
 export const events = new EventTarget();
 
 // ---- the clock of the register's machine
@@ -34,8 +38,18 @@ export class AnotherUser extends Error {}
 // The browser's store for this window is full, so that a request's number cannot be kept.
 export class StoreFull extends Error {}
 
-// The user whom the page shows, and whether the browser sends as another one by now.
-let reader = null, isOther = false;
+// The user whom the page shows, whether the browser sends as another one by now, and whether nginx takes no password of
+// it, so that nothing reaches the register.
+let reader = null, isOther = false, isOut = false;
+
+export const isSignedOut = () => isOut;
+
+function lookAtStatus(status) {
+  if (isOut === (status === NO_USER)) return;
+  isOut = !isOut;
+  events.dispatchEvent(new Event("signed"));
+  if (!isOut) wake();
+}
 
 function leave() {
   if (!isOther) {
@@ -53,13 +67,16 @@ async function asked(path, how = {}) {
     signal: AbortSignal.timeout(PATIENCE),
   };
   try {
-    const response = await fetch(location.origin + path, {...given, ...how});
+    const response = await (firstAnswer(path) ?? fetch(location.origin + path, {...given, ...how}));
     look(response);
+    lookAtStatus(response.status);
     return {status: response.status, text: await response.text()};
   } catch (fault) {
     throw new Unanswered(fault.message);
   }
 }
+
+const unanswered = (status) => new Unanswered(`status ${status}`);
 
 // The same of the register's own paths, for a user.
 async function askedFor(user, path, how = {}) {
@@ -80,7 +97,7 @@ function valueOf(text) {
 // The name of the user as whom the browser sends. The first one is the reader of the page.
 export async function whoAmI() {
   const {status, text} = await asked("/me");
-  if (status !== 200) throw new Unanswered(`status ${status}`);
+  if (status !== 200) throw unanswered(status);
   const name = text.trim();
   reader ??= name;
   return name === reader ? name : leave();
@@ -90,29 +107,75 @@ export async function whoAmI() {
 // is none.
 export async function keyOf(number) {
   const at = now();
-  const [key, usage] = await Promise.all([`/keys/${number}`, `/keys/${number}/usage`]
-    .map((path) => askedFor(reader, path)));
-  const value = valueOf(key.text);
-  if (key.status === 404 && value.refused === 4) return null;
-  if (key.status !== 200 || value.number !== number || usage.status !== 200) {
-    throw new Unanswered(`status ${key.status}`);
-  }
-  return {key: value, usage: valueOf(usage.text), at};
+  const [key, usage] = await Promise.all([keyAlone(number), askedFor(reader, `/keys/${number}/usage`)]);
+  if (!key) return null;
+  if (usage.status !== 200) throw unanswered(usage.status);
+  return {key, usage: valueOf(usage.text), at};
 }
 
-// The list, or null where it did not change since it was asked for last.
+// A key as the register tells it; null where there is none.
+async function keyAlone(number) {
+  const {status, text} = await askedFor(reader, `/keys/${number}`), value = valueOf(text);
+  if (status === 404 && value.refused === 4) return null;
+  if (status !== 200 || value.number !== number) throw unanswered(status);
+  return value;
+}
+
+// The number of the last key, which is none below `from`: the step is doubled up to one that is none, and halved back.
+export async function lastKey(from) {
+  let number = from, step = 1;
+  while (await keyAlone(number + step)) {
+    number += step;
+    step *= 2;
+  }
+  for (step /= 2; step >= 1; step /= 2) if (await keyAlone(number + step)) number += step;
+  return number;
+}
+
+// The keys of these numbers, as the register tells them.
+export async function* keysFrom(first, last) {
+  for (let number = first; number <= last; number += AT_ONCE) {
+    const count = Math.min(AT_ONCE, last - number + 1);
+    const keys = await Promise.all(Array.from({length: count}, (_, place) => keyAlone(number + place)));
+    yield* keys.filter(Boolean);
+  }
+}
+
+// A signal for what is waited for: it comes where `wait` was not called for long.
+function patience() {
+  const control = new AbortController();
+  let timer;
+  const end = () => clearTimeout(timer);
+  const wait = () => {
+    end();
+    timer = setTimeout(() => control.abort(), PATIENCE);
+  };
+  wait();
+  return {signal: control.signal, wait, end};
+}
+
+// The list, or null where it did not change since it was asked for last. It is given up where no part of it comes for
+// long, however long the whole takes.
 let tag = null;
 export async function listed() {
-  const how = {cache: "no-cache", credentials: "same-origin", redirect: "error"};
-  const response = await fetch(`${location.origin}/list.json`, how);
-  look(response);
-  if (!response.ok) throw new Unanswered(`status ${response.status}`);
-  const mark = response.headers.get("ETag") ?? response.headers.get("Last-Modified");
-  if (mark && mark === tag) return null;
-  const list = await response.json();
-  if (list.form !== 1) throw new Unanswered("the list is of another form");
-  tag = mark;
-  return list;
+  const {signal, wait, end} = patience();
+  const late = new Promise((_, give) => signal.addEventListener("abort", () => give(new Unanswered("late"))));
+  const how = {cache: "no-cache", credentials: "same-origin", redirect: "error", signal};
+  try {
+    const given = firstAnswer("/list.json") ?? fetch(`${location.origin}/list.json`, how);
+    const response = await Promise.race([given, late]);
+    look(response);
+    if (!response.ok) throw unanswered(response.status);
+    const mark = response.headers.get("ETag") ?? response.headers.get("Last-Modified");
+    if (mark && mark === tag) return null;
+    const parts = new TransformStream({transform: (part, to) => (wait(), to.enqueue(part))});
+    const list = await new Response(response.body.pipeThrough(parts, {signal})).json();
+    if (list.form !== 1) throw new Unanswered("the list is of another form");
+    tag = mark;
+    return list;
+  } finally {
+    end();
+  }
 }
 
 // ---- what is sent
@@ -141,13 +204,13 @@ function keep(entries) {
   events.dispatchEvent(new Event("kept"));
 }
 
-// As many numbers as are wanted, one after the other, and the first of them: milliseconds and three digits more.
-export function drawn(count = 1) {
+// A number that is drawn now: milliseconds and three digits more. It stays below those of tables until the year 2112.
+function drawn() {
   const digits = crypto.getRandomValues(new Uint32Array(1))[0] % 1000;
-  const first = Math.max(Date.now() * 1000 + digits, Number(read(DRAWN, 0)) + 1);
-  if (first + count > GREATEST_NUMBER) throw new Error("the machine's clock is wrong");
-  write(DRAWN, first + count - 1);
-  return first;
+  const number = Math.max(Date.now() * 1000 + digits, Number(read(DRAWN, 0)) + 1);
+  if (number >= LEAST_OF_TABLES) throw new Error("the machine's clock is wrong");
+  write(DRAWN, number);
+  return number;
 }
 
 // The register's answer to a request, or null where what came tells nothing of it.
@@ -163,9 +226,10 @@ function answerOf({status, text}, number) {
 let wake = () => {};
 export const sendNow = () => wake();
 
+// Waits, without end where that is Infinity, or until somebody presses.
 function pause(seconds) {
   return new Promise((go) => {
-    const timer = setTimeout(go, seconds * 1000);
+    const timer = seconds < Infinity ? setTimeout(go, seconds * 1000) : 0;
     wake = () => {
       clearTimeout(timer);
       go();
@@ -173,44 +237,61 @@ function pause(seconds) {
   });
 }
 
+const isOf = ({number, caller}) => (other) => other.number === number && other.caller === caller;
+
 // Why a request waits. Where there is no room for that, it waits all the same.
-function noted(number, cause) {
+function noted(entry, cause) {
+  const isIt = isOf(entry);
   try {
-    keep(kept().map((entry) => (entry.number === number ? {...entry, cause, times: (entry.times ?? 0) + 1} : entry)));
+    keep(kept().map((one) => (isIt(one) ? {...one, cause, times: (one.times ?? 0) + 1} : one)));
   } catch (fault) {
     if (!(fault instanceof StoreFull)) throw fault;
   }
 }
 
-async function once({number, caller, body}) {
+// Sends a request once. Gives its answer, or for how many seconds to wait before it is sent again: none where the usual
+// pause is meant. A register that is ahead of the clock by less than a minute refuses what it takes soon.
+async function once(entry) {
+  const {number, caller, body} = entry;
   try {
     const headers = {"Content-Type": "application/json", "Request-Number": String(number)};
     const told = await askedFor(caller, "/requests", {method: "POST", body, headers});
     const answer = answerOf(told, number);
-    if (!answer) noted(number, `it was answered with status ${told.status}, which does not tell whether it acted`);
-    return answer;
+    if (answer?.refused === 3 && answer.latest - now() <= NEAR) {
+      const seconds = Math.max(1, answer.latest - now());
+      noted(entry, `the register is ${seconds} s ahead of its machine's clock`);
+      return {seconds};
+    }
+    if (answer) return {answer};
+    if (told.status !== NO_USER) {
+      noted(entry, `it was answered with status ${told.status}, which does not tell whether it acted`);
+      return {};
+    }
+    noted(entry, "the password is not taken any more (401), so that it did not reach the register");
+    return {seconds: Infinity};
   } catch (fault) {
     if (!(fault instanceof Unanswered)) throw fault;
-    noted(number, "the connection broke before an answer came");
-    return null;
+    noted(entry, "the connection broke before an answer came");
+    return {};
   }
 }
 
 // Sends a kept request until its answer comes, or until it is given up. Where the browser sends as another user, it
 // stays and waits for its own.
 async function deliver(entry) {
+  const isIt = isOf(entry);
   for (let turn = 0; ; turn++) {
-    const answer = await once(entry);
+    const {answer, seconds} = await once(entry);
     if (answer) {
-      keep(kept().filter((other) => other.number !== entry.number));
+      keep(kept().filter((other) => !isIt(other)));
       return answer;
     }
-    await pause(PAUSES[Math.min(turn, PAUSES.length - 1)]);
-    if (!kept().some((other) => other.number === entry.number)) return null;
+    await pause(seconds ?? PAUSES[Math.min(turn, PAUSES.length - 1)]);
+    if (!kept().some(isIt)) return null;
   }
 }
 
-// Sends a command as the reader, under a number that is drawn now or was before.
+// Sends a command as the reader, under a number that is drawn now or follows from a table's row.
 export function send(command, number = drawn()) {
   if (isOther) throw new AnotherUser();
   const entry = {number, caller: reader, body: JSON.stringify(command)};
@@ -227,7 +308,9 @@ export async function* resumed() {
   }
 }
 
+// Gives a request of the reader up.
 export function giveUp(number) {
-  keep(kept().filter((entry) => entry.number !== number));
+  const isIt = isOf({number, caller: reader});
+  keep(kept().filter((entry) => !isIt(entry)));
   wake();
 }

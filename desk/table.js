@@ -1,33 +1,47 @@
 // The page on which a table of keys is taken in: each row is judged before it is sent, the rows are sent one after the
 // other, and what is not registered is given back as a table.
 import {COLUMNS, tableOf} from "./csv.js";
-import {byParts, el, field, plain, replace, select, shown} from "./dom.js";
-import {StoreFull, drawn} from "./register.js";
+import {announce, byParts, el, field, freshId, plain, replace, select, shown} from "./dom.js";
+import {last, learnRegistered, list} from "./list.js";
+import {AnotherUser, StoreFull, Unanswered, keysFrom, lastKey} from "./register.js";
 import {SORTS, commandOf} from "./rows.js";
 import {current, putAway, takeIn} from "./taken.js";
 import {counted} from "./words.js";
 
 const SHOWN = 200, MOST_BYTES = 20_000_000;
+// So many milliseconds stand between what is said of how far it is.
+const SAID = 10_000;
 
 // ---- sending
 
 let isGoing = false;
 
+// Learns the keys that came since the list was made, so that no row is sent that somebody else sent meanwhile. Gives
+// the last key. Without a list that is known alone, and no row is compared.
+async function learnBehind() {
+  const known = list.hasKeys ? last() : list.count, end = await lastKey(known);
+  if (list.hasKeys) for await (const key of keysFrom(known + 1, end)) learnRegistered(key);
+  return end;
+}
+
 // Sends the rows that are marked, one after the other. `look` shows what was said to a row.
 async function sendRows(table, desk, look) {
   isGoing = true;
   try {
-    table.first ??= drawn(table.rows.length);
+    const end = await learnBehind();
+    table.left = table.judgeAnew();
+    if (table.next(0) >= 0) table.before ??= end;
     table.keepMarks();
     for (let place = table.next(0); place >= 0 && isGoing && table === current(); place = table.next(place + 1)) {
-      const answer = await desk.sendRow(commandOf(table.rows[place]), table.first + place);
+      const answer = await desk.sendRow(commandOf(table.rows[place]), table.numbers[place]);
       if (!answer) break;
       table.note(answer);
       look(place);
     }
   } catch (fault) {
-    if (!(fault instanceof StoreFull)) throw fault;
-    desk.sayStoreFull();
+    if (fault instanceof StoreFull) desk.sayStoreFull();
+    else if (fault instanceof Unanswered) desk.sayUnasked();
+    else if (!(fault instanceof AnotherUser)) throw fault;
   } finally {
     isGoing = false;
   }
@@ -40,11 +54,11 @@ export const isTaking = () => isGoing || (current()?.isHalfSent ?? false);
 
 function rowLine(table, place, ended) {
   const {sort, words} = table.judged[place], answer = table.answers[place], row = table.rows[place];
-  const said = !answer ? words
-    : answer.key ? ["accepted: ", el("a", {href: `#key/${answer.key}`}, `key ${answer.key}`)]
-      : ["refused: ", answer.reason];
+  const key = answer?.key && el("a", {href: `#key/${answer.key}`}, `key ${answer.key}`);
+  const said = !answer ? words : !key ? ["refused: ", answer.reason] : answer.isNew ? ["accepted: ", key]
+    : ["sent before, and it was ", key, " then: nothing more was done"];
   const mark = (event) => {
-    table.mark(place, event.target.checked);
+    table.markByHand(place, event.target.checked);
     table.keepMarks();
     ended();
   };
@@ -99,7 +113,7 @@ function rowsPart(table, ended) {
     byParts(sorted, SHOWN, (some) => rowsTable(table, some, ended), results);
     const markable = view === "look" ? [] : rows.filter((place) => table.mayBeMarked(place));
     const markAll = (isSent) => () => {
-      for (const place of markable) table.mark(place, isSent);
+      for (const place of markable) table.markByHand(place, isSent);
       table.keepMarks();
       look();
       ended();
@@ -124,22 +138,54 @@ function givenBack(table) {
     `Take back ${counted(count, "row")} not registered`));
 }
 
-function bar({wanted, answered, accepted, refused}) {
-  return [el("progress", {max: Math.max(wanted, 1), value: answered, "aria-label": "rows answered"}),
-    el("p", {class: "count"}, `${answered} of ${wanted} rows answered: ${accepted} accepted, ${refused} refused`)];
+function countText({wanted, answered, accepted, there, refused}) {
+  return `${answered} of ${wanted} rows answered: ${accepted} accepted, ${refused} refused`
+    + (there ? `, ${there} sent before` : "");
 }
 
+const bar = (counts) => [
+  el("progress", {max: Math.max(counts.wanted, 1), value: counts.answered, "aria-label": "rows answered"}),
+  el("p", {class: "count"}, countText(counts))];
+
 function summary(table) {
-  const counts = new Map();
+  const counts = new Map(), among = {...SORTS};
   for (const {sort} of table.judged) counts.set(sort, (counts.get(sort) ?? 0) + 1);
-  const sorts = Object.entries(SORTS).map(([sort, words]) => `${counts.get(sort) ?? 0} ${words}`).join(", ");
+  if (!list.hasKeys && !counts.has("twice")) delete among.twice;
+  const sorts = Object.entries(among).map(([sort, words]) => `${counts.get(sort) ?? 0} ${words}`).join(", ");
   return el("p", {}, shown(table.name),
-    `: ${counted(table.rows.length, "row")}, judged before they are sent: ${sorts}`);
+    `: ${counted(table.rows.length, "row")}, judged before they are sent: ${sorts}`,
+    list.hasKeys ? "" : "; not compared with the register's keys, of which there is no list");
+}
+
+// Without a list the reader says first that the rows are none of the keys that are there.
+function sureOf(table) {
+  if (list.hasKeys || table.before !== null) return null;
+  const sure = el("input", {type: "checkbox", required: true, id: freshId("sure")});
+  return el("p", {class: "sure"}, sure, el("label", {for: sure.id}, "There is no list: a row that is a key already "
+    + "makes a second one, but where I sent it before. I know that these rows are no keys yet"));
+}
+
+function notes(table) {
+  return [
+    table.isKept ? null : el("p", {class: "note"},
+      "It is too large to be kept over a reload of this page: do not reload it before the rows are sent."),
+    table.left ? el("p", {class: "note"}, `${counted(table.left, "row")} became keys since the list was made, and `
+      + "are left out.") : null,
+  ];
+}
+
+// Shows how far a table is, where its page stands, and tells now and then.
+function showProgress(place, table) {
+  const progress = place.querySelector(".progress");
+  if (progress) replace(progress, bar(table.counts));
+  if (performance.now() - (table.saidAt ?? -SAID) < SAID && isGoing) return;
+  table.saidAt = performance.now();
+  announce(countText(table.counts), 0);
 }
 
 function showTable(table, place, desk) {
-  const progress = el("div", {class: "progress", role: "status"}), buttons = el("p", {class: "buttons"});
-  const back = el("div");
+  const progress = el("div", {class: "progress"}), buttons = el("p", {class: "buttons"});
+  const back = el("div"), sure = sureOf(table);
   const ended = () => {
     const {wanted, answered} = table.counts, rest = wanted - answered;
     replace(progress, bar(table.counts));
@@ -156,27 +202,31 @@ function showTable(table, place, desk) {
     replace(back, isGoing || !answered ? null : givenBack(table));
   };
   const look = (row) => {
-    replace(progress, bar(table.counts));
+    showProgress(place, table);
     document.getElementById(`row-${row}`)?.replaceWith(rowLine(table, row, ended));
   };
   const go = async () => {
+    if (sure && !sure.firstChild.checked) {
+      sure.firstChild.focus();
+      return;
+    }
     const going = sendRows(table, desk, look);
     ended();
     await going;
-    if (!buttons.isConnected) return;
+    showProgress(place, table);
+    if (place.dataset.page !== "table") return;
     tablePage(place, desk);
     if (document.activeElement === document.body) place.querySelector(".buttons button, .results a")?.focus();
   };
   ended();
-  replace(place, el("h1", {}, "Take in a table"), summary(table),
-    table.isKept ? null : el("p", {class: "note"},
-      "It is too large to be kept over a reload of this page: do not reload it before the rows are sent."),
-    buttons, progress, back, rowsPart(table, ended));
+  replace(place, el("h1", {}, "Take in a table"), el("div", {id: "newer", role: "status"}), summary(table),
+    notes(table), sure, buttons, progress, back, rowsPart(table, ended));
 }
 
 // The page of the table that was taken in, or the choice of a file.
 export function tablePage(place, desk) {
   if (current()) {
+    if (!isGoing && current().listOf !== list.made) current().judgeAnew();
     showTable(current(), place, desk);
     return;
   }
@@ -189,6 +239,12 @@ export function tablePage(place, desk) {
     if (table.fault) {
       replace(fault, plain(file.name), ": ", table.fault);
       return;
+    }
+    try {
+      await learnBehind();
+    } catch (fault) {
+      // They are asked for again before a row goes.
+      if (!(fault instanceof Unanswered || fault instanceof AnotherUser)) throw fault;
     }
     showTable(await takeIn(file.name, table.rows, desk.me), place, desk);
     place.querySelector("h1").setAttribute("tabindex", "-1");

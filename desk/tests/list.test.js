@@ -1,7 +1,10 @@
 // What the desk knows of keys by a list and by what it learnt since, and what is found.
 import assert from "node:assert/strict";
 import {beforeEach, test} from "node:test";
-import {keyAt, known, learnKey, matching, registeredKeys, learnRegistered, requestsOf, take, waiting} from "../list.js";
+import {
+  judgement, keyAt, known, latest, learnKey, learnMoment, learnRegistered, matching, registeredKeys, requestsOf, take,
+  waiting,
+} from "../list.js";
 import {Store, listOf} from "./shared.js";
 
 const NOW = 1_780_000_000, DAY = 86400;
@@ -27,6 +30,45 @@ test("all keys are found where nothing is asked, also where others are not known
   assert.equal(known(), 3);
   take(listOf([KEY, KEY], {made: NOW + 60}));
   assert.equal(known(), 2);
+});
+
+test("the latest moment falls where a register was set right", (context) => {
+  const begun = Math.floor(Date.now() / 1000), later = 4_070_908_800;
+  let clock = begun;
+  context.mock.method(Date, "now", () => clock * 1000);
+  const given = (moment) => take({...listOf([KEY], {made: clock}), latest: moment});
+  const at = (second, moment) => {
+    clock = second;
+    learnMoment(moment);
+    return latest();
+  };
+  given(begun - 400);
+  // A kept answer has the moment of the first time.
+  assert.equal(at(begun + 5, begun - 5000), begun - 400);
+  assert.equal(at(begun + 6, later), later);
+  assert.equal(at(begun + 7, begun - 5000), later);
+  clock = begun + 60;
+  given(begun + 50);
+  assert.equal(latest(), begun + 50);
+  assert.equal(at(begun + 61, later), later);
+  assert.equal(at(begun + 62, begun + 62), begun + 62);
+  // A list that was made while the clock stood there, and what the page learnt by that clock.
+  clock = later;
+  given(later);
+  learnKey({key: {...KEY, number: 1, owner: "zed", custodians: [], approvals: [], need: 2}, usage: {}, at: later});
+  assert.equal(at(begun + 63, begun + 63), begun + 63);
+  clock = begun + 120;
+  given(begun + 110);
+  assert.equal(latest(), begun + 110);
+  assert.equal(keyAt(1, clock).owner, "Ann.Meyer");
+});
+
+test("a register that is ahead by less than a minute is foretold as one that is not", () => {
+  const now = Math.floor(Date.now() / 1000), foretold = (seconds) => {
+    take({...listOf([KEY], {made: now - 1}), latest: now + seconds});
+    return judgement({kind: "advance"}, {caller: "ann"}).refused;
+  };
+  assert.deepEqual([-9, 30, 90].map(foretold), [undefined, undefined, 3]);
 });
 
 test("what is due comes in order of the Protect Stop Dates", () => {
