@@ -10,7 +10,7 @@ import socket
 import time
 from typing import Optional
 
-from day import register
+from day import day, register
 from nginx import HOST
 from parts import PASSWORDS, Reader
 from script import expect
@@ -22,7 +22,7 @@ HOSTILE = [
     "\u00fc" * 100, "${1+1} {{2}} `3`", "\U000e0041tag \ufeffmark", "ب" * 60, "' style='position:fixed",
 ]
 # What no text of anybody may become.
-NO_SUCH = "img, iframe, object, embed, style, b, i, form[action], script:not([src='desk.js'])"
+NO_SUCH = "img, iframe, object, embed, style, b, i, form[action], script:not([src='desk.js'], [src='begin.js'])"
 # What may come between a request and its answer, and several of them after one another.
 TURNS = (["cut"], ["500"], ["503"], ["502"], ["cut", "503", "cut", "lose"], ["reset"], ["lose"])
 
@@ -72,13 +72,16 @@ def over_reload(reader: Reader, key: int) -> None:
         reader.accepted(f"add-custodian {key} reload", number)
         expect(set(line.posts[before:]) == {number}, f"{what}: sent under {set(line.posts[before:])}, not {number}")
         reader.key(key).does(f"remove-custodian {key} reload", [("Custodian", "reload")])
-    before = len(line.posts)
+    line.todo = ["503"] * 9
+    keep(reader, 7, reader.user, {"kind": "destroy", "key": key})
+    reader.press("Give it up")
+    reader.refused("Given up")
+    line.todo, before = [], len(line.posts)
     keep(reader, 7, "zed", {"kind": "advance"})
     reader.says("is of the user zed", "#kept")
     time.sleep(0.5)
     expect(len(line.posts) == before, "another user's request is sent")
-    reader.press("Give it up")
-    reader.refused("Given up")
+    expect(not reader.find("#kept button"), "another user's request may be given up")
 
 
 def keep(reader: Reader, number: int, caller: str, command: dict) -> None:
@@ -122,7 +125,7 @@ def two_pages(reader: Reader, other: Reader, key: int) -> None:
     form = other.key(key).form("set")
     reader.key(key).does(f"assign {key} bob", [("New owner", "bob")])
     expect(form.is_displayed(), "the other page is not as it was")
-    foretold = other.submit("set", edits=[("keep", ""), ("keep", ""), ("clear", "")])
+    foretold = other.submit("set", edits=[("set", day(9)), ("keep", ""), ("keep", "")])
     expect("Would be accepted" in foretold, foretold)
     other.refused("NotOwner", "Only the owner", f"key {key} stands as it is in the register")
     expect("bob" in other.text("dl.facts"), f"the key is not shown as it stands: {other.text('dl.facts')}")

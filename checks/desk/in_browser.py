@@ -5,16 +5,19 @@ said.
     checks/desk/in_browser.py [--least] [--rows N] [PART..]
 
 keyreg is served behind nginx with office/units/nginx-keyreg.conf, and a browser for each user goes through a day by
-forms and lists (day.py), what breaks (breaks.py), what is typed (typed.py) and tables (tables.py). Each page is looked
-at by Chromium's accessibility tree, for contrast, by Tab, at several widths, light, dark and printed, and by the
-seconds that a list of 100,000 keys takes (looks.py).
+forms and lists (day.py), what breaks (breaks.py), what is typed (typed.py) and tables (tables.py), also after a crash
+and from two windows, by two people at one window (windows.py), without a list, with an older and a newer one and over a
+slow line (lists.py). What is heard of forms and of sendings is asked of Chromium's accessibility tree, and axe looks at
+each page (heard.py). Each page is looked at for contrast, by Tab, at several widths, light, dark and printed, and by
+the seconds that a list of 100,000 keys takes (looks.py).
 
 After it each request of which a page said that it was accepted is in the register under the number that the page
 showed, and no other is; and by office/replay.py all else in the register follows from them. The console has nothing but
 what Chromium writes of refusals and of connections that were cut on purpose.
 
-The parts are day, breaks, typed, tables, looks and many, all where none is named. --least does the smallest form alone,
-as the gate has it. It needs Debian's chromium, chromium-driver, python3-selenium and nginx-light, and Linux.
+The parts are day, breaks, typed, tables, windows, lists, heard, looks and many, all where none is named. --least does
+the smallest form alone, as the gate has it. It needs Debian's chromium, chromium-driver, nodejs, python3-selenium and
+nginx-light, and Linux.
 """
 import collections
 import contextlib
@@ -27,9 +30,12 @@ sys.path.insert(1, str(pathlib.Path(__file__).resolve().parents[1] / "shared"))
 from places import OFFICE
 import breaks
 import day
+import heard
+import lists
 import looks
 import tables
 import typed
+import windows
 from parts import Desk, Reader
 from register_rules import COMMANDS
 from script import expect, fresh_folder, options, output_of, verdict
@@ -38,7 +44,7 @@ from script import expect, fresh_folder, options, output_of, verdict
 BY_STATUS = re.compile(
     r"\S+/(requests|keys/\d+(/usage)?|list\.json|favicon\.ico|me|sign-out\?user=\w+|chromewebdata/) - "
     r"Failed to load resource: (the server responded with a status of (40[0149]|412|50[023]) .*|net::ERR_[A-Z_]+)")
-PARTS = ("day", "breaks", "typed", "tables", "looks", "many")
+PARTS = ("day", "breaks", "typed", "tables", "windows", "lists", "heard", "looks", "many")
 
 
 class Office:
@@ -54,6 +60,13 @@ class Office:
         self.stack.callback(self.readers[-1].driver.quit)
         return self.readers[-1]
 
+    def closes(self, *readers: Reader) -> None:
+        """Looks at the consoles of browsers that are not needed any more, and ends them."""
+        self.quiet(readers)
+        for reader in readers:
+            reader.is_gone = True
+            reader.driver.quit()
+
     def compared(self) -> int:
         """Compares the register with what the pages and their consoles said; how many requests it has."""
         output_of([sys.executable, "-B", OFFICE / "replay.py", self.desk.copy()])
@@ -67,12 +80,13 @@ class Office:
         shown = collections.Counter((caller, command) for caller, _, command in said)
         expect(accepted == shown,
                f"the register has besides {accepted - shown}, and the pages said besides {shown - accepted}")
-        self.quiet()
+        self.quiet([reader for reader in self.readers if not reader.is_gone])
         return len(kept)
 
-    def quiet(self) -> None:
+    @staticmethod
+    def quiet(readers: Sequence[Reader]) -> None:
         """The console is empty, and nothing was asked of another place."""
-        for reader in self.readers:
+        for reader in readers:
             console, asked = reader.logs()
             entries = [entry for entry in console if not BY_STATUS.fullmatch(entry)]
             expect(not entries, f"{reader.user}'s console says {entries[:5]}")
@@ -102,6 +116,12 @@ def whole(here: Office, folder: pathlib.Path, parts: Sequence[str], rows: int) -
         typed.all_typed(ann, bob)
     if "tables" in parts:
         print(tables.all_taken(cat, folder, rows))
+    if "windows" in parts:
+        print(windows.all_windows(here, folder, rows))
+    if "lists" in parts:
+        print(lists.all_lists(here, folder))
+    if "heard" in parts:
+        print(heard.all_heard(here, folder))
     if "looks" in parts:
         print(looks.all_pages(ann, bob, cat, folder))
     if "many" in parts:

@@ -4,9 +4,10 @@ import pathlib
 
 from browser import as_seen
 from day import day, register, second
-from parts import Desk, Reader
+from parts import Desk, Keys, Reader
 from registers import UNSET, write_register
 from script import expect
+from selenium.webdriver.common.action_chains import ActionChains
 from tables import chosen
 
 WIDTHS = (320, 380, 800, 1200)
@@ -76,7 +77,7 @@ def focused(reader: Reader, page: str) -> None:
     """Each part that one acts on is reached by Tab, in the order in which it stands, and is seen to have the focus."""
     places, came = reader.execute(TURNS), list[int]()
     for _ in range(5 * len(places) + 9):
-        reader.driver.switch_to.active_element.send_keys("\ue004")
+        ActionChains(reader.driver).send_keys(Keys.TAB).perform()
         turn, ring, is_on_screen = reader.execute(MET)
         if turn is None:
             if came:
@@ -158,8 +159,7 @@ def all_pages(ann: Reader, bob: Reader, cat: Reader, folder: pathlib.Path) -> st
     ann.says("Not answered yet", "#kept")
     parts += looked_at(ann, "not answered yet")
     ann.desk.line.todo = []
-    for button in ann.find("#kept button")[:1]:
-        button.click()
+    ann.execute("document.querySelector('#kept button')?.click()")
     ann.accepted(f"set-quorum {key} 3")
     return f"{parts} parts of nine pages have their names and roles, at {len(WIDTHS)} widths, light, dark and printed"
 

@@ -1,6 +1,6 @@
 #!/usr/bin/env python3
 """The desk's code: its tests pass under node's own runner, each name that a module exports is used by another one, and
-each name that is imported is used.
+each name that is imported is used. The first page asks at once for the modules that it needs.
 
     checks/desk/own_tests.py
 
@@ -22,11 +22,14 @@ PATIENCE = 50
 PLAIN = re.compile(r"^\s*//.*$|\"[^\"\n]*\"", re.M)
 EXPORT = re.compile(r"^export (?:async )?(?:const|let|class|function\*?) (\w+)", re.M)
 IMPORT = re.compile(r"^import \{([^}]*)\} from \"\.\.?/(\w+\.js)\";", re.M)
+# What comes when it is wanted.
+LATER = re.compile(r"\{([^{}]*)\} = await part\(\"\./(\w+\.js)\"\)")
 
 
 def imported(path: pathlib.Path) -> set[tuple[str, str]]:
     """The names that a module imports, each behind the file that has it."""
-    return {(file, name) for names, file in IMPORT.findall(path.read_text("utf-8"))
+    text = path.read_text("utf-8")
+    return {(file, name) for names, file in IMPORT.findall(text) + LATER.findall(text)
             for name in re.findall(r"\w+", names)}
 
 
@@ -36,7 +39,7 @@ def name_faults(modules: list[pathlib.Path]) -> Iterator[str]:
     rules = read("checks/desk/rules.py")
     used = {(file, name) for file, name in exported if file == "rules.js" and re.search(rf"\b{name}\b", rules)}
     for path in modules:
-        body = PLAIN.sub("", IMPORT.sub("", path.read_text("utf-8")))
+        body = PLAIN.sub("", LATER.sub("", IMPORT.sub("", path.read_text("utf-8"))))
         yield from (f"{path.name}: {file} exports no {name}" for file, name in imported(path) - exported)
         yield from (f"{path.name}: {name} is imported and not used" for _, name in imported(path)
                     if not re.search(rf"\b{name}\b", body))
@@ -44,9 +47,21 @@ def name_faults(modules: list[pathlib.Path]) -> Iterator[str]:
     yield from (f"{file}: {name} is exported, and no module uses it" for file, name in exported - used)
 
 
+def preload_faults() -> Iterator[str]:
+    """Modules that the first page needs and does not ask for at once, and those that it asks for without need."""
+    needed, waiting = set[str](), ["desk.js"]
+    while waiting:
+        names = {file for _, file in IMPORT.findall((DESK / waiting.pop()).read_text("utf-8"))}
+        waiting += names - needed
+        needed |= names
+    asked = set(re.findall(r'(?:rel="modulepreload" href|src)="((?!desk)\w+\.js)"', read("desk/index.html")))
+    yield from (f"index.html: {file} is asked for too late" for file in needed - asked)
+    yield from (f"index.html: {file} is asked for, and the first page does not need it" for file in asked - needed)
+
+
 def main() -> None:
     modules = sorted(DESK.glob("*.js"))
-    faults = sorted(name_faults(modules))
+    faults = [*sorted(name_faults(modules)), *sorted(preload_faults())]
     done = subprocess.run(["timeout", str(PATIENCE), "node", "--test", "--test-reporter=tap", "desk/"], cwd=TOP,
                           capture_output=True, text=True, check=False)
     passed = re.search(r"^# pass ([1-9]\d*)", done.stdout, re.M)

@@ -14,6 +14,7 @@ import struct
 import sys
 import threading
 import time
+import urllib.parse
 from typing import Any, Callable, Optional, Sequence
 
 from places import OFFICE
@@ -28,7 +29,10 @@ from selenium.webdriver.support.select import Select
 from serving import Served, free_port, head, received
 
 ZONE = "America/St_Johns"
-PASSWORDS = {"ann": "word-a", "bob": "word-b", "cat": "word-c", "dan": "word-d", "eve": "word-e", "office": "word-o"}
+# A name that stands in no request line, which somebody may give a user of nginx all the same.
+NO_CALLER = "jörg müller"
+PASSWORDS = {"ann": "word-a", "bob": "word-b", "cat": "word-c", "dan": "word-d", "eve": "word-e", "office": "word-o",
+             NO_CALLER: "word-j"}
 # What comes in the place of an answer.
 ANSWERS = {"409": b'{"name":"Full","refused":20}', "500": b'{"end":31,"name":"Store"}',
            "503": b'{"end":30,"name":"Memory"}', "502": b"<html>busy</html>"}
@@ -40,6 +44,8 @@ class Relay(http.server.BaseHTTPRequestHandler):
 
     def do_GET(self) -> None:
         line, what = self.server, ""
+        while any(map(self.path.startswith, line.held)):
+            time.sleep(0.05)
         body = self.rfile.read(int(self.headers["Content-Length"] or 0))
         if self.command == "POST":
             time.sleep(line.delay)
@@ -67,7 +73,9 @@ class Relay(http.server.BaseHTTPRequestHandler):
         fields = [f"{name}: {value}" for name, value in self.headers.items()]
         with socket.create_connection(("127.0.0.1", self.server.to)) as nginx:
             nginx.sendall(head(self.requestline, *fields, "Connection: close") + body)
-            return received(nginx).replace(b"\r\nConnection: close", b"", 1)
+            answer = received(nginx).replace(b"\r\nConnection: close", b"", 1)
+        # A browser without a screen would wait for ever for the password that this asks for, where a person cancels.
+        return answer.replace(b"WWW-Authenticate", b"Not-Asked", 1) if self.command == "POST" else answer
 
     def log_message(self, *_: object) -> None:
         pass
@@ -82,8 +90,8 @@ class Line(http.server.ThreadingHTTPServer):
         lose    the connection is broken before the request goes on
         a status of ANSWERS  the request goes on, and the browser gets this in the place of the answer
 
-    `delay` is how many seconds it keeps each POST, `posts` the numbers of the requests that came, and `keys_asked` how
-    often a key or its usage was asked for.
+    `delay` is how many seconds it keeps each POST, `held` the beginnings of paths that get no answer while they stand
+    there, `posts` the numbers of the requests that came, and `keys_asked` how often a key or its usage was asked for.
     """
     request_queue_size = 64
 
@@ -91,6 +99,7 @@ class Line(http.server.ThreadingHTTPServer):
         super().__init__(("127.0.0.1", 0), Relay)
         self.to, self.delay, self.keys_asked = port, 0.0, 0
         self.todo: list[str] = []
+        self.held: list[str] = []
         self.posts: list[str] = []
         threading.Thread(target=self.serve_forever, daemon=True).start()
 
@@ -128,6 +137,7 @@ class Desk:
 
     def close(self) -> None:
         self.served.close()
+        self.line.held = []
         self.line.shutdown()
         self.line.server_close()
         self.guard.__exit__()
@@ -138,7 +148,7 @@ class Reader:
     number if it was shown, and the command."""
 
     def __init__(self, desk: Desk, user: str) -> None:
-        self.desk, self.user = desk, user
+        self.desk, self.user, self.is_gone = desk, user, False
         self.said: list[tuple[str, Optional[int], str]] = []
         self.place = f"http://{HOST}:{desk.line.server_port}/"
         os.environ["TZ"] = ZONE
@@ -150,7 +160,8 @@ class Reader:
 
     def log_in(self, user: str, path: str = "me") -> None:
         """Gives a user's password, and opens a page of nginx's own."""
-        self.driver.get(f"{self.place.replace('//', f'//{user}:{PASSWORDS[user]}@')}{path}")
+        words = f"{urllib.parse.quote(user)}:{PASSWORDS[user]}"
+        self.driver.get(f"{self.place.replace('//', f'//{words}@')}{path}")
 
     # ---- looking
 
@@ -213,6 +224,13 @@ class Reader:
         self.driver.refresh()
         self.wait(lambda: self.find("main[data-page]"), "the page does not come again")
 
+    def renew(self) -> None:
+        """A newer list comes to the page as it stands."""
+        # nginx tells two lists apart by the second in which they were made.
+        time.sleep(1.1)
+        self.desk.make_list()
+        self.execute("dispatchEvent(new Event('visibilitychange'))")
+
     def with_list(self, page: str = "find") -> "Reader":
         """A page that has the newest list."""
         self.desk.make_list()
@@ -222,8 +240,9 @@ class Reader:
     # ---- doing
 
     def press(self, words: str, selector: str = "button") -> None:
-        """Presses the button, or another part, that is seen with these words."""
-        self.seen(selector, lambda button: button.text == words).click()
+        """Presses the button, or another part, that is seen with these words, also where the page puts another one in
+        its place meanwhile."""
+        self.wait(lambda: not self.seen(selector, lambda button: button.text == words).click(), f"no {words!r}")
 
     def fill(self, form: Any, label: str, value: str) -> None:
         """Writes into the field with this label. A date is its text in UTC, as a calendar gives it."""
@@ -310,4 +329,4 @@ class Reader:
                          if message["method"] == "Network.requestWillBeSent"]
 
 
-__all__ = ["By", "Desk", "Keys", "PASSWORDS", "Reader", "WebDriverException"]
+__all__ = ["By", "Desk", "Keys", "NO_CALLER", "PASSWORDS", "Reader", "WebDriverException"]

@@ -146,7 +146,7 @@ def full_store(reader: Reader, folder: pathlib.Path) -> None:
 
 
 def long_table(reader: Reader, folder: pathlib.Path, count: int) -> str:
-    """Rows a second at the beginning and at the end of a long table. Each row is one request."""
+    """Rows a second at the beginning and at the end of a long table. Each row is one exchange."""
     purposes = [f"disks of the long table {place} in hall {place % 97}" for place in range(count)]
     chosen(reader, folder, *(f"data-encryption,ann,{day(-5)}Z,,,{purpose}" for purpose in purposes))
     judged(reader, count, 0, 0, 0, 0, 0)
@@ -159,7 +159,8 @@ def long_table(reader: Reader, folder: pathlib.Path, count: int) -> str:
         rates.append((len(line.posts) - first) / (time.monotonic() - begun))
     reader.says(f"{count} of {count} rows answered: {count} accepted", ".progress", 60)
     exchanges = len(line.posts) - before + line.keys_asked - keys_asked
-    expect(exchanges == count, f"{count} rows took {exchanges} exchanges")
+    # One asks beforehand for a key behind the last that is known, and pages of others ask now and then.
+    expect(count < exchanges <= count + 20, f"{count} rows took {exchanges} exchanges")
     expect(rates[-1] >= rates[0] / 2, f"rows a second by quarters: {rates}")
     reader.said += [(reader.user, None, f"register data-encryption ann {second(day(-5))} - - {purpose}")
                     for purpose in purposes]

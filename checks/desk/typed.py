@@ -164,21 +164,41 @@ def overdue_seen(reader: Reader) -> int:
     return key
 
 
-BOXES = """return [...document.querySelectorAll('.line text')].map((part) => {
-  const box = part.getBoundingClientRect(); return [part.textContent, box.left, box.right, box.top, box.bottom]; })"""
+BOXES = """return ['text', '.tick'].map((name) => [...document.querySelectorAll(`.line ${name}`)].map((part) => {
+  const box = part.getBoundingClientRect(); return [part.textContent, box.left, box.right, box.top, box.bottom]; }))"""
+# Letters as a font has them that is higher and wider than the usual ones.
+LARGER = """const sheet = document.styleSheets[0];
+sheet.insertRule(".line text { font-size: 14px; }", sheet.cssRules.length);"""
+
+
+def stand_apart(reader: Reader, what: str) -> None:
+    """No letters of a line stand on one another, and no tick runs through letters."""
+    letters, ticks = reader.execute(BOXES)
+    for (text, left, right, top, bottom), (beside, *box) in itertools.combinations(letters, 2):
+        apart = right <= box[0] or box[1] <= left or bottom - 3 <= box[2] or box[3] - 3 <= top
+        expect(apart, f"{what}: {text} and {beside} stand on one another")
+    for (text, left, right, top, bottom), (_, at, _, *ends) in itertools.product(letters, ticks):
+        apart = at + 1 <= left or right - 1 <= at or bottom - 3 <= ends[0] or ends[1] <= top + 3
+        expect(apart, f"{what}: a tick runs through {text}")
 
 
 def no_letters_meet(reader: Reader, key: int) -> None:
-    """Letters of a line stand apart, also where dates coincide, and the bar of a compromised key does not protect."""
+    """Letters and ticks of a line stand apart, also where dates coincide, whatever the font; and the bar of a
+    compromised key does not protect."""
     other = register(reader, "private-signature", reader.user, LONG, day(-2))
     since = day(-3)
     reader.does(f"revoke {other} 2 {second(since)}", [("Reason", "2"), ("Compromised since (UTC)", since)])
     for number, width in itertools.product((key, other), (380, 1200)):
         reader.key(number)
         as_seen(reader.driver, width)
-        for (text, left, right, top, bottom), (beside, *box) in itertools.combinations(reader.execute(BOXES), 2):
-            apart = right <= box[0] or box[1] <= left or bottom - 3 <= box[2] or box[3] - 3 <= top
-            expect(apart, f"key {number} at {width}: {text} and {beside} stand on one another")
+        stand_apart(reader, f"key {number} at {width}")
+    reader.execute(LARGER)
+    for number, width in itertools.product((key, other), (320, 380)):
+        reader.key(number)
+        as_seen(reader.driver, width)
+        stand_apart(reader, f"key {number} at {width} in larger letters")
+    reader.reload()
+    reader.key(other)
     ends = reader.execute("return ['.line rect.protect', '.line text.now'].map((name) =>"
                           "[...document.querySelectorAll(name)].map((part) => part.getBoundingClientRect().right))")
     expect(all(right <= ends[1][0] + 2 for right in ends[0]), f"it protects beyond now: {ends}")
@@ -197,9 +217,7 @@ def order_kept(reader: Reader, other: Reader) -> None:
     numbers, third = waiting(), reader.find("section.guarded tbody a")[2]
     reader.execute("arguments[0].focus()", third)
     other.key(keys[2]).adds(keys[2], "cat")
-    time.sleep(1.1)
-    other.desk.make_list()
-    reader.execute("dispatchEvent(new Event('visibilitychange'))")
+    reader.renew()
     reader.says("A newer list is there", "#newer")
     expect(waiting() == numbers, f"what waits moved from {numbers} to {waiting()}")
     expect(reader.execute("return document.activeElement === arguments[0]", third), "the focus went")

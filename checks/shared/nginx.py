@@ -76,7 +76,7 @@ class Guard:
         users = "".join(f"{name}:{{PLAIN}}{word}\n" for name, word in (words or USERS).items())
         main = MAIN.format(folder=folder, user="user root;" if os.geteuid() == 0 else "")
         for name, given in (("keyreg.conf", text), ("users", users), ("nginx.conf", main)):
-            (folder / name).write_text(given, encoding="ascii")
+            (folder / name).write_text(given, encoding="utf-8")
         # It stands where not everybody's PATH leads.
         program = shutil.which("nginx", path=f"{os.environ['PATH']}:/usr/sbin")
         expect(program, "nginx is not installed: apt-get install nginx-light")
