@@ -84,7 +84,8 @@ KINDS = (
         "what a period means for keys": "*/register_core/src/laws.rt */test_desk_trials/src/desks.rt bench/tables.py "
                                         "checks/program/rules_tried.py checks/program/tables.py",
         "who the office is": "checks/office/behind_nginx.py",
-        "what they look at beside the day": "checks/program/large_office.py checks/program/exchanges_by_curl.py",
+        "what they look at beside the day": "checks/program/large_office.py checks/program/exchanges_by_curl.py "
+                                            "checks/desk/lists.py",
         "it stands for its shape": "*/Within/Fields.antt crates/http_messages/src/command_value.rt",
         "what comes of one that is left out": "docs/OPERATING.md",
         "what version 1 has not": "checks/office/rebuild_tried.py",
