@@ -63,7 +63,10 @@ function judgedRow({faults, command}, place, {caller, made, before}) {
   const answer = judgement(command, {caller}), number = made.of(command);
   const text = keyText(command, answer?.key ?? command), first = before.get(text);
   if (first === undefined) before.set(text, place);
-  if (number) return {sort: "twice", faults, words: `it is key ${number} already, and this makes a second one`};
+  if (number) {
+    return {sort: "twice", faults,
+      words: `it is key ${number} already, and this makes a second one, but where you sent the row before`};
+  }
   if (answer?.refused) {
     return {sort: "refused", faults, words: `would be refused: ${refusalText(answer, command)}`};
   }

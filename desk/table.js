@@ -30,7 +30,7 @@ async function sendRows(table, desk, look) {
   try {
     const end = await learnBehind();
     table.left = table.judgeAnew();
-    if (table.next(0) >= 0) table.before ??= end;
+    if (isGoing && table.next(0) >= 0) table.before ??= end;
     table.keepMarks();
     for (let place = table.next(0); place >= 0 && isGoing && table === current(); place = table.next(place + 1)) {
       const answer = await desk.sendRow(commandOf(table.rows[place]), table.numbers[place]);
