@@ -32,8 +32,7 @@ test("two rows of a table never share a number, and a number is one of tables", 
 
 test("a row keeps its number where others are corrected, put before it or taken out", () => {
   const rows = Array.from({length: 1000}, (_, place) => row(`root ${place}`)), numbers = tableNumbers(rows, "ann");
-  const corrected = rows.with?.(499, row("root of vault 2")) ?? [...rows.slice(0, 499), row("root of vault 2"),
-    ...rows.slice(500)];
+  const corrected = [...rows.slice(0, 499), row("root of vault 2"), ...rows.slice(500)];
   const others = tableNumbers(corrected, "ann");
   assert.deepEqual(others.flatMap((number, place) => (number === numbers[place] ? [] : [place])), [499]);
   assert.ok(!numbers.includes(others[499]));
