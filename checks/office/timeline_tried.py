@@ -8,7 +8,7 @@ take.
 
     checks/office/timeline_tried.py
 
-It needs chromium, chromium-driver, python3-selenium and poppler-utils of Debian.
+It needs chromium, chromium-driver, nodejs, python3-selenium and poppler-utils of Debian.
 """
 import csv
 import io
