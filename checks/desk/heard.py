@@ -1,13 +1,12 @@
 """What is heard of the desk by whoever does not see it: the name, the description and the state of each field of each
-form, wrong and right, by Chromium's accessibility tree; what live regions say, in order, while a form is filled in and
-sent, and a table; and what axe-core, which Chromium's own packages have, finds in each page."""
+form, wrong and right, by Chromium's accessibility tree; and what live regions say, in order, while a form is filled in
+and sent, and a table."""
 import pathlib
 import time
-from typing import Any, Sequence
+from typing import Any
 
-from axe import violations
-from browser import as_seen, as_usual
 from day import day, register
+from looks import axe_finds_nothing
 from parts import By, Reader
 from script import expect
 from tables import chosen, put_away
@@ -151,19 +150,14 @@ def sending_said(reader: Reader, folder: pathlib.Path) -> None:
     put_away(reader)
 
 
-def axe_finds(reader: Reader, pages: Sequence[str], key: int) -> int:
-    """axe finds nothing in any page: light, dark and narrow. How many were looked at."""
-    for page in pages:
-        (reader.key(key) if page.startswith("key/") else reader.anew(page))
-        if page.startswith("key/"):
-            reader.execute("document.querySelectorAll('details').forEach((one) => {"
-                           "one.removeAttribute('name'); one.open = true; })")
-        for width, dark in ((1200, False), (1200, True), (320, False)):
-            as_seen(reader.driver, width, dark=dark)
-            found = violations(reader.driver)
-            expect(not found, f"{page} at {width}{' dark' * dark}: axe finds {found}")
-    as_usual(reader.driver)
-    return len(pages)
+def search_told(reader: Reader) -> None:
+    """A number of days that is none is told at its field."""
+    days = reader.anew("find").seen("input[type='number']")
+    for text, is_wrong in (("99999", True), ("60", False)):
+        reader.put(days, text)
+        there = told(reader, "Due within days")
+        is_told = "0 to 36500 days" in there["description"], there.get("invalid") == "true"
+        expect(is_told == (is_wrong, is_wrong), f"{text} days are told as {there}")
 
 
 def all_heard(here: Any, folder: pathlib.Path) -> str:
@@ -171,9 +165,10 @@ def all_heard(here: Any, folder: pathlib.Path) -> str:
     ann, office = here.reader("ann"), here.reader("office")
     key = register(ann, "key-wrapping", "ann", "a key that is told", day(-9))
     count = forms_told(ann, office, key)
+    axe_finds_nothing(ann, "a form that is wrong")
+    axe_finds_nothing(office, "periods")
+    search_told(ann)
     said_in_order(ann)
     sending_said(ann, folder)
-    pages = axe_finds(ann, ("find", f"key/{key}", "waits", "register", "table", "periods"), key)
-    pages += axe_finds(office, ("periods",), key)
     here.closes(ann, office)
-    return f"{count} faults of fields are told, and axe finds nothing in {pages} pages"
+    return f"{count} faults of fields are told, and what changes is said once"

@@ -7,9 +7,9 @@ said.
 keyreg is served behind nginx with office/units/nginx-keyreg.conf, and a browser for each user goes through a day by
 forms and lists (day.py), what breaks (breaks.py), what is typed (typed.py) and tables (tables.py), also after a crash
 and from two windows, by two people at one window (windows.py), without a list, with an older and a newer one and over a
-slow line (lists.py). What is heard of forms and of sendings is asked of Chromium's accessibility tree, and axe looks at
-each page (heard.py). Each page is looked at for contrast, by Tab, at several widths, light, dark and printed, and by
-the seconds that a list of 100,000 keys takes (looks.py).
+slow line (lists.py). What is heard of forms and of sendings is asked of Chromium's accessibility tree (heard.py). Each
+page is looked at by that and by axe, for contrast, by Tab, at several widths, light, dark and printed, and by the
+seconds that a list of 100,000 keys takes (looks.py).
 
 After it each request of which a page said that it was accepted is in the register under the number that the page
 showed, and no other is; and by office/replay.py all else in the register follows from them. The console has nothing but

@@ -1,7 +1,8 @@
-"""How the desk looks: what Chromium's accessibility tree says of each page, contrast, focus, widths, dark and print;
+"""How the desk looks: what Chromium's accessibility tree says of each page, what axe finds in it, contrast, focus, widths, dark and print;
 and how soon it shows what is found among 100,000 keys."""
 import pathlib
 
+from axe import violations
 from browser import as_seen
 from day import day, register, second
 from parts import Desk, Keys, Reader
@@ -93,6 +94,15 @@ def focused(reader: Reader, page: str) -> None:
     expect(came == list(range(len(places))), f"{page}: Tab goes {came}, of {len(places)} parts: {places}")
 
 
+def axe_finds_nothing(reader: Reader, page: str) -> None:
+    """axe finds nothing in the page as it stands: light, dark and narrow."""
+    for width, how in ((1200, {}), (1200, {"dark": True}), (320, {})):
+        as_seen(reader.driver, width, **how)
+        found = violations(reader.driver)
+        expect(not found, f"{page} at {width} {[*how]}: axe finds {found}")
+    as_seen(reader.driver, 1000)
+
+
 def looked_at(reader: Reader, page: str) -> int:
     """Looks at the page as it stands at each width, light and dark and printed; how many parts it has."""
     as_seen(reader.driver, 1000)
@@ -105,7 +115,7 @@ def looked_at(reader: Reader, page: str) -> int:
             expect(not faint, f"{page} at {width} {[*how]}: faint are {faint[:5]}")
             wide = reader.execute("return document.scrollingElement.scrollWidth - window.innerWidth")
             expect(wide <= 0, f"{page} at {width} {[*how]}: it is {wide} pixels wider than the screen")
-    as_seen(reader.driver, 1000)
+    axe_finds_nothing(reader, page)
     return parts
 
 
