@@ -75,7 +75,7 @@ KINDS = (
     }, ("Add a version of the tables",)),
     Kind("Add a column", r"\boccurrence (INTEGER|= \?)|compromised\W+occurrence\b|\bcompromise_occurrence\b", {
         "the date, which commands set": "crates/*_core/*",
-        "tables of version 1": "*/migrations.rt",
+        "tables of version 1": "*/contents.rt",
     }, ("Add a column to the export",)),
     Kind("Add a column to the export",
          r"compromised\W+occurrence\W+purpose|\"occurrence\"(, \"\"\)|: (date|moment)_text|\) \(λ d)", {}),

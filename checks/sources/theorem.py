@@ -4,7 +4,7 @@
     checks/sources/theorem.py [--count]
 
 Writes the pages, or with --count only counts what they have. The theorem is the contract of ROOT. What a definition
-says in plain words is the comment above it in the source; the pages' own words are in *_head.md beside this file.
+says in plain words is the comment above it in the source; the pages' own words are in heads.md beside this file.
 documents.py holds the pages to the sources.
 """
 import difflib
@@ -44,7 +44,8 @@ NEAR = 300
 
 def words_of(page: str) -> str:
     """A page's own words."""
-    return read(f"checks/sources/{page}_head.md")
+    words = re.split(r"(?m)^<!-- (\w+) -->\n", read("checks/sources/heads.md"))[1:]
+    return dict(zip(words[::2], words[1::2]))[page].rstrip("\n") + "\n"
 
 
 @functools.lru_cache

@@ -10,7 +10,6 @@ mod keys;
 mod leaving;
 mod lent;
 mod looks;
-mod migrations;
 mod requests;
 mod sending;
 mod stops;

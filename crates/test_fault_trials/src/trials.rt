@@ -1,9 +1,8 @@
 //! What is tried while calls of the files fail: something is done over a register, and what it
 //! leaves is opened again.
-use crate::contents::{Contents, Stopped};
+use crate::contents::{Contents, Stopped, first_version};
 use crate::files::{DeskTask, Entry, Fault, HONEST, Lab, Left, NoDesk, Nothing};
 use crate::leaving::{LEAVINGS, Leaving};
-use crate::migrations::first_version;
 use crate::sending::{Came, Way, is_broken, send};
 use crate::texts::LineAndReply;
 use register_desk::OpenRefusal;
