@@ -1,14 +1,14 @@
 //! The files of a register on the machine's disk.
-ghost use Rattle.std.specs.Prelude.{◌≡◌, ◌↔◌};
+ghost use Rattle.std.specs.Prelude.{◌≡◌};
 ghost use Rattle.sqlite.specs.{WalFiles.image_at, Files.over_files};
 ghost use Rattle.sqlite_store.specs.FileStore as files;
 ghost use Rattle.machine_traits.specs.Closing.{ClosesFiles};
 
+use crate::opening::{FailedFiles, open_files};
 use machine_traits::{Absent, Closed, ConnectError, Files, LogCopy, NotConnected};
-use sqlite::{Connection, Error, ErrorCode, FileFrom, FileStore, Leftover, Start};
+use sqlite::{Connection, FileFrom, FileStore, Start};
 use sqlite_disk::Disk;
 use sqlite_trees::store::Store;
-use std::fs;
 
 /// The register's files as the kit opens them. `S` says what they hold at first, and what a torn
 /// write may leave.
@@ -22,24 +22,6 @@ impl<'a, S: Start> DiskFiles<'a, S> {
     /// The files that begin so.
     pub fn new(rt: &'a HostRuntime, start: S) -> Self {
         DiskFiles { rt, start }
-    }
-}
-
-/// What is left of files on the disk that could not be opened.
-#[derive(Drop)]
-pub struct FailedFiles<D: Disk> {
-    /// Where they were opened before it failed.
-    left: Option<Leftover<D>>,
-}
-
-/// Why an opening ended with this error: for want of memory exactly where the error says so.
-fn connect_error(error: &Error) -> ConnectError
-    ensures { (result ≡ ConnectError.Memory)
-        ↔ (error.now ≡ Error.SqliteFailure ErrorCode.OutOfMemory) }
-{
-    match error {
-        Error::SqliteFailure(ErrorCode::OutOfMemory) => ConnectError::Memory,
-        _ => ConnectError::Store,
     }
 }
 
@@ -93,24 +75,15 @@ impl<'a, S: Start> Files for DiskFiles<'a, S> {
         file: &str,
         absent: Absent,
     ) -> Result<Connection<FileStore<FileFrom<S>>>, NotConnected<FailedFiles<FileFrom<S>>>> {
-        // Where the system does not tell, the opening does.
-        let may_be_opened = match absent {
-            Absent::Made => true,
-            Absent::Refused => fs::exists(self.rt, file).unwrap_or(true),
-        };
-        if !may_be_opened {
-            return Err(NotConnected {
-                error: ConnectError::Store,
-                failed: FailedFiles { left: None },
-            });
+        if let Absent::Refused = absent {
+            if let Some(failed) = FailedFiles::of_no_file(self.rt, file) {
+                return Err(NotConnected {
+                    error: ConnectError::Store,
+                    failed,
+                });
+            }
         }
-        match Connection::open_from(self.rt, file, false, self.start) {
-            Ok(connection) => Ok(connection),
-            Err((error, left)) => Err(NotConnected {
-                error: connect_error(&error),
-                failed: FailedFiles { left },
-            }),
-        }
+        open_files(self.rt, file, self.start)
     }
 
     fn close(store: FileStore<FileFrom<S>>) -> Closed<FileStore<FileFrom<S>>>

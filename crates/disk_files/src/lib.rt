@@ -3,6 +3,7 @@
 
 mod disk_files;
 mod network;
+mod opening;
 
 pub use disk_files::DiskFiles;
 pub use network::{MachineListener, MachineNetwork, MachineReadHalf, MachineWriteHalf};
