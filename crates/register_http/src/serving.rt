@@ -20,7 +20,8 @@ use std::io::{self, ErrorKind, Read, Write};
 use std::time::{Clock, Duration, Instant, SystemTime, UNIX_EPOCH};
 use streams::Watched;
 
-/// How many seconds the client of one exchange may keep it waiting in all.
+/// How many seconds a client may keep its exchange waiting for its bytes, and as many for it to take
+/// the reply. What the register does in between is no time of the client's.
 const MAX_CLIENT_SECONDS: u64 = 10;
 
 /// Tells the moment of an exchange.
@@ -61,24 +62,33 @@ pub struct Means<'a, L: Listener, C: Clock, N: Now> {
     pub moments: &'a N,
 }
 
-/// A half of a client's connection, for as long as its exchange may take.
+/// A half of a client's connection, for as long as the client may keep it waiting.
 #[derive(Drop)]
 struct Timed<'a, H, C: Clock> {
     half: H,
     timer: &'a C,
-    /// When the exchange began, where the timer told it.
-    start: Option<Instant>,
+    /// How long the client may still keep it waiting.
+    left: Duration,
 }
 
 impl<H, C: Clock> Timed<'_, H, C> {
-    /// How long the client may still keep the exchange waiting.
-    fn time_left(&self) -> io::Result<Duration> {
-        let start = self.start.ok_or(io::Error::from(ErrorKind::Other))?;
-        let elapsed = start.elapsed(self.timer)?;
-        match Duration::from_secs(MAX_CLIENT_SECONDS).checked_sub(elapsed) {
-            Some(left) if !left.is_zero() => Ok(left),
-            _ => Err(io::Error::from(ErrorKind::TimedOut)),
+    /// When a turn begins that may wait.
+    fn begin_turn(&self) -> io::Result<Instant> {
+        if self.left.is_zero() {
+            return Err(io::Error::from(ErrorKind::TimedOut));
         }
+        Instant::now(self.timer)
+    }
+
+    /// Ends a turn that began then. Where the timer fails no time is left.
+    fn end_turn(&mut self, start: Instant)
+        ensures { self.new.half ≡ self.old.half }
+    {
+        let waited = match start.elapsed(self.timer) {
+            Ok(waited) => waited,
+            Err(_) => self.left,
+        };
+        self.left = self.left.saturating_sub(waited);
     }
 }
 
@@ -86,8 +96,10 @@ impl<R: ReadHalf, C: Clock> Read for Timed<'_, R, C> {
     ghost remaining = { λ timed. R.remaining timed.half };
 
     fn read(&mut self, buf: &mut [u8]) -> io::Result<usize> {
-        let wait = self.time_left()?;
-        self.half.read_within(wait, buf)
+        let start = self.begin_turn()?;
+        let result = self.half.read_within(self.left, buf);
+        self.end_turn(start);
+        result
     }
 }
 
@@ -95,8 +107,10 @@ impl<W: WriteHalf, C: Clock> Write for Timed<'_, W, C> {
     ghost contents = { λ timed. W.contents timed.half };
 
     fn write(&mut self, buf: &[u8]) -> io::Result<usize> {
-        let wait = self.time_left()?;
-        self.half.write_within(wait, buf)
+        let start = self.begin_turn()?;
+        let result = self.half.write_within(self.left, buf);
+        self.end_turn(start);
+        result
     }
 
     fn flush(&mut self) -> io::Result<()> {
@@ -125,9 +139,10 @@ pub struct ServedConnection<R, W> {
     pub client: Client<R, W>,
 }
 
-/// Serves one connection: one [`exchange`] at this moment, for which the client has ten seconds in
-/// all. The client is then told that no more comes, and what it has sent besides its request is
-/// taken off. It ends by [`End::ReadFault`], too, where the timer fails.
+/// Serves one connection: one [`exchange`] at this moment, for which the client has ten seconds to
+/// send its bytes, and ten to take the reply. The client is then told that no more comes, and what
+/// it has sent besides its request is taken off. It ends by [`End::ReadFault`], too, where the timer
+/// fails.
 pub fn serve_connection<S: Alter, R: ReadHalf, W: WriteHalf, C: Clock>(
     alloc: Global,
     routes: &mut Routes,
@@ -159,16 +174,16 @@ pub fn serve_connection<S: Alter, R: ReadHalf, W: WriteHalf, C: Clock>(
         read_half,
         write_half,
     } = client;
-    let start = Instant::now(timer).ok();
+    let left = Duration::from_secs(MAX_CLIENT_SECONDS);
     let mut reader = Watched::new(Timed {
         half: read_half,
         timer,
-        start,
+        left,
     });
     let mut writer = Watched::new(Timed {
         half: write_half,
         timer,
-        start,
+        left,
     });
     let outcome = exchange(alloc, routes, desk, moment, &mut reader, &mut writer);
     let mut read_half = reader.into_inner().half;
@@ -197,7 +212,8 @@ fn may_serve_on(finish: Finish) -> bool
 
 /// Serves so many connections that come to the listener, one after the other, each one exchange at
 /// the moment that is told once it was accepted. A client that is slow keeps the next one waiting
-/// no longer than ten seconds, and a connection is closed after its reply.
+/// no longer than ten seconds for its bytes and ten for its reply, and a connection is closed after
+/// its reply.
 ///
 /// Gives the end of what there is to do after that many, or [`End::Store`] or [`End::Broken`] of
 /// an exchange, or [`End::ReadFault`] where a connection could not be accepted or no moment was

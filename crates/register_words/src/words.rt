@@ -90,7 +90,7 @@ impl<'a> GivenTask<'a> {
 
 /// The program's version (CHANGES.md), that of the tables that it writes, and the program logic
 /// that it is proved with.
-const VERSION: &str = "1.0.0 (tables of version 2, program logic dac8208d650f15bf)";
+const VERSION: &str = "1.0.1 (tables of version 2, program logic dac8208d650f15bf)";
 
 const ABOUT: &str = "The register of cryptographic keys: owners, purposes and lifecycles";
 
