@@ -42,6 +42,7 @@ import re
 import sys
 import time
 from datetime import datetime
+from typing import Iterable, Iterator, Optional, Sequence, Union
 
 # What is read from beside this file leaves none there.
 sys.dont_write_bytecode = True
@@ -69,14 +70,14 @@ MARKS = str.maketrans({"“": '"', "”": '"', "„": '"', "‘": "'", "’": "'
 # ---- what a spreadsheet may have made of a text
 
 @functools.cache
-def number_of(text):
+def number_of(text: str) -> Optional[decimal.Decimal]:
     """The number that a spreadsheet takes the text for, with the 15 digits that it keeps, or None."""
     if not re.fullmatch(r"[+-]?(\d+\.?\d*|\.\d+)([eE][+-]?\d{1,3})?", text):
         return None
     return decimal.Context(prec=15).create_decimal(text).normalize()
 
 
-def is_close(number, other):
+def is_close(number: decimal.Decimal, other: decimal.Decimal) -> bool:
     """Whether the numbers agree to the digits that are left of the shorter one."""
     digits = max(min(len(number.as_tuple().digits), len(other.as_tuple().digits)), 6)
     context = decimal.Context(prec=digits)
@@ -84,9 +85,9 @@ def is_close(number, other):
 
 
 @functools.cache
-def days_of(text):
+def days_of(text: str) -> set[tuple[int, int]]:
     """Each day that the text may stand for, as month and day, in one form or another; the year may be gone."""
-    plain, days = " ".join(re.sub(r"[TZ]", " ", text).split()), set()
+    plain, days = " ".join(re.sub(r"[TZ]", " ", text).split()), set[tuple[int, int]]()
     for form in SHAPED.get(re.sub(r"[^\W\d_]+", "a", re.sub(r"\d+", "0", plain)), ()):
         with contextlib.suppress(ValueError):
             # A day without a year is one of a leap year.
@@ -96,7 +97,7 @@ def days_of(text):
     return days
 
 
-def other_bytes(text):
+def other_bytes(text: str) -> Iterator[str]:
     """What the text becomes where its UTF-8 is read as another code, or written in one that lacks its letters."""
     raw = text.encode(errors="replace")
     yield from (raw.decode(code, errors="replace") for code in ("cp1252", "latin-1", "mac-roman"))
@@ -104,7 +105,7 @@ def other_bytes(text):
     yield re.sub("[^\0-\x7f]", "\ufffd", text)
 
 
-def became(was, now):
+def became(was: str, now: str) -> str:
     """How a spreadsheet made the one text of the other; an empty text where it is no way that is known here."""
     if was[:1] in ("=", "+", "-", "@") and number_of(was) is None:
         return FORMULA
@@ -124,8 +125,9 @@ def became(was, now):
 
 # ---- the tables
 
-def rows_of(path, columns):
-    """The rows of a CSV with at least these columns, each as a dictionary."""
+def rows_of(path: str, columns: Sequence[str]) -> list[Optional[dict[str, str]]]:
+    """The rows of a CSV with at least these columns, each as a dictionary; None where a row has another number of
+    fields."""
     try:
         raw = pathlib.Path(path).read_bytes()
         text = raw.decode("utf-8")
@@ -139,18 +141,18 @@ def rows_of(path, columns):
     records = [record for record in csv.reader(io.StringIO(text, newline="")) if record]
     header = records[0] if records else []
     if not set(columns) <= set(header):
-        fault = "its fields are parted by `;`" if ";" in "".join(header) else f"its header row is {','.join(header)!r}"
-        raise Unreadable(f"{path}: {fault}, and should have {','.join(columns)}")
+        why = "its fields are parted by `;`" if ";" in "".join(header) else f"its header row is {','.join(header)!r}"
+        raise Unreadable(f"{path}: {why}, and should have {','.join(columns)}")
     return [dict(zip(header, record)) if len(record) == len(header) else None for record in records[1:]]
 
 
-def is_moment(text):
+def is_moment(text: str) -> bool:
     with contextlib.suppress(ValueError):
         return moment_of(text) >= 0
     return False
 
 
-def refusals(row):
+def refusals(row: Optional[dict[str, str]]) -> Iterator[str]:
     """Why the register would refuse the row for its form."""
     if row is None:
         yield "it has another number of fields than the header row"
@@ -167,7 +169,7 @@ def refusals(row):
         yield f"purpose is {purpose[:60]!r}, which is empty, too long, or has a space at an end or a control character"
 
 
-def forms(text):
+def forms(text: str) -> set[Union[str, decimal.Decimal]]:
     """The text, and the number that it may have been or become."""
     number = number_of(text)
     return {text} if number is None else {text, decimal.Context(prec=6).plus(number).normalize()}
@@ -176,17 +178,20 @@ def forms(text):
 class Keys:
     """The keys of an export, which find a row again."""
 
-    def __init__(self, keys):
-        self.keys, self.by_field, self.by_words = keys, collections.defaultdict(list), collections.defaultdict(list)
+    def __init__(self, keys: Sequence[dict[str, str]]) -> None:
+        self.keys = keys
+        # The places of keys by a field in one of its forms, and by their words and a date.
+        self.by_field = collections.defaultdict[tuple[str, Union[str, decimal.Decimal]], list[int]](list)
+        self.by_words = collections.defaultdict[tuple[str, ...], list[int]](list)
         for place, key in enumerate(keys):
             for date in {"", *(key[column] for column in DATES)}:
                 self.by_words[(*(key[column] for column in WORDS), date)].append(place)
             for column in COLUMNS[1:]:
                 for form in forms(key[column]):
                     self.by_field[column, form].append(place)
-        self.taken = set()
+        self.taken = set[int]()
 
-    def made(self, row):
+    def made(self, row: dict[str, str]) -> Optional[dict[str, str]]:
         """The key that the row may have made already, or None: each date that it gives is the key's."""
         given = [column for column in DATES if row[column]]
         for place in self.by_words.get((*(row[column] for column in WORDS), row[given[0]] if given else ""), ()):
@@ -197,18 +202,18 @@ class Keys:
                 return key
         return None
 
-    def likely(self, row, place):
+    def likely(self, row: dict[str, str], place: int) -> list[int]:
         """The keys that the row may have come from: that at its own place, and those that share most fields with it."""
-        shared = collections.Counter()
+        shared = collections.Counter[int]()
         for column, form in ((column, form) for column in COLUMNS[1:] if row[column] for form in forms(row[column])):
             places = self.by_field[column, form]
             shared.update(places if len(places) <= MOST_LIKE else [])
         return [place] * (place < len(self.keys)) + [other for other, _ in shared.most_common(MOST_LIKE)
                                                      if other != place]
 
-    def changed(self, row, place):
+    def changed(self, row: dict[str, str], place: int) -> tuple[Optional[dict[str, str]], dict[str, str]]:
         """The key that the row came from, with what became of its fields; that at its own place is asked first."""
-        best = None
+        best: Optional[tuple[tuple[int, bool, int, bool], int, dict[str, str]]] = None
         for other in self.likely(row, place):
             key = self.keys[other]
             differs = [column for column in COLUMNS if row[column] != key[column]]
@@ -237,53 +242,56 @@ class Keys:
 MOST_LIKE = 50
 
 
-def asked_for(row):
+def asked_for(row: dict[str, str]) -> tuple[object, ...]:
     """The key that a row of the right form asks for: its words, and the dates that it gives or that a period gives."""
     dates = [moment_of(row[column]) if row[column] else None for column in DATES]
     with contextlib.suppress(Refused):
-        dates = list(fitted(dates, PERIODS[row["type"]], False).values())
+        fit = fitted(dates, PERIODS[row["type"]], False)
+        dates = [fit["activation"], fit["stop"], fit["end"]]
     return (*(row[column] for column in WORDS), *dates)
 
 
 SORTS = ("changed by a spreadsheet", "there already", "repeated", "of another form", "new")
 
 
-def looked_at(rows, keys, counts, new):
+def looked_at(rows: Iterable[Optional[dict[str, str]]], keys: Keys, counts: collections.Counter[str],
+              new: list[int]) -> Iterator[str]:
     """A line for each thing to tell of the rows, which are counted by their sorts; the places of new ones are added."""
-    before = {}
+    before = dict[tuple[object, ...], int]()
     for place, row in enumerate(rows):
-        others, changes, row_no = list(refusals(row)), {}, f"row {place + 1}"
+        others, row_no = list(refusals(row)), f"row {place + 1}"
         if row and (key := keys.made(row)):
             counts["there already"] += 1
             yield f"{row_no}: it is key {key['number']} already, and its import makes a second one"
             continue
-        if not others and (first := before.setdefault(asked_for(row), place)) != place:
+        if row and not others and (first := before.setdefault(asked_for(row), place)) != place:
             counts["repeated"] += 1
             yield f"{row_no}: it is row {first + 1} again, and its import makes a second key"
             continue
-        if row:
-            key, changes = keys.changed(row, place)
-        for column, how in changes.items():
-            yield f"{row_no} (key {key['number']}): {column} was {key[column]!r} and is {row[column]!r}: {how}"
+        key, changes = keys.changed(row, place) if row else (None, {})
+        if row and key:
+            for column, how in changes.items():
+                yield f"{row_no} (key {key['number']}): {column} was {key[column]!r} and is {row[column]!r}: {how}"
         others = [why for why in others if why.split(" ")[0] not in changes]
         yield from (f"{row_no}: {why}" for why in others)
         counts["changed by a spreadsheet" if changes else "of another form" if others else "new"] += 1
         new += [] if changes or others else [place]
 
 
-def last_number(path, caller):
+def last_number(path: str, caller: str) -> int:
     """The greatest number of the caller's accepted requests, but for those of tables."""
     with opened(path) as connection:
         asked = "SELECT max(number) FROM request WHERE caller = ? AND number < ?"
-        return connection.execute(asked, [caller, LEAST_OF_TABLES]).fetchone()[0] or 0
+        last: Optional[int] = connection.execute(asked, [caller, LEAST_OF_TABLES]).fetchone()[0]
+        return last or 0
 
 
-def requests_of(rows, caller):
+def requests_of(rows: Iterable[Optional[dict[str, str]]], caller: str) -> Iterator[Optional[tuple[int, str]]]:
     """Of each row its number and its command, or None where it is no request. The desk (desk/numbers.js) has the same
     rule."""
-    times, taken = collections.Counter(), set()
+    times, taken = collections.Counter[str](), set[int]()
     for row in rows:
-        if any(refusals(row)):
+        if row is None or any(refusals(row)):
             yield None
             continue
         dates = [moment_of(row[column]) if row[column] else "-" for column in DATES]
@@ -296,28 +304,28 @@ def requests_of(rows, caller):
         yield number, command
 
 
-def write_requests(path, rows, new, caller):
+def write_requests(path: str, rows: Iterable[Optional[dict[str, str]]], new: Iterable[int], caller: str) -> None:
     """Writes the new rows as request lines of the caller."""
     moment, requests = int(time.time()), list(requests_of(rows, caller))
-    lines = [f"{moment} {caller} {number} {command}\n" for number, command in map(requests.__getitem__, new)]
+    lines = [f"{moment} {caller} {asked[0]} {asked[1]}\n" for asked in map(requests.__getitem__, new) if asked]
     try:
         pathlib.Path(path).write_text("".join(lines), encoding="utf-8")
     except OSError as fault:
         raise Unreadable(f"{path}: {fault.strerror}") from None
 
 
-def main():
-    words = argparse.ArgumentParser(description="Tells what a spreadsheet did to a table before it is imported.")
-    words.add_argument("table")
-    words.add_argument("--export", required=True)
+def main() -> int:
+    parser = argparse.ArgumentParser(description="Tells what a spreadsheet did to a table before it is imported.")
+    parser.add_argument("table")
+    parser.add_argument("--export", required=True)
     for name in ("--copy", "--caller", "--requests"):
-        words.add_argument(name)
-    words = words.parse_args()
+        parser.add_argument(name)
+    words = parser.parse_args()
     if bool(words.copy or words.requests) != bool(words.caller) or not NAME.fullmatch(words.caller or "none"):
         sys.exit("--copy and --requests are of a --caller, which is a name")
     try:
         keys = Keys([key for key in rows_of(words.export, ["number", *COLUMNS]) if key])
-        rows, counts, new = rows_of(words.table, COLUMNS), collections.Counter(), []
+        rows, counts, new = rows_of(words.table, COLUMNS), collections.Counter[str](), list[int]()
         for line in looked_at(rows, keys, counts, new):
             print(line, flush=True)
         if words.copy:

@@ -44,7 +44,7 @@ import ssl
 import sys
 import time
 import urllib.parse
-from typing import Any, Iterator, NamedTuple, Optional
+from typing import Any, Iterable, Iterator, NamedTuple, Optional
 
 GREATEST_NUMBER = 9007199254740991
 # Statuses after which a request is sent again: of nginx, which takes no more of this address yet; and those that do not
@@ -55,7 +55,7 @@ UNTOLD = (429, 500, 502, 503, 504)
 class Refused(Exception):
     """keyreg refused the request, which changed nothing: `number` and `name` of the refusal, and its `values`."""
 
-    def __init__(self, reply):
+    def __init__(self, reply: dict[str, Any]) -> None:
         super().__init__(f"{reply['refused']} {reply['name']}")
         self.number, self.name = reply["refused"], reply["name"]
         self.values = {name: value for name, value in reply.items() if name not in ("refused", "name")}
@@ -64,7 +64,7 @@ class Refused(Exception):
 class Unexpected(Exception):
     """An answer that no sending again mends, as another program's before keyreg: `status` and `body`."""
 
-    def __init__(self, status, body):
+    def __init__(self, status: int, body: bytes) -> None:
         super().__init__(f"status {status}: {body[:200]!r}")
         self.status, self.body = status, body
 
@@ -81,7 +81,7 @@ class Reply(NamedTuple):
     """What an accepted request came to. Of an advance and a set-period the key is 0 and the state None."""
     key: int
     moment: int
-    state: str
+    state: Optional[str]
 
 
 class Numbers:
@@ -98,12 +98,13 @@ class Numbers:
             if isinstance(fault, BlockingIOError):
                 raise InUse(f"another client has the numbers of {self.path}: one at a time") from None
             raise
-        self.last, self.request = 0, None
+        self.last = 0
+        self.request: Optional[dict[str, Any]] = None
         if os.path.exists(self.path):
             with open(self.path, encoding="utf-8") as kept:
                 self.last, self.request = json.load(kept)
 
-    def keep(self, last, request):
+    def keep(self, last: int, request: Optional[dict[str, Any]]) -> None:
         with open(self.path + ".new", "w", encoding="utf-8") as made:
             json.dump([last, request], made)
             made.flush()
@@ -121,7 +122,8 @@ class Client:
     `context` is that of an `https` address."""
 
     def __init__(self, address: str, caller: str, numbers: str, password: Optional[str] = None,
-                 patience: Optional[float] = 60, slowest: float = 5, timeout: float = 30, context: Any = None) -> None:
+                 patience: Optional[float] = 60, slowest: float = 5, timeout: float = 30,
+                 context: Optional[ssl.SSLContext] = None) -> None:
         self.address = urllib.parse.urlsplit(address)
         self.caller, self.patience, self.slowest = caller, patience, slowest
         self.timeout, self.context = timeout, context
@@ -134,7 +136,7 @@ class Client:
     def __enter__(self) -> "Client":
         return self
 
-    def __exit__(self, *_):
+    def __exit__(self, *_: object) -> None:
         os.close(self.numbers.lock)
 
     # ---- requests
@@ -146,14 +148,17 @@ class Client:
         number = max(self.numbers.last + 1, time.time_ns() // 1000)
         if number > GREATEST_NUMBER:
             raise OverflowError(f"no number is left to {self.caller}")
-        self.numbers.keep(number, {"kind": kind, **members})
-        return self.resume()
+        request = {"kind": kind, **members}
+        self.numbers.keep(number, request)
+        return self.send(request)
 
     def resume(self) -> Optional[Reply]:
         """Sends what has no answer yet again, and gives its reply; None where all were answered."""
         request = self.numbers.request
-        if request is None:
-            return None
+        return None if request is None else self.send(request)
+
+    def send(self, request: dict[str, Any]) -> Reply:
+        """Sends the request that has no answer yet, under the last number, and gives its reply."""
         headers = {**self.headers, "Request-Number": str(self.numbers.last), "Content-Type": "application/json"}
         try:
             reply = self.answer("POST", "/requests", json.dumps(request).encode(), headers)
@@ -276,15 +281,15 @@ def meant(status: int, text: bytes) -> dict[str, Any]:
     raise Unexpected(status, text)
 
 
-def main():
-    words = argparse.ArgumentParser(description="Sends requests, one of JSON on each line, to a served register.")
-    words.add_argument("--address", default="http://127.0.0.1:8420")
-    words.add_argument("--caller", required=True)
-    words.add_argument("--numbers", required=True, metavar="FILE", help="the file of the last number")
-    words.add_argument("--patience", type=float, default=60, metavar="SECONDS")
-    words.add_argument("--password", metavar="FILE", help="the file with the caller's password, for nginx")
-    words.add_argument("--trust", metavar="FILE", help="the certificate of who signed that of an https address")
-    words = words.parse_args()
+def main() -> int:
+    parser = argparse.ArgumentParser(description="Sends requests, one of JSON on each line, to a served register.")
+    parser.add_argument("--address", default="http://127.0.0.1:8420")
+    parser.add_argument("--caller", required=True)
+    parser.add_argument("--numbers", required=True, metavar="FILE", help="the file of the last number")
+    parser.add_argument("--patience", type=float, default=60, metavar="SECONDS")
+    parser.add_argument("--password", metavar="FILE", help="the file with the caller's password, for nginx")
+    parser.add_argument("--trust", metavar="FILE", help="the certificate of who signed that of an https address")
+    words = parser.parse_args()
     try:
         password = words.password and first_line(words.password)
         context = ssl.create_default_context(cafile=words.trust) if words.trust else None
@@ -298,17 +303,17 @@ def main():
         return 2
 
 
-def first_line(path):
+def first_line(path: str) -> str:
     with open(path, encoding="utf-8") as file:
         return file.readline().rstrip("\n")
 
 
-def told(word, reply):
+def told(word: str, reply: Reply) -> None:
     """Prints a reply as a reply line has it."""
     print(word, reply.key, reply.state or "-", reply.moment, flush=True)
 
 
-def typed(office, lines):
+def typed(office: Client, lines: Iterable[str]) -> int:
     """Sends what has no answer yet, and then the request of each line; the status is 1 where one was refused."""
     status, resumed = 0, office.resume()
     if resumed:

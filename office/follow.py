@@ -23,12 +23,14 @@ import argparse
 import contextlib
 import itertools
 import os
+import sqlite3
 import subprocess
 import sys
+from typing import Any, Iterable, Iterator, Optional
 
 # What is read from beside this file leaves none there.
 sys.dont_write_bytecode = True
-from register_rules import STATES, text_of
+from register_rules import STATES, Row, text_of
 from replay import Unreadable, columns_of, opened, row_place
 
 # How often a copy is begun anew of a register that is written to meanwhile.
@@ -39,13 +41,13 @@ ROWS = "SELECT caller, number, command, key_no, state, moment FROM request NOT I
 class Fault(Exception):
     """What ends a call with another status than 0."""
 
-    def __init__(self, status, text):
+    def __init__(self, status: int, text: str) -> None:
         super().__init__(text)
         self.status = status
 
 
 @contextlib.contextmanager
-def reading(path):
+def reading(path: str) -> Iterator[sqlite3.Connection]:
     try:
         with opened(path, TRIES) as connection:
             yield connection
@@ -53,19 +55,19 @@ def reading(path):
         raise Fault(2, f"{path} cannot be read: {fault}") from None
 
 
-def rows_of(connection):
+def rows_of(connection: sqlite3.Connection) -> Iterator[Row]:
     """The rows of `request`; none where there is no such table yet."""
     if connection.execute("SELECT count(*) FROM sqlite_schema WHERE lower(name) = 'request'").fetchone()[0]:
         for row in connection.execute(ROWS + row_place(columns_of(connection, "request"))):
             yield row
 
 
-def shown(row):
+def shown(row: Row) -> str:
     caller, number, command, *_, moment = row
     return f"{moment} {caller!r} {number} {command!r}"
 
 
-def further(rows, standby):
+def further(rows: Iterator[Row], standby: str) -> int:
     """How many requests the standby has, which have to be the first of the rows. The rows go on behind them."""
     with reading(standby) as connection:
         place = 0
@@ -79,7 +81,7 @@ def further(rows, standby):
     return place
 
 
-def has_tables(standby):
+def has_tables(standby: str) -> bool:
     """Whether there is a register, so that none is made. A call may have been ended between a file and its tables."""
     if not os.path.exists(standby) or not os.path.getsize(standby):
         return False
@@ -87,17 +89,18 @@ def has_tables(standby):
         return bool(connection.execute("SELECT count(*) FROM sqlite_schema").fetchone()[0])
 
 
-def run(words, **how):
+def run(words: list[str], **how: Any) -> subprocess.Popen[bytes]:
     try:
         return subprocess.Popen(words, **how)
     except OSError as fault:
         raise Fault(3, f"{words[0]}: {fault.strerror}") from None
 
 
-def give(rows, standby, program):
+def give(rows: Iterable[Row], standby: str, program: str) -> tuple[int, Optional[int]]:
     """Gives the rows to the standby, each when the one before it is answered; their count, and the last moment."""
     count, moment = 0, None
     with run([program, "run", "--file", standby], stdin=subprocess.PIPE, stdout=subprocess.PIPE) as register:
+        assert register.stdin and register.stdout
         with contextlib.suppress(BrokenPipeError):
             for caller, number, command, key, state, moment in rows:
                 line = f"{moment} {caller} {number} {command}\n"
@@ -119,7 +122,7 @@ def give(rows, standby, program):
     return count, moment
 
 
-def follow(source, standby, program):
+def follow(source: str, standby: str, program: str) -> str:
     """The line of a standby that has all."""
     with reading(source) as connection:
         if not has_tables(standby) and run([program, "init", "--file", standby]).wait():
@@ -132,17 +135,17 @@ def follow(source, standby, program):
     return f"{count} requests given, {before + count} in all, up to {text_of(moment or 0)}"
 
 
-def main():
-    words = argparse.ArgumentParser(description="Gives a second register what a register has more than it.")
-    words.add_argument("register")
-    words.add_argument("standby")
-    words.add_argument("--keyreg", metavar="PROGRAM", default="keyreg")
-    words = words.parse_args()
+def main() -> int:
+    parser = argparse.ArgumentParser(description="Gives a second register what a register has more than it.")
+    parser.add_argument("register")
+    parser.add_argument("standby")
+    parser.add_argument("--keyreg", metavar="PROGRAM", default="keyreg")
+    words = parser.parse_args()
     status = 0
     try:
         end = follow(words.register, words.standby, words.keyreg)
     except Fault as fault:
-        status, end = fault.status, fault
+        status, end = fault.status, str(fault)
     line = f"{words.standby}: {end}".encode(errors="backslashreplace").decode()
     print(line, file=sys.stderr if status else sys.stdout)
     return status

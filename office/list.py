@@ -38,6 +38,7 @@ import sqlite3
 import sys
 import tempfile
 import time
+from typing import Any, Callable, Iterable, Iterator, Mapping, Optional
 
 # What is read from beside this file leaves none there.
 sys.dont_write_bytecode = True
@@ -55,24 +56,24 @@ COLUMNS = ("type", "owner", "purpose", "initial", *DATES, "need", "custodians", 
 json_text = json.JSONEncoder(ensure_ascii=False).encode
 
 
-def as_bytes(text):
+def as_bytes(text: str) -> bytes:
     """The bytes of a text of JSON. What is no UTF-8 in a register is an escape."""
     return text.encode(errors="backslashreplace")
 
 
-class Names(dict):
+class Names(dict[str, int]):
     """The places of names, in the order in which they are asked for."""
 
-    def __missing__(self, name):
+    def __missing__(self, name: str) -> int:
         return self.setdefault(name, len(self))
 
 
-def has_table(connection, name):
+def has_table(connection: sqlite3.Connection, name: str) -> bool:
     asked = "SELECT count(*) FROM sqlite_schema WHERE type = 'table' AND lower(name) = ?"
     return bool(connection.execute(asked, [name]).fetchone()[0])
 
 
-def without_key(command):
+def without_key(command: str) -> str:
     """A command's text without the key that it names; of a registration the word alone, since the key has the rest."""
     word, _, rest = command.partition(" ")
     rest = rest.partition(" ")[2]
@@ -83,11 +84,12 @@ class Beside:
     """What rows that begin with the number of a key give beside it, in the order of these numbers, so that one alone is
     held; of each key that of so many rows at most, the last ones."""
 
-    def __init__(self, connection, asked, cell, most=None):
+    def __init__(self, connection: sqlite3.Connection, asked: str, cell: Callable[..., str],
+                 most: Optional[int] = None) -> None:
         self.groups = itertools.groupby(connection.execute(asked), operator.itemgetter(0))
         self.cell, self.most, self.ahead = cell, most, next(self.groups, END)
 
-    def of(self, number):
+    def of(self, number: int) -> str:
         """The cells of this key, which comes after those that were asked for before it."""
         while self.ahead[0] < number:
             self.ahead = next(self.groups, END)
@@ -95,16 +97,16 @@ class Beside:
         return f"[{','.join(itertools.starmap(self.cell, rows))}]"
 
 
-def rows_of(connection, names, requests):
+def rows_of(connection: sqlite3.Connection, names: Names, requests: int) -> Iterator[tuple[str, ...]]:
     """Each key's cells as JSON."""
     custodians, approvals = (
         Beside(connection, f"SELECT key_no, name FROM {table} WHERE typeof(key_no) = 'integer' "
                            "ORDER BY key_no, name COLLATE BINARY", lambda _, name: str(names[name]))
         for table in ("custodian", "approval"))
     needs = dict(connection.execute("SELECT key_no, need FROM quorum")) if has_table(connection, "quorum") else {}
-    place = row_place(columns_of(connection, "request"))
+    rowid = row_place(columns_of(connection, "request"))
     last = Beside(connection, "SELECT key_no, moment, caller, command FROM request NOT INDEXED "
-                              f"WHERE typeof(key_no) = 'integer' AND key_no > 0 ORDER BY key_no, {place}",
+                              f"WHERE typeof(key_no) = 'integer' AND key_no > 0 ORDER BY key_no, {rowid}",
                   lambda _, moment, caller, command: f"{moment},{names[caller]},{json_text(without_key(command))}",
                   requests)
     asked = ("SELECT number, kind, owner, purpose, initial, activation, protect_stop, deactivation, destroyed, "
@@ -117,7 +119,7 @@ def rows_of(connection, names, requests):
                custodians.of(number), approvals.of(number), last.of(number))
 
 
-def columns(connection, names, requests):
+def columns(connection: sqlite3.Connection, names: Names, requests: int) -> dict[str, bytearray]:
     """The columns of the keys as JSON, in bytes, by their names."""
     made, rows = {name: bytearray() for name in COLUMNS}, rows_of(connection, names, requests)
     while some := list(itertools.islice(rows, 1000)):
@@ -126,7 +128,7 @@ def columns(connection, names, requests):
     return made
 
 
-def list_of(path, most, requests):
+def list_of(path: str, most: int, requests: int) -> tuple[dict[str, Any], Optional[dict[str, bytearray]]]:
     """The list of a register: its members before `keys`, and the columns of the keys, where there are not too many."""
     made = int(time.time())
     with opened(path, TRIES) as connection:
@@ -145,7 +147,7 @@ def list_of(path, most, requests):
             "types": TYPES}, keys
 
 
-def pieces_of(members, keys):
+def pieces_of(members: dict[str, Any], keys: Optional[Mapping[str, bytes]]) -> Iterator[bytes]:
     """The list in pieces of bytes."""
     yield as_bytes(json.dumps(members, ensure_ascii=False, separators=(",", ":"))[:-1] + ',"keys":')
     for place, (name, cells) in enumerate((keys or {}).items()):
@@ -155,7 +157,7 @@ def pieces_of(members, keys):
     yield b"}}" if keys else b"null}"
 
 
-def put(path, pieces):
+def put(path: str, pieces: Iterable[bytes]) -> int:
     """Moves a file of these bytes into the place, whole; how many there are."""
     handle, other = tempfile.mkstemp(prefix=".list-", dir=os.path.dirname(os.path.abspath(path)))
     try:
@@ -172,13 +174,13 @@ def put(path, pieces):
     return size
 
 
-def main():
-    words = argparse.ArgumentParser(description="Makes the list that the desk in the browser finds keys by.")
-    words.add_argument("register")
-    words.add_argument("list")
-    words.add_argument("--most", type=int, default=100_000, metavar="KEYS")
-    words.add_argument("--requests", type=int, default=5, metavar="COUNT")
-    words = words.parse_args()
+def main() -> int:
+    parser = argparse.ArgumentParser(description="Makes the list that the desk in the browser finds keys by.")
+    parser.add_argument("register")
+    parser.add_argument("list")
+    parser.add_argument("--most", type=int, default=100_000, metavar="KEYS")
+    parser.add_argument("--requests", type=int, default=5, metavar="COUNT")
+    words = parser.parse_args()
     try:
         members, keys = list_of(words.register, words.most, words.requests)
         size = put(words.list, pieces_of(members, keys))

@@ -10,6 +10,7 @@ neighbour bears. Room that was never written is no frame.
 import collections
 import os
 import struct
+from typing import BinaryIO, Iterator
 
 MAGIC = {0x377F0682: "<", 0x377F0683: ">"}
 SIZES = [2 ** power for power in range(9, 17)]
@@ -19,7 +20,7 @@ EARLIER, WAITING, DAMAGED, BEHIND = KINDS = (
 HEADER, FRAME = struct.Struct(">8I"), struct.Struct(">6I")
 
 
-def summed(sums, data, order):
+def summed(sums: tuple[int, int], data: bytes, order: str) -> tuple[int, int]:
     """The sum of the data after this one."""
     one, other = sums
     words = struct.unpack(f"{order}{len(data) // 4}I", data)
@@ -29,7 +30,8 @@ def summed(sums, data, order):
     return one, other
 
 
-def frames_of(file, order, size, salts, sums):
+def frames_of(file: BinaryIO, order: str, size: int, salts: tuple[int, ...],
+              sums: tuple[int, int]) -> Iterator[tuple[bool, bool, bool]]:
     """Of each frame, which has a page of so many bytes: whether it is of this log, whether its sum goes on from the
     one before it, and whether it ends a transaction. Room between frames was written once, and is of this log."""
     room = 0
@@ -45,9 +47,9 @@ def frames_of(file, order, size, salts, sums):
         sums = one, other
 
 
-def counted(path):
+def counted(path: str) -> tuple[int, collections.Counter[str]]:
     """How many frames count, and of those that follow how many are of each kind."""
-    counts, others = 0, collections.Counter()
+    counts, others = 0, collections.Counter[str]()
     with open(path, "rb") as file:
         head = file.read(HEADER.size)
         if len(head) < HEADER.size:

@@ -30,6 +30,7 @@ import subprocess
 import sys
 import time
 from datetime import datetime, timezone
+from typing import Any, Optional, Sequence, Union
 
 # What is read from beside this file leaves none there.
 sys.dont_write_bytecode = True
@@ -47,7 +48,7 @@ class Failed(Exception):
     """A step that ends the night."""
 
 
-def copied(file, copy):
+def copied(file: pathlib.Path, copy: pathlib.Path) -> None:
     """Copies the database, then its log, until the database did not change in between."""
     for _ in range(TRIES):
         if is_copied(str(file), str(copy)):
@@ -57,16 +58,16 @@ def copied(file, copy):
     raise Failed(f"{file} changed under each of {TRIES} copies")
 
 
-def ran(words, step, **more):
+def ran(words: Sequence[Union[str, pathlib.Path]], step: str, **more: Any) -> None:
     """Runs a step's program; what it prints goes where ours goes."""
     status = subprocess.run([str(word) for word in words], check=False, **more).returncode
     if status:
         raise Failed(f"{step}: status {status}")
 
 
-def looked_at(night, last, program):
+def looked_at(night: pathlib.Path, last: pathlib.Path, program: str) -> None:
     """Holds the copy to its requests and to the last good one, and has it exported and drawn."""
-    since = ["--since", last / NAME] if last.exists() else []
+    since = ["--since", str(last / NAME)] if last.exists() else []
     ran([sys.executable, HERE / "replay.py", *since, night / NAME], "replay.py")
     with open(night / "export.csv", "wb") as table:
         ran([program, "export", "--file", night / NAME], "the export", stdout=table)
@@ -74,7 +75,7 @@ def looked_at(night, last, program):
         ran([sys.executable, HERE / "timeline.py"], "timeline.py", stdin=table, stdout=page)
 
 
-def room_on(night, hundredths, nights):
+def room_on(night: pathlib.Path, hundredths: float, nights: int) -> None:
     """Tells how full the disk is. It has no room where both are lacking: a share of it, and room for so many nights."""
     disk, size = shutil.disk_usage(night), sum(path.stat().st_size for path in night.iterdir())
     free, more = 100 * disk.free / disk.total, disk.free // size
@@ -84,7 +85,7 @@ def room_on(night, hundredths, nights):
                      f"{more} nights, fewer than {nights}")
 
 
-def watched(night, stale):
+def watched(night: pathlib.Path, stale: Optional[int]) -> None:
     """How old the latest accepted moment is."""
     with contextlib.closing(sqlite3.connect(f"file:{night / NAME}?mode=ro", uri=True)) as copy:
         (latest,) = copy.execute("SELECT latest FROM meta").fetchone()
@@ -98,14 +99,14 @@ def watched(night, stale):
         raise Failed(f"the latest accepted moment is {age} seconds old: more than {stale}")
 
 
-def tidied(folder, nights):
+def tidied(folder: pathlib.Path, nights: int) -> None:
     """Removes the oldest nights beyond so many, and none that `last` leads to."""
     for path in sorted(path for path in folder.glob("20*") if path.is_dir())[:-nights]:
         if path.resolve() != (folder / LAST).resolve():
             shutil.rmtree(path)
 
 
-def spent(words):
+def spent(words: argparse.Namespace) -> None:
     """One night."""
     folder = pathlib.Path(words.folder)
     name = datetime.now(timezone.utc).strftime("%Y-%m-%dT%H-%M-%SZ")
@@ -123,7 +124,7 @@ def spent(words):
     print(f"{night}: as its requests give" + (f", and as {before} had it" if before else ""), flush=True)
 
 
-def main():
+def main() -> int:
     words = argparse.ArgumentParser(description="A nightly look at a register.")
     words.add_argument("--file", required=True)
     words.add_argument("--folder", required=True)

@@ -31,11 +31,14 @@ so does replay.py. The last line counts. The status is
 """
 import argparse
 import os
+import sqlite3
 import sys
+from typing import Iterable, Iterator, Optional, Union
 
 # What is read from beside this file leaves none there.
 sys.dont_write_bytecode = True
-from register_rules import LAST, MOMENT_TEXT, STATES, Refused, Register, command_text, line, moment_of, text_of
+from register_rules import (LAST, MOMENT_TEXT, STATES, Refused, Register, Request, Row, command_text, line, moment_of,
+                            text_of)
 from replay import Keys, Unreadable, accepted_of, columns_of, opened, row_place
 
 ROW = (str, int, str, int, int, int)
@@ -44,19 +47,21 @@ ROW = (str, int, str, int, int, int)
 class Choice:
     """Which requests of a copy are written: all but those after a moment and those that are named."""
 
-    def __init__(self, connection, until, without):
-        self.connection, self.until, self.without, self.named = connection, until, without, set()
+    def __init__(self, connection: sqlite3.Connection, until: int, without: set[tuple[str, int]]) -> None:
+        self.connection, self.until, self.without = connection, until, without
+        self.named = set[tuple[str, int]]()
         twice = "SELECT caller, number FROM request NOT INDEXED GROUP BY caller, number HAVING count(*) > 1"
         self.twice, self.goes_by_moments = set(connection.execute(twice)), True
         self.place = row_place(columns_of(connection, "request"))
 
-    def rows(self):
+    def rows(self) -> Iterator[tuple[Row, Optional[Request], Optional[str]]]:
         """Each row, by its moment and then its place, with its request, if it is one, and why it is left out."""
         columns = f"{self.place}, caller, number, command, key_no, state, moment"
-        asked, last, came = f"SELECT {columns} FROM request NOT INDEXED ORDER BY moment, {self.place}", None, set()
-        for place, *row in self.connection.execute(asked):
+        asked, last, came = f"SELECT {columns} FROM request NOT INDEXED ORDER BY moment, {self.place}", None, set[Row]()
+        for place, *cells in self.connection.execute(asked):
             self.goes_by_moments &= last is None or last < place
-            request, last, name = read_request(row), place, tuple(row[:2])
+            row, last = tuple(cells), place
+            request, name = read_request(row), row[:2]
             if request is None:
                 yield row, None, "it is no request"
             elif name in came:
@@ -69,36 +74,38 @@ class Choice:
                 yield row, request, None
 
 
-def read_request(row):
+def read_request(row: Row) -> Optional[Request]:
     """The request of a row, or None. A text with a line's end in it would be two lines: it is none."""
     if tuple(map(type, row)) != ROW:
         return None
     try:
-        return accepted_of(tuple(row), 2)
+        return accepted_of(row, 2)
     except ValueError:
         return None
 
 
-def shown(row):
+def shown(row: Row) -> str:
     """A row as it is printed. Characters that a terminal obeys are escaped."""
     caller, number, command, *_, at = row
     return f"{at} {caller if type(caller) is str and caller.isprintable() else repr(caller)} {number!r} {command!r}"
 
 
-def text_of_request(request):
+def text_of_request(request: Request) -> str:
     return shown((request.caller, request.number, command_text(request.command), request.moment))
 
 
 class Foreseen:
     """What keyreg will answer to the requests that are written, beside what it answered first."""
 
-    def __init__(self):
-        self.register, self.old = Register(), {}
+    def __init__(self) -> None:
+        self.register = Register()
         self.register.keys = Keys()
+        # The number that each key had.
+        self.old: dict[int, int] = {}
         # What was left out last of a key, by the number that it had, of a type's periods, and of all registrations.
-        self.lacking = {}
+        self.lacking: dict[Union[int, str], Request] = {}
 
-    def leave_out(self, request, cause=None):
+    def leave_out(self, request: Request, cause: Optional[Request] = None) -> None:
         """Of a request that is refused the cause is what was left out before it, if anything was."""
         cause = cause or request
         if request.word == "set-period":
@@ -108,15 +115,17 @@ class Foreseen:
         if request.word == "register":
             self.lacking["register"] = cause
 
-    def cause(self, request, name):
+    def cause(self, request: Request, name: str) -> Optional[Request]:
         """What is lacking for a request that is refused."""
+        number = request.named
         if name == "UnknownKey":
             return self.lacking.get("register")
-        kind = request.values[0] if request.word == "register" else getattr(
-            self.register.keys.get(request.named), "kind", None)
-        return self.lacking.get(request.named) or self.lacking.get(kind)
+        if number is None:
+            return self.lacking.get(request.values[0]) if request.word == "register" else None
+        key = self.register.keys.get(number)
+        return self.lacking.get(number) or (self.lacking.get(key.kind) if key else None)
 
-    def answer(self, request):
+    def answer(self, request: Request) -> Optional[str]:
         """A line where the answer is another one than was kept, else None."""
         self.register.latest = request.moment
         try:
@@ -137,36 +146,37 @@ class Foreseen:
         return None
 
 
-def foretold(choice):
-    """What is to be said of the choice: its lines, and whether nothing but what was asked for is amiss."""
+def foretold(choice: Choice) -> tuple[list[str], dict[str, int], int, bool]:
+    """What is to be said of the choice: its lines, how many requests there are of each sort, the moment of the last one
+    that is written, and whether nothing but what was asked for is amiss."""
     foreseen, counts, is_well = Foreseen(), dict.fromkeys(("written", "left out", "refused", "otherwise"), 0), True
-    latest = 0
+    latest, lines = 0, list[str]()
     for row, request, why in choice.rows():
-        if why is None:
+        if request and why is None:
             counts["written"] += 1
             latest = request.moment
             answer = foreseen.answer(request)
             if answer:
                 counts[answer.split(":")[0]] += 1
-                yield answer
+                lines.append(answer)
             continue
         counts["left out"] += 1
         is_well &= not why
         if request is not None:
             foreseen.leave_out(request)
-        yield f"left out: {shown(row)}" + f": {why}" * bool(why)
+        lines.append(f"left out: {shown(row)}" + f": {why}" * bool(why))
     if not choice.goes_by_moments:
-        yield "order: the rows do not go by their moments: another program than keyreg put them so"
-    yield counts, latest, is_well and not counts["refused"] + counts["otherwise"]
+        lines.append("order: the rows do not go by their moments: another program than keyreg put them so")
+    return lines, counts, latest, is_well and not counts["refused"] + counts["otherwise"]
 
 
-def number_word(text):
+def number_word(text: str) -> int:
     if not (text.isascii() and text.isdigit()):
         raise ValueError(text)
     return int(text)
 
 
-def moment(text):
+def moment(text: str) -> int:
     """A moment as it is typed. By this name argparse says what was wanted."""
     seconds = moment_of(text) if MOMENT_TEXT.fullmatch(text) else number_word(text)
     if not 0 <= seconds <= LAST:
@@ -174,7 +184,7 @@ def moment(text):
     return seconds
 
 
-def read_words():
+def read_words() -> argparse.Namespace:
     words = argparse.ArgumentParser(description="Writes the accepted requests of a register as request lines.")
     words.add_argument("copy")
     words.add_argument("--until", metavar="MOMENT", type=moment, default=LAST)
@@ -187,11 +197,11 @@ def read_words():
     return given
 
 
-def say(text):
+def say(text: str) -> None:
     print(text.encode(errors="backslashreplace").decode(), file=sys.stderr)
 
 
-def write(lines):
+def write(lines: Iterable[str]) -> int:
     """Writes the lines; the status."""
     try:
         for text in lines:
@@ -205,12 +215,12 @@ def write(lines):
     return 0
 
 
-def main():
+def main() -> int:
     words = read_words()
     try:
         with opened(words.copy) as connection:
             choice = Choice(connection, words.until, words.without)
-            *lines, (counts, latest, is_well) = foretold(choice)
+            lines, counts, latest, is_well = foretold(choice)
             missing = sorted(words.without - choice.named)
             for caller, number in missing:
                 say(f"{words.copy}: no accepted request of {caller} has the number {number}")
@@ -221,7 +231,8 @@ def main():
             say(f"{words.copy}: {counts['written']} requests up to {text_of(latest)}, {counts['left out']} left out; "
                 f"{counts['refused']} will be refused, {counts['otherwise']} answered otherwise")
             sys.stderr.flush()
-            return write(line(*request) for _, request, why in choice.rows() if why is None) or int(not is_well)
+            written = (line(*request) for _, request, why in choice.rows() if request and why is None)
+            return write(written) or int(not is_well)
     except Unreadable as fault:
         say(f"{words.copy}: its requests cannot be read: {fault}")
         return 2

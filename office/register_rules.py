@@ -8,7 +8,10 @@ import calendar
 import re
 import time
 from datetime import date, datetime, timedelta
-from typing import Any, Iterable, NamedTuple, Optional, Sequence
+from typing import Any, Iterable, MutableMapping, NamedTuple, Optional, Sequence, TypedDict
+
+# A row of a table.
+Row = tuple[Any, ...]
 
 # ---- moments and usage periods
 
@@ -75,25 +78,32 @@ def plus_months(moment: Optional[int], months: int) -> Optional[int]:
     return moment + 86400 * (date(year, month + 1, min(day.day, last)) - day).days
 
 
-def fitted(dates: Sequence[Optional[int]], period: tuple[int, int], trims: bool) -> dict[str, Optional[int]]:
+class Dates(TypedDict):
+    """The three dates of a usage period."""
+    activation: Optional[int]
+    stop: Optional[int]
+    end: Optional[int]
+
+
+def fitted(dates: Sequence[Optional[int]], period: tuple[int, int], trims: bool) -> Dates:
     """The three dates after Fill, or after Trim, by a usage period."""
     activation, stop, end = dates
     limit, is_past = plus_months(activation, period[0]), False
     if activation is not None and stop is None:
         is_end_first = end is not None and (limit is None or end < limit)
         stop, is_past = (end, False) if is_end_first else (limit, limit is None)
-    if trims and None not in (limit, stop):
+    if trims and limit is not None and stop is not None:
         stop = min(stop, limit)
     last = plus_months(stop, period[1])
     if activation is not None and end is None and stop is not None:
         end, is_past = last, is_past or last is None
-    if trims and None not in (last, end):
+    if trims and last is not None and end is not None:
         end = min(end, last)
     given = [date for date in (activation, stop, end) if date is not None]
     refuse(given != sorted(given), "DateOrder")
     if not trims:
-        refuse(None not in (limit, stop) and stop > limit, "PeriodTooLong", limit=limit)
-        refuse(None not in (last, end) and end > last, "PeriodTooLong", limit=last)
+        refuse(limit is not None and stop is not None and stop > limit, "PeriodTooLong", limit=limit)
+        refuse(last is not None and end is not None and end > last, "PeriodTooLong", limit=last)
     refuse(is_past, "DateRange")
     return {"activation": activation, "stop": stop, "end": end}
 
@@ -102,7 +112,8 @@ def is_long(dates: Iterable[Optional[int]], period: tuple[int, int]) -> bool:
     """Whether the three dates go past a limit of a usage period. One that is past the range limits nothing."""
     activation, stop, end = dates
     limits = plus_months(activation, period[0]), plus_months(stop, period[1])
-    return any(None not in (last, limit) and last > limit for last, limit in zip((stop, end), limits))
+    return any(last is not None and limit is not None and last > limit
+               for last, limit in zip((stop, end), limits))
 
 
 # ---- keys
@@ -137,8 +148,8 @@ class Key(NamedTuple):
     destroyed: Optional[int] = None
     compromised: Optional[int] = None
     occurrence: Optional[int] = None
-    custodians: frozenset = frozenset()
-    approvals: frozenset = frozenset()
+    custodians: frozenset[str] = frozenset()
+    approvals: frozenset[str] = frozenset()
     need: int = 2
     has_set_need: bool = False
 
@@ -194,7 +205,7 @@ def look_at(key: Key, request: "Request") -> None:
 
 def revoked(key: Key, moment: int, reason: int, occurrence: Optional[int]) -> Key:
     if reason not in COMPROMISES:
-        return key._replace(end=moment, stop=min(key.stop, moment))
+        return key._replace(end=moment, stop=moment if key.stop is None else min(key.stop, moment))
     refuse(occurrence is not None and occurrence > moment, "OccurrenceLater")
     return key._replace(compromised=moment, occurrence=key.initial if occurrence is None else occurrence,
                         approvals=frozenset() if key.destroyed is None else key.approvals)
@@ -213,7 +224,7 @@ def dated(key: Key, request: "Request", period: tuple[int, int]) -> Key:
 def after(key: Optional[Key], request: "Request", period: tuple[int, int], version: int) -> Key:
     """The key after a request that names it, by its type's period. A `register` has no key before."""
     word, caller = request.word, request.caller
-    if word == "register":
+    if key is None:
         kind, owner, *dates, purpose = request.values
         return Key(kind, owner, purpose, request.moment, **fitted(dates, period, False))
     look_at(key, request)
@@ -260,7 +271,7 @@ class Request(NamedTuple):
     moment: int
     caller: str
     number: int
-    command: tuple
+    command: tuple[Any, ...]
     key_no: int = 0
     state: int = 0
 
@@ -269,7 +280,8 @@ class Request(NamedTuple):
 
     @property
     def word(self) -> str:
-        return self.command[0]
+        word: str = self.command[0]
+        return word
 
     @property
     def named(self) -> Optional[int]:
@@ -277,7 +289,7 @@ class Request(NamedTuple):
         return self.command[1] if COMMANDS[self.command[0]].fields[:1] == ("key",) else None
 
     @property
-    def values(self) -> tuple:
+    def values(self) -> tuple[Any, ...]:
         """The values of its other fields."""
         return self.command[1 if self.named is None else 2:]
 
@@ -301,7 +313,7 @@ def field_of(form: str, text: str) -> Any:
     raise ValueError(text)
 
 
-def command_of(text: str, version: int = 2) -> tuple:
+def command_of(text: str, version: int = 2) -> tuple[Any, ...]:
     """The command of its text; ValueError where it is none."""
     word, *rest = text.split(" ", 1)
     if word not in COMMANDS or version < COMMANDS[word].since:
@@ -320,7 +332,7 @@ def command_text(command: Sequence[Any]) -> str:
     return " ".join("-" if value is None else str(value) for value in command)
 
 
-def line(moment: int, caller: str, number: int, command: tuple, *_: Any) -> str:
+def line(moment: int, caller: str, number: int, command: Sequence[Any], *_: Any) -> str:
     """The line of a request."""
     return f"{moment} {caller} {number} {command_text(command)}"
 
@@ -339,9 +351,11 @@ class Register:
     """What requests make that are put to it one after the other, by the rules of a version."""
 
     def __init__(self, version: int = 2) -> None:
-        self.version, self.latest, self.set_periods = version, 0, {}
+        self.version, self.latest = version, 0
+        self.set_periods: dict[str, tuple[int, int]] = {}
         # Keys by their numbers, and the accepted requests by caller and number.
-        self.keys, self.kept = {}, {}
+        self.keys: MutableMapping[int, Key] = {}
+        self.kept: dict[tuple[str, int], Request] = {}
 
     def answer(self, request: Request) -> Request:
         """The request with its reply; where it comes again, that which was accepted. A refused one changes nothing."""
@@ -360,17 +374,18 @@ class Register:
         if request.word == "advance":
             return 0, 0
         if request.word == "set-period":
-            self.set_periods[request.values[0]] = request.values[1:]
+            kind, originator, recipient = request.values
+            self.set_periods[kind] = originator, recipient
             return 0, 0
-        is_new, number = request.word == "register", request.named
-        key = self.keys.get(number)
-        if is_new:
+        number, before = request.named, None
+        if number is None:
             number, kind = self.next_number(request), request.values[0]
+        elif before := self.keys.get(number):
+            kind = before.kind
         else:
-            refuse(key is None, "UnknownKey")
-            kind = key.kind
-        key = after(key, request, self.period(kind), self.version)
-        refuse(is_new and len(self.keys) >= MOST_KEYS, "Full")
+            raise Refused("UnknownKey")
+        key = after(before, request, self.period(kind), self.version)
+        refuse(before is None and len(self.keys) >= MOST_KEYS, "Full")
         self.keys[number] = key
         return number, key.state(request.moment)
 
@@ -395,7 +410,7 @@ def date_of(cell: int) -> Optional[int]:
     return None if cell == UNSET else cell
 
 
-def key_rows(number: int, key: Key, latest: int) -> dict[str, list[tuple]]:
+def key_rows(number: int, key: Key, latest: int) -> dict[str, list[Row]]:
     """The rows of a key, by table."""
     dates = (key.activation, key.stop, key.end, key.destroyed, key.compromised, key.occurrence)
     row = (number, TYPES.index(key.kind) + 1, key.owner, key.purpose, key.state(latest), key.initial,
@@ -404,7 +419,7 @@ def key_rows(number: int, key: Key, latest: int) -> dict[str, list[tuple]]:
             "approval": [(number, name) for name in key.approvals], "quorum": [(number, key.need)] * key.has_set_need}
 
 
-def other_rows(register: Register) -> dict[str, list[tuple]]:
+def other_rows(register: Register) -> dict[str, list[Row]]:
     """The rows that are about no key."""
     return {"meta": [(1, register.version, register.latest, len(register.keys))],
             "period": [(TYPES.index(kind) + 1, *months) for kind, months in register.set_periods.items()]}

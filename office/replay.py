@@ -51,11 +51,11 @@ import shutil
 import sqlite3
 import sys
 import tempfile
-from typing import Iterable, Iterator, Sequence
+from typing import Iterable, Iterator, MutableMapping, Optional, Sequence
 
 # What is read from beside this file leaves none there.
 sys.dont_write_bytecode = True
-from register_rules import (GREATEST_NUMBER, LAST, NAME, Key, Refused, Register, Request, command_of, key_rows,
+from register_rules import (GREATEST_NUMBER, LAST, NAME, Key, Refused, Register, Request, Row, command_of, key_rows,
                             other_rows, text_of)
 
 # ---- a file
@@ -101,7 +101,7 @@ def tokens(sql: str) -> list[str]:
             for token in TOKEN.finditer(sql) if not token[1]]
 
 
-def accepted_of(row: Sequence, version: int) -> Request:
+def accepted_of(row: Row, version: int) -> Request:
     """The request of a row of the table `request`; ValueError where it is none by the rules of the version."""
     caller, number, command, key_no, state, moment = row
     if not (NAME.fullmatch(caller) and 1 <= number <= GREATEST_NUMBER and 0 <= moment <= LAST):
@@ -156,8 +156,9 @@ def columns_of(connection: sqlite3.Connection, name: str) -> dict[str, int]:
 class File:
     """The rows of a file's tables, in their order, and what is wrong with the file itself."""
 
-    def __init__(self, connection):
-        self.connection, self.faults = connection, []
+    def __init__(self, connection: sqlite3.Connection) -> None:
+        self.connection = connection
+        self.faults: list[str] = []
         made = {name.lower(): (name, sql) for name, sql in
                 connection.execute("SELECT name, sql FROM sqlite_schema WHERE type = 'table'")}
         has_meta, asked = "meta" in made, "SELECT version FROM meta LIMIT 2"
@@ -178,14 +179,14 @@ class File:
             self.faults += [f"{name} {row}: a cell of another type" for row in mistyped]
         self.look_at_requests()
 
-    def place_of(self, name, sql):
+    def place_of(self, name: str, sql: str) -> str:
         """The name under which a row's place is read. The table has the columns, and none is made of others."""
         columns, wanted = columns_of(self.connection, name), TABLES[name.lower()][0]
         if not columns.keys() >= set(wanted) or any(columns.values()) or not sql.upper().startswith("CREATE TABLE"):
             raise Unreadable(f"it has no table {name} with the columns {wanted}")
         return row_place(columns)
 
-    def further(self):
+    def further(self) -> Iterator[tuple[str, list[str]]]:
         """The triggers and the unique indexes on the tables, each by a name that no table has, in tokens."""
         for kind, name, table, sql in self.connection.execute(
                 "SELECT type, name, tbl_name, sql FROM sqlite_schema WHERE type IN ('trigger', 'index') AND sql <> ''"):
@@ -193,20 +194,21 @@ class File:
                 yield f"{kind} {name}", tokens(sql)
 
     @staticmethod
-    def is_mistyped(name):
+    def is_mistyped(name: str) -> str:
         return " OR ".join(f"typeof({column}) <> '{'text' if column in OF_TEXT else 'integer'}'"
                            for column in TABLES[name][0])
 
-    def rows(self, name, order="", where="1"):
+    def rows(self, name: str, order: str = "", where: str = "1") -> Iterator[Row]:
         """The rows of a table as they stand, or first by a column. No index of it is asked."""
         columns, by = ", ".join(TABLES[name][0]), f"{order}, " if order else ""
         return self.connection.execute(
             f"SELECT {columns} FROM {name} NOT INDEXED WHERE {where} ORDER BY {by}{self.places[name]}")
 
-    def count(self, name):
-        return self.connection.execute(f"SELECT count(*) FROM {name} NOT INDEXED").fetchone()[0]
+    def count(self, name: str) -> int:
+        count: int = self.connection.execute(f"SELECT count(*) FROM {name} NOT INDEXED").fetchone()[0]
+        return count
 
-    def look_at_requests(self):
+    def look_at_requests(self) -> None:
         """Whether their rows go by their moments, which are there twice, and how many share their moment."""
         before = f"lag(moment, 1, -1) OVER (ORDER BY {self.places['request']})"
         self.goes_by_moments = not self.connection.execute(
@@ -220,10 +222,10 @@ class File:
             "SELECT count(*), sum(many), min(moment) FROM (SELECT moment, count(*) AS many FROM request NOT INDEXED "
             "WHERE typeof(moment) = 'integer' GROUP BY moment HAVING many > 1)").fetchone()
 
-    def requests(self, faults=None):
+    def requests(self, faults: Optional[list[str]] = None) -> Iterator[Request]:
         """The requests by their moments, and then as their rows stand. A row that is none is a fault. Of the rows of
         one caller and number the first is taken."""
-        came = set()
+        came = set[Row]()
         for row in self.rows("request", "" if self.goes_by_moments else "moment"):
             place = row[:2]
             if place in came:
@@ -238,31 +240,43 @@ class File:
 
 # ---- the replay
 
-class Keys(dict):
+class Keys(MutableMapping[int, Key]):
     """Keys by their numbers, each in few bytes."""
 
-    def get(self, number):
-        packed = super().get(number)
-        return None if packed is None else Key(*marshal.loads(packed))
+    def __init__(self) -> None:
+        self.packed: dict[int, bytes] = {}
 
-    def __setitem__(self, number, key):
-        super().__setitem__(number, marshal.dumps(tuple(key), 2))
+    def __getitem__(self, number: int) -> Key:
+        return Key(*marshal.loads(self.packed[number]))
+
+    def __setitem__(self, number: int, key: Key) -> None:
+        self.packed[number] = marshal.dumps(tuple(key), 2)
+
+    def __delitem__(self, number: int) -> None:
+        del self.packed[number]
+
+    def __iter__(self) -> Iterator[int]:
+        return iter(self.packed)
+
+    def __len__(self) -> int:
+        return len(self.packed)
 
 
 class Replay(Register):
     """What accepted requests give. What the rules do not give is a fault."""
 
-    def __init__(self, version):
+    def __init__(self, version: int) -> None:
         super().__init__(version)
-        self.keys, self.faults, self.newest, self.should_be = Keys(), [], 0, 0
+        self.keys, self.newest, self.should_be = Keys(), 0, 0
+        self.faults: list[str] = []
 
-    def next_number(self, request):
+    def next_number(self, request: Request) -> int:
         """A key is kept under its reply's number, which is the next one, lest one fault make many."""
         self.should_be = self.newest + 1
         self.newest = request.key_no if request.key_no not in self.keys else self.should_be
         return self.newest
 
-    def take(self, request):
+    def take(self, request: Request) -> None:
         self.latest = request.moment
         try:
             key_no, state = self.accept(request)
@@ -275,7 +289,7 @@ class Replay(Register):
                 self.faults.append(f"{request}: {column} is {kept}, and the rules give {should_be}")
 
 
-def replayed(file, requests):
+def replayed(file: File, requests: Iterable[Request]) -> list[str]:
     """What differs in the file from what the requests give."""
     register, count = Replay(file.version), file.count("request") if sys.stderr.isatty() else 0
     for place, request in enumerate(requests):
@@ -287,22 +301,22 @@ def replayed(file, requests):
     return register.faults + other + list(key_differences(file, register))
 
 
-def by_number(name, rows):
+def by_number(name: str, rows: Iterable[Row]) -> Iterator[tuple[int, str, Row]]:
     """Rows with the number of the key that each is about, and with the name of their table."""
     return ((row[0], name, row) for row in rows)
 
 
-def key_differences(file, register):
+def key_differences(file: File, register: Replay) -> Iterator[str]:
     """A line for each difference in the tables that are about keys, by key, so that the rows of one alone are held."""
     firsts = {name: TABLES[name][0][0] for name in ("keys", "custodian", "approval", "quorum") if name in file.kept}
     found = (by_number(name, file.rows(name, first, f"typeof({first}) = 'integer'")) for name, first in firsts.items())
     number_of = operator.itemgetter(0)
     merged = heapq.merge(*found, by_number("", zip(sorted(register.keys))), key=number_of)
     for number, group in itertools.groupby(merged, number_of):
-        rows = collections.defaultdict(list)
+        rows = collections.defaultdict[str, list[Row]](list)
         for _, name, row in group:
             rows[name].append(row)
-        wanted = key_rows(number, register.keys.get(number), register.latest) if "" in rows else {}
+        wanted = key_rows(number, register.keys[number], register.latest) if "" in rows else {}
         for name in firsts:
             if rows[name] != wanted.get(name, []):
                 yield from differences(name, rows[name], wanted.get(name, ()))
@@ -310,10 +324,10 @@ def key_differences(file, register):
         yield from differences(name, file.rows(name, where=f"typeof({first}) <> 'integer'"), ())
 
 
-def differences(name, rows, wanted):
+def differences(name: str, rows: Iterable[Row], wanted: Iterable[Row]) -> Iterator[str]:
     """A line for each cell and each row of a table that is not as the requests give."""
     columns, width = TABLES[name]
-    given, seen = {row[:width]: row for row in wanted}, set()
+    given, seen = {row[:width]: row for row in wanted}, set[Row]()
     for row in rows:
         place = row[:width]
         label = f"{name} {place if width > 1 else place[0]}"
@@ -334,7 +348,7 @@ def by_moment(requests: Iterable[Request]) -> list[list[Request]]:
     return [list(group) for _, group in itertools.groupby(requests, lambda request: request.moment)]
 
 
-def lines_of_order(file, ordered, met_bound):
+def lines_of_order(file: File, ordered: Optional[list[Request]], met_bound: bool) -> Iterator[str]:
     """Lines that say where the file tells no order, and which one was taken."""
     moments, requests, first = file.shared
     if not file.goes_by_moments:
@@ -350,7 +364,7 @@ def lines_of_order(file, ordered, met_bound):
         yield "order: the bound was met: not all orders of requests at one moment were tried"
 
 
-def defined_since(earlier, file):
+def defined_since(earlier: File, file: File) -> Iterator[str]:
     """What is defined otherwise than in the earlier copy. The tables that version 2 adds may have come."""
     for name in {**earlier.defined, **file.defined}:
         now, then = file.defined.get(name), earlier.defined.get(name)
@@ -359,7 +373,7 @@ def defined_since(earlier, file):
                    f"{' '.join(then or ['none'])}")
 
 
-def since(earlier, file):
+def since(earlier: File, file: File) -> list[str]:
     """What of an earlier copy's requests is not here as it was and in its order, and what came in among them."""
     now = file.rows("request")
     if all(next(now, None) == row for row in earlier.rows("request")):
@@ -369,7 +383,7 @@ def since(earlier, file):
     return list(since_in_detail(earlier, file))
 
 
-def since_in_detail(earlier, file):
+def since_in_detail(earlier: File, file: File) -> Iterator[str]:
     """The same of copies that are known to differ, whose rows are all held."""
     now, then = ({row[:2]: row for row in copy.rows("request")} for copy in (file, earlier))
     latest = max((row[5] for row in then.values()), default=0)
@@ -391,9 +405,10 @@ def since_in_detail(earlier, file):
                f"{len(among)} rows do")
 
 
-def judged(file):
+def judged(file: File) -> tuple[list[str], list[str], bool]:
     """What differs, and what is to be said of the order; whether it is another one than the rows'."""
-    faults, ordered, met_bound = replayed(file, file.requests(file.faults)), None, False
+    faults, met_bound = replayed(file, file.requests(file.faults)), False
+    ordered: Optional[list[Request]] = None
     if faults and file.shared[0]:
         try:
             # It stands beside this file. Where it does not, no other order is looked for.
@@ -411,7 +426,7 @@ def judged(file):
     return file.faults + faults, order, bool(ordered) or not file.goes_by_moments
 
 
-def lines_of_log(path):
+def lines_of_log(path: str) -> list[str]:
     """What is to be said of the log: how much of it counts."""
     if not os.path.exists(path + "-wal"):
         return ["log: none is beside it. If it had one, requests may be missing that stood there alone"]
@@ -422,12 +437,12 @@ def lines_of_log(path):
     return log_frames.lines_of_log(path + "-wal")
 
 
-def main():
-    words = argparse.ArgumentParser(description="Tells whether a register is what its accepted requests give.")
-    words.add_argument("copy")
-    words.add_argument("--since", metavar="EARLIER", help="an earlier copy of the same register")
-    words = words.parse_args()
-    path, before = words.copy, []
+def main() -> int:
+    parser = argparse.ArgumentParser(description="Tells whether a register is what its accepted requests give.")
+    parser.add_argument("copy")
+    parser.add_argument("--since", metavar="EARLIER", help="an earlier copy of the same register")
+    words = parser.parse_args()
+    path, before = words.copy, list[str]()
     try:
         with opened(path) as connection:
             file = File(connection)

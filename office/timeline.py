@@ -29,6 +29,7 @@ import time
 import unicodedata
 from datetime import datetime, timedelta
 from html import escape
+from typing import Any, Iterable, Iterator, Sequence
 
 from register_rules import EPOCH, STATES as NAMES, moment_of, state_at, text_of
 
@@ -48,7 +49,7 @@ STATES = {
 STYLE, SCRIPT = (pathlib.Path(__file__).with_suffix(end).read_text(encoding="utf-8") for end in (".css", ".js"))
 
 
-def shown(text):
+def shown(text: str) -> str:
     """A text of a key for the page: what would not be seen, or would move other text, stands by its number."""
     if text.isascii() and text.isprintable():
         return text
@@ -56,7 +57,7 @@ def shown(text):
                    for mark in text)
 
 
-def keys_of(text):
+def keys_of(text: str) -> Iterator[dict[str, Any]]:
     table = csv.DictReader(io.StringIO(text, newline=""))
     missing = [name for name in COLUMNS if name not in (table.fieldnames or [])]
     if missing:
@@ -68,7 +69,7 @@ def keys_of(text):
 class Scale:
     """Where a moment stands in the picture, in hundredths of its width."""
 
-    def __init__(self, keys, moment):
+    def __init__(self, keys: Sequence[dict[str, Any]], moment: int) -> None:
         dates = [key[name] for key in keys for name in DATES if key[name] is not None] + [moment]
         far = YEARS_SHOWN * 366 * DAY
         years = [(EPOCH + timedelta(seconds=date)).year
@@ -77,18 +78,18 @@ class Scale:
         self.first, self.last = (self.begin(year) for year in (self.years[0], self.years[-1]))
 
     @staticmethod
-    def begin(year):
+    def begin(year: int) -> int:
         return round((datetime(min(year, 9999), 1, 1) - EPOCH).total_seconds())
 
-    def x(self, moment):
+    def x(self, moment: float) -> float:
         part = (moment - self.first) / (self.last - self.first)
         return round(100 * min(max(part, 0), 1), 3)
 
-    def places(self):
+    def places(self) -> list[tuple[int, float]]:
         """The years that have a line, each with its place."""
         return [(year, self.x(self.begin(year))) for year in self.years[:-1][::1 + len(self.years) // 14]]
 
-    def years_drawn(self):
+    def years_drawn(self) -> Iterator[str]:
         """The axis: of narrow pages each second or fourth year alone."""
         for place, (year, x) in enumerate(self.places()):
             fewer = " odd" if place % 2 else " half" if place % 4 else ""
@@ -99,7 +100,7 @@ class Scale:
 NEVER = float("inf")
 
 
-def spans_of(key):
+def spans_of(key: dict[str, Any]) -> list[tuple[str, float, float]]:
     """The spans of a key's line: where it waits for its Activation, where it may protect data, and where it may only
     process what is protected. A compromise ends the second, a destruction the line. One that ends with no date ends at
     NEVER. The desk (desk/rules.js) draws by the same rule."""
@@ -113,7 +114,8 @@ def spans_of(key):
     return [(kind, first, until) for kind, first, until in spans if first < until]
 
 
-def marks_of(key, spans, due, scale):
+def marks_of(key: dict[str, Any], spans: Sequence[tuple[str, float, float]], due: str,
+             scale: Scale) -> Iterator[tuple[Any, ...]]:
     """What happened to a key, and what is due: shapes that differ without a colour. A line that goes on beyond the
     picture has an arrow."""
     bars = [(first, until) for kind, first, until in spans if kind != "wait"]
@@ -129,7 +131,7 @@ def marks_of(key, spans, due, scale):
         yield "r", scale.x(key["protect_stop"])
 
 
-def row_of(key, moment, days, scale):
+def row_of(key: dict[str, Any], moment: int, days: int, scale: Scale) -> list[Any]:
     """What the script draws of a key."""
     stop, due, spans = key["protect_stop"], "", spans_of(key)
     state = NAMES[state_at(moment, *(key[name] for name in ("activation", "deactivation", "destroyed", "compromised")))]
@@ -141,12 +143,12 @@ def row_of(key, moment, days, scale):
             list(marks_of(key, spans, due, scale))]
 
 
-def choice(name, label, values):
+def choice(name: str, label: str, values: Iterable[tuple[str, str]]) -> str:
     options = "".join(f'<option value="{escape(value)}">{escape(text)}</option>' for value, text in values)
     return f'<label>{label} <select name="{name}">{options}</select></label>'
 
 
-def legend():
+def legend() -> Iterator[str]:
     for place, state in enumerate(STATES):
         yield (f'<span><svg viewBox="0 0 34 14"><rect x="1" y="1" width="32" height="12" fill="url(#s{place})" '
                f'stroke="var(--s{place})"/></svg> {state}</span>')
@@ -158,7 +160,7 @@ def legend():
         yield f'<span><svg viewBox="0 0 34 14">{drawn}</svg> {name}</span>'
 
 
-def form_of(keys):
+def form_of(keys: Sequence[dict[str, Any]]) -> str:
     owners = sorted({shown(key["owner"]) for key in keys})
     types = sorted({key["type"] for key in keys})
     pairs = [[("", "all"), *((value, value) for value in values)] for values in (owners, types, STATES)]
@@ -169,7 +171,7 @@ def form_of(keys):
 <button type="button" name="next">next</button></span></form>"""
 
 
-def page_of(keys, moment, days):
+def page_of(keys: Sequence[dict[str, Any]], moment: int, days: int) -> Iterator[str]:
     scale = Scale(keys, moment)
     patterns = "".join(f'<pattern id="s{place}" width="8" height="8" patternUnits="userSpaceOnUse">'
                        f'<rect width="8" height="8" fill="var(--paper)"/>{drawn.format(f"var(--s{place})")}</pattern>'
@@ -204,11 +206,11 @@ protected. A key's number opens all of its texts and dates.</p>
 """
 
 
-def main():
-    words = argparse.ArgumentParser(description="Draws the keys of an export as one page of HTML.")
-    words.add_argument("--at", type=int, default=int(time.time()), metavar="SECONDS")
-    words.add_argument("--days", type=int, default=60)
-    words = words.parse_args()
+def main() -> None:
+    parser = argparse.ArgumentParser(description="Draws the keys of an export as one page of HTML.")
+    parser.add_argument("--at", type=int, default=int(time.time()), metavar="SECONDS")
+    parser.add_argument("--days", type=int, default=60)
+    words = parser.parse_args()
     keys = list(keys_of(sys.stdin.buffer.read().decode("utf-8")))
     for piece in page_of(keys, words.at, words.days):
         sys.stdout.buffer.write(piece.encode())

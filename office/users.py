@@ -23,6 +23,7 @@ import shutil
 import subprocess
 import sys
 import tempfile
+from typing import Iterable, Optional
 
 # What is read from beside this file leaves none there.
 sys.dont_write_bytecode = True
@@ -42,7 +43,7 @@ class Refused(Exception):
     """What is asked cannot be done, and nothing was changed."""
 
 
-def lines_of(path):
+def lines_of(path: str) -> list[str]:
     """The lines of the file, none where it is not there."""
     try:
         with open(path, encoding="utf-8", errors="surrogateescape") as file:
@@ -51,13 +52,13 @@ def lines_of(path):
         return []
 
 
-def name_of(line):
+def name_of(line: str) -> Optional[str]:
     """The user of a line; None of a remark."""
     name, colon, _ = line.partition(":")
     return name if colon and not line.startswith("#") else None
 
 
-def put(path, lines, group):
+def put(path: str, lines: Iterable[str], group: str) -> None:
     """Moves a file of these lines into the place, whole."""
     handle, other = tempfile.mkstemp(prefix=".keyreg-", dir=os.path.dirname(os.path.abspath(path)))
     try:
@@ -79,7 +80,7 @@ def put(path, lines, group):
             os.remove(other)
 
 
-def asked_password(name):
+def asked_password(name: str) -> str:
     """The password that is typed twice in a terminal, or that is the next line of standard input."""
     if not sys.stdin.isatty():
         password = sys.stdin.readline().rstrip("\n")
@@ -92,7 +93,7 @@ def asked_password(name):
     return password
 
 
-def hashed(password):
+def hashed(password: str) -> str:
     """The password as the file has it, by openssl's SHA-512."""
     done = subprocess.run(["openssl", "passwd", "-6", "-stdin"], input=password + "\n", capture_output=True, text=True,
                           check=False)
@@ -101,7 +102,7 @@ def hashed(password):
     return done.stdout.strip()
 
 
-def acted(words):
+def acted(words: argparse.Namespace) -> list[str]:
     """Does what the words ask, and gives the lines that tell it."""
     lines = lines_of(words.file)
     if words.act == "list":
@@ -118,7 +119,7 @@ def acted(words):
     return [LEFT.format(words.name)]
 
 
-def main():
+def main() -> int:
     words = argparse.ArgumentParser(description="Adds, changes and takes out users before a register.")
     acts = words.add_subparsers(dest="act", required=True)
     for act in ("set", "remove", "list"):
