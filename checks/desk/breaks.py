@@ -31,7 +31,8 @@ def waits(reader: Reader, *words: str) -> str:
     """The page says that a request waits, and how it is sent. Gives its number."""
     def number() -> Optional[re.Match]:
         text = reader.text("#kept")
-        return all(word in text for word in ("Not answered yet", *words)) and re.search(r"number (\d+)", text)
+        is_told = all(word in text for word in ("Not answered yet", *words))
+        return re.search(r"number (\d+)", text) if is_told else None
 
     return reader.wait(number, f"a request does not wait with {words}")[1]
 
@@ -212,7 +213,7 @@ def goes_on_as(reader: Reader, user: str) -> None:
 def other_beside(reader: Reader, key: int) -> None:
     """A request acts, and its answer is lost, or it is not sent yet, when the other user logs in beside: it acts once,
     for its own user. No further page is shown meanwhile."""
-    for todo, name in (([], "beside"), (["cut", "503", "503"], "between")):
+    for todo, name in ((list[str](), "beside"), (["cut", "503", "503"], "between")):
         reader.key(key)
         command, before = f"add-custodian {key} {name}", reader.desk.requests()
         if not todo:

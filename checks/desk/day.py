@@ -1,11 +1,12 @@
 """A day of the desk: every command by those whom the rules let give it, what is refused, and what is found. What the
 page has to say comes from docs/SPECIFICATION.md and from office/register_rules.py."""
 import time
+from typing import Callable
 
 from parts import By, Reader
 from registers import STATES
-from register_rules import ACTIVE, ALL, STILL, Register, moment_of, request_of
-from script import expect
+from register_rules import ACTIVE, ALL, STILL, Key, Register, moment_of, request_of
+from script import expect, not_none
 
 
 def second(text: str) -> int:
@@ -135,14 +136,18 @@ def finds(reader: Reader) -> None:
     for caller, number, command, moment in reader.desk.requests():
         rules.answer(request_of(f"{moment} {caller} {number} {command}"))
     states = {number: key.state(now) for number, key in rules.keys.items()}
-    asked = {
+
+    def in_state(code: int) -> Callable[[Key], object]:
+        return lambda key: key.state(now) == code
+
+    asked: dict[str, Callable[[Key], object]] = {
         "": lambda key: True,
         "owner=cat": lambda key: key.owner == "cat", "type=master": lambda key: key.kind == "master",
         "text=SITE+b": lambda key: "site B" in key.purpose,
         "text=disks+ann": lambda key: "disks" in key.purpose and key.owner == "ann",
-        "days=800": lambda key: key.state(now) == ACTIVE and key.stop <= now + 800 * 86400,
+        "days=800": lambda key: key.state(now) == ACTIVE and not_none(key.stop) <= now + 800 * 86400,
         "waits=1": lambda key: key.custodians and len(key.approvals) < key.need and key.state(now) in STILL,
-        **{f"state={STATES[code]}": lambda key, code=code: key.state(now) == code for code in ALL},
+        **{f"state={STATES[code]}": in_state(code) for code in ALL},
     }
     for words, holds in asked.items():
         numbers = [number for number, key in rules.keys.items() if holds(key)]
@@ -170,6 +175,7 @@ def whole_day(ann: Reader, bob: Reader, cat: Reader, office: Reader) -> None:
     # After the last list, which has the key as Active.
     ann.key(third).does(f"revoke {third} 1 -", [("Reason", "1")])
     # What the page did stands over a list that is older, before and after a reload, and the newer list says the same.
-    for begin in (lambda: None, ann.reload, ann.with_list):
+    begins: tuple[Callable[[], object], ...] = (lambda: None, ann.reload, ann.with_list)
+    for begin in begins:
         begin()
         finds(ann)

@@ -24,7 +24,7 @@ import contextlib
 import pathlib
 import re
 import sys
-from typing import Sequence
+from typing import Optional, Sequence
 
 sys.path.insert(1, str(pathlib.Path(__file__).resolve().parents[1] / "shared"))
 from places import OFFICE
@@ -70,7 +70,7 @@ class Office:
     def compared(self) -> int:
         """Compares the register with what the pages and their consoles said; how many requests it has."""
         output_of([sys.executable, "-B", OFFICE / "replay.py", self.desk.copy()])
-        kept = {row[:2]: row[2] for row in self.desk.requests()}
+        kept: dict[tuple[str, Optional[int]], str] = {row[:2]: row[2] for row in self.desk.requests()}
         said = [request for reader in self.readers for request in reader.said]
         numbered = {request[:2]: request[2] for request in said if request[1]}
         wrong = {request: kept.get(request) for request in numbered if kept.get(request) != numbered[request]}

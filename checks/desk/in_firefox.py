@@ -19,12 +19,12 @@ from typing import Any
 sys.path.insert(1, str(pathlib.Path(__file__).resolve().parents[1] / "shared"))
 from nginx import HOST
 from parts import Desk, PASSWORDS
-from script import expect, fresh_folder, verdict
+from script import expect, fail, fresh_folder, verdict
 from serving import PATIENCE, begins_to_listen, free_port
 
 USER, PURPOSE = "ann", "a key of another browser"
 # The name of the desk leads to this machine, and a password may stand in an address.
-PREFERENCES = {"network.dns.localDomains": HOST, "network.http.phishy-userpass-length": 255}
+PREFERENCES: dict[str, Any] = {"network.dns.localDomains": HOST, "network.http.phishy-userpass-length": 255}
 
 
 class Firefox:
@@ -52,7 +52,7 @@ class Firefox:
         """A message: its length in bytes, a colon, and so many bytes of JSON."""
         size = b""
         while not size.endswith(b":"):
-            size += self.messages.read(1) or expect(False, "Firefox ended")
+            size += self.messages.read(1) or fail("Firefox ended")
         return json.loads(self.messages.read(int(size[:-1])))
 
     def call(self, name: str, **parameters: Any) -> Any:

@@ -172,7 +172,8 @@ def as_it_stands(reader: Reader, office: Reader, key: int) -> None:
     """A form begins with what stands, and says what it changes. Where it changes nothing, nothing is sent."""
     reader.key(key).does(f"set-quorum {key} 4", [("Approvals needed", "4")])
     posts = len(reader.desk.line.posts)
-    for kind, fields in (("set-quorum", []), ("set", []), ("assign", [("New owner", reader.user)])):
+    nothing: list[tuple[str, str]] = []
+    for kind, fields in (("set-quorum", nothing), ("set", nothing), ("assign", [("New owner", reader.user)])):
         foretold = reader.key(key).submit(kind, fields)
         expect("Nothing would change" in foretold, f"{kind}: foretold is {foretold}")
         is_not_sent(reader, reader.form(kind), f"{kind} is sent, though it changes nothing")
@@ -192,7 +193,7 @@ def as_it_stands(reader: Reader, office: Reader, key: int) -> None:
         form = reader.form(kind)
         for label, value in fields:
             reader.fill(form, label, value)
-        reader.wait(lambda form=form, words=words: words in form.text, f"{kind} does not say {words!r}: {form.text}")
+        reader.wait(lambda: words in form.text, f"{kind} does not say {words!r}: {form.text}")
 
 
 def first_page(reader: Reader) -> float:

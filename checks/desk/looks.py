@@ -96,7 +96,8 @@ def focused(reader: Reader, page: str) -> None:
 
 def axe_finds_nothing(reader: Reader, page: str) -> None:
     """axe finds nothing in the page as it stands: light, dark and narrow."""
-    for width, how in ((1200, {}), (1200, {"dark": True}), (320, {})):
+    looks: list[tuple[int, dict[str, bool]]] = [(1200, {}), (1200, {"dark": True}), (320, {})]
+    for width, how in looks:
         as_seen(reader.driver, width, **how)
         found = violations(reader.driver)
         expect(not found, f"{page} at {width} {[*how]}: axe finds {found}")
@@ -108,8 +109,9 @@ def looked_at(reader: Reader, page: str) -> int:
     as_seen(reader.driver, 1000)
     parts = named(reader, page)
     focused(reader, page)
+    hows: list[dict[str, bool]] = [{}, {"dark": True}, {"printed": True}]
     for width in WIDTHS:
-        for how in ({}, {"dark": True}, {"printed": True}):
+        for how in hows:
             as_seen(reader.driver, width, **how)
             faint = reader.execute(FAINT)
             expect(not faint, f"{page} at {width} {[*how]}: faint are {faint[:5]}")
@@ -122,7 +124,8 @@ def looked_at(reader: Reader, page: str) -> int:
 def waiting(ann: Reader, bob: Reader, cat: Reader) -> None:
     """bob has keys to approve, one with an approval and one with none, and a key of his own to destroy."""
     keys = {}
-    for owner, part, approving in ((ann, "begun", [cat]), (ann, "guarded", []), (bob, "destroyable", [ann, cat])):
+    for owner, part, approving in ((ann, "begun", [cat]), (ann, "guarded", list[Reader]()),
+                                   (bob, "destroyable", [ann, cat])):
         purpose = f"wrapping keys of the vault in site A, that were replaced, {part}"
         key = keys[part] = register(owner, "key-wrapping", owner.user, purpose)
         owner.adds(key, *(reader.user for reader in (ann, bob, cat) if reader is not owner))

@@ -21,7 +21,7 @@ from places import OFFICE
 from browser import chromium
 from nginx import HOST, Guard
 from registers import File, copy_files, database, new_register
-from script import expect, output_of
+from script import expect, not_none, output_of
 from selenium.common.exceptions import StaleElementReferenceException, WebDriverException
 from selenium.webdriver.common.by import By
 from selenium.webdriver.common.keys import Keys
@@ -41,6 +41,7 @@ ANSWERS = {"409": b'{"name":"Full","refused":20}', "500": b'{"end":31,"name":"St
 class Relay(http.server.BaseHTTPRequestHandler):
     """Passes a request of a browser on to nginx, and the answer back, over a connection that stays."""
     protocol_version = "HTTP/1.1"
+    server: "Line"
 
     def do_GET(self) -> None:
         line, what = self.server, ""
@@ -246,9 +247,9 @@ class Reader:
 
     def fill(self, form: Any, label: str, value: str) -> None:
         """Writes into the field with this label. A date is its text in UTC, as a calendar gives it."""
-        entry = next((field.find_element(By.CSS_SELECTOR, "input, select")
-                      for field in form.find_elements(By.CSS_SELECTOR, ".field")
-                      if field.find_element(By.TAG_NAME, "label").text == label), None)
+        entry: Any = next((field.find_element(By.CSS_SELECTOR, "input, select")
+                           for field in form.find_elements(By.CSS_SELECTOR, ".field")
+                           if field.find_element(By.TAG_NAME, "label").text == label), None)
         expect(entry, f"{self.user}: no field {label!r}")
         if entry.tag_name == "select":
             Select(entry).select_by_value(value)
@@ -294,7 +295,7 @@ class Reader:
         self.wait(lambda: self.find("#said .answer"), "there is no answer", 40)
         words = self.text("#said .answer")
         kinds = [kind for kind in ("accepted", "refused") if self.find(f"#said .answer .{kind}")]
-        begin = "Accepted." if is_wanted else ("Refused", "Not sent", "Given up")
+        begin = ("Accepted.",) if is_wanted else ("Refused", "Not sent", "Given up")
         expect(kinds == ["accepted" if is_wanted else "refused"] and words.startswith(begin)
                and all(word in words for word in wanted), f"{self.user}: not {begin} with {wanted}: {kinds} {words}")
         expect(self.execute("return document.activeElement.className") == "answer",
@@ -304,7 +305,7 @@ class Reader:
     def accepted(self, command: str, *wanted: str) -> str:
         """The answer has to be that this request, as the register keeps it, is accepted. It is written down."""
         words = self.answer(True, *wanted)
-        self.said.append((self.user, int(re.search(r"request number was (\d+)", words)[1]), command))
+        self.said.append((self.user, int(not_none(re.search(r"request number was (\d+)", words))[1]), command))
         return words
 
     def refused(self, name: str, *wanted: str) -> None:

@@ -15,7 +15,7 @@ import pathlib
 import random
 import re
 import sys
-from typing import Any, Iterator, Optional
+from typing import Any, Iterator, Optional, Sequence
 
 sys.path.insert(1, str(pathlib.Path(__file__).resolve().parents[1] / "shared"))
 from places import DESK, read
@@ -23,7 +23,7 @@ from answers import MEMBERS, request_object, shown, usage
 from drawn_registers import DAY, PEOPLE, drawn_command
 from register_rules import (
     COMMANDS, FOR_COMPROMISE, LAST, OFFICE, PERIODS, RANGES, REFUSALS, STATES, Refused, Register, Request, moment_of)
-from script import expect, fresh_folder, options, output_of, verdict
+from script import expect, fresh_folder, not_none, options, output_of, verdict
 
 FIRST = 1_700_000_000
 # The last days of months, of leap years too: a month more has no such day often.
@@ -76,11 +76,11 @@ def commands_of(text: str, all_states: list[str]) -> Iterator[tuple[str, dict[st
         yield word, {"who": who.split()[-1], "states": states_of(states, all_states)}
 
 
-def tables_of(text: str) -> dict[str, dict[str, Any]]:
+def tables_of(text: str) -> dict[str, dict[Any, Any]]:
     """The tables of the document, by the desk's names for them."""
-    states = re.findall("`([^`]*)`", re.search(r"The states are (.*?`) \(the", text, re.DOTALL)[1])
-    reasons = re.search(r"Revocation Reason: (.*?)\.\s", text, re.DOTALL)[1]
-    later = re.search(r"custodians in it\. It has (?:neither|none of) (.*?), so each", text, re.DOTALL)[1]
+    states = re.findall("`([^`]*)`", not_none(re.search(r"The states are (.*?`) \(the", text, re.DOTALL))[1])
+    reasons = not_none(re.search(r"Revocation Reason: (.*?)\.\s", text, re.DOTALL))[1]
+    later = not_none(re.search(r"custodians in it\. It has (?:neither|none of) (.*?), so each", text, re.DOTALL))[1]
     later = {"-".join(name.lower().split()) for name in re.split(r",\s|\s(?:nor|and)\s", later)}
     commands = dict(commands_of(text, states))
     for kinds, members in rows_under(text, "| `kind` | The other members |"):
@@ -95,14 +95,14 @@ def tables_of(text: str) -> dict[str, dict[str, Any]]:
                     for number, name in re.findall(r"(\d)\s+([A-Z][A-Za-z\s]*?)(?:,|$)", reasons)},
         "COMMANDS": commands, "SINCE": {word: 1 + (word in later) for word in {*commands, *later}},
         "RANGES": {"date": [0, LAST]} | {
-            field: [*map(int, re.search(rf"{words}\s+from\s+(\d+)\s+to\s+(\d+)", text).groups())]
+            field: [*map(int, not_none(re.search(rf"{words}\s+from\s+(\d+)\s+to\s+(\d+)", text)).groups())]
             for field, words in (
                 ("key", "A key is a number"), ("need", "a need one"), ("reason", "a reason one"),
                 ("originator", "originator months are a number"), ("recipient", "recipient months one"))},
     }
 
 
-def tables_of_rules() -> dict[str, dict[str, Any]]:
+def tables_of_rules() -> dict[str, dict[Any, Any]]:
     """The same of office/register_rules.py and checks/shared/answers.py, which have no reasons."""
     rows = {**COMMANDS, "revoke for compromise": FOR_COMPROMISE}
     commands = {word: {"who": row.who, "states": [STATES[state] for state in row.states] or None}
@@ -143,7 +143,8 @@ def command_at(chance: random.Random, moment: int, keys: int) -> tuple:
     def date() -> Optional[int]:
         near = [None, moment + chance.randrange(-900, 1900) * DAY, moment + chance.randrange(-9, 9)]
         far = [0, LAST, LAST - chance.randrange(5 * 366 * DAY)]
-        return chance.choice(chance.choices([near, MONTH_ENDS, far], [75, 19, 6])[0])
+        ranges: list[Sequence[Optional[int]]] = [near, MONTH_ENDS, far]
+        return chance.choice(chance.choices(ranges, [75, 19, 6])[0])
 
     key, name = chance.randint(1, keys + 1 if chance.random() < 0.05 else max(keys, 1)), chance.choice(PEOPLE)
     kind = chance.choice(list(PERIODS))
@@ -173,7 +174,8 @@ def drawn(chance: random.Random, count: int) -> Iterator[tuple[Register, Request
                                      ("approve", place), ("destroy", place)])
         caller, who = chance.choice(PEOPLE), COMMANDS[command[0]].who
         # Most come from somebody who may send them.
-        key = register.keys.get(Request(moment, caller, number, command).named)
+        named = Request(moment, caller, number, command).named
+        key = register.keys.get(named) if named else None
         if who == "office" and chance.random() < 0.7:
             caller = OFFICE
         elif key and chance.random() < 0.75:
@@ -184,7 +186,8 @@ def drawn(chance: random.Random, count: int) -> Iterator[tuple[Register, Request
 
 def judged(register: Register, request: Request) -> tuple[dict[str, Any], dict[str, Any]]:
     """The command with what a page knows, and what the rules say, in the desk's words; what they accept is done."""
-    named, wanted = request.named if request.named in register.keys else None, {"shown": None}
+    named = request.named if request.named in register.keys else None
+    wanted: dict[str, Any] = {"shown": None}
     known = {"command": request_object(request.command), "caller": request.caller, "moment": request.moment,
              "latest": register.latest, "key": shown(register, named) if named else None, "count": len(register.keys),
              "periods": {kind: months for kind, months in register.set_periods.items() if months != PERIODS[kind]}}
@@ -197,13 +200,13 @@ def judged(register: Register, request: Request) -> tuple[dict[str, Any], dict[s
     except Refused as refused:
         return known, {"judged": {"refused": refused.number, "name": refused.name, **refused.details}, **wanted}
     after = shown(register, number) if number else None
-    if request.word == "register":
+    if after and request.word == "register":
         del after["number"]
     return known, {"judged": {"key": after}, **wanted}
 
 
 def main() -> None:
-    given, counts = options(__doc__, requests=10_000, seed=69), collections.Counter()
+    given, counts = options(__doc__, requests=10_000, seed=69), collections.Counter[str]()
     count = look_at_tables(*node([]))
     cases = [judged(*found) for found in drawn(random.Random(given.seed), given.requests)]
     _, *judgements = node([known for known, _ in cases])

@@ -85,7 +85,8 @@ def taken_in(reader: Reader, folder: pathlib.Path, good: int = 40) -> None:
     reasons = [re.split("[:,]", row[6])[0] for row in given]
     expect(sorted(reasons) == sorted(REASONS), f"the reasons are {reasons}")
     put_away(reader)
-    for begin in (lambda: None, reader.reload, reader.with_list):
+    begins: tuple[Callable[[], object], ...] = (lambda: None, reader.reload, reader.with_list)
+    for begin in begins:
         begin()
         chosen(reader, folder, *rows)
         judged(reader, 0, 1, 6, good + 1, 0, 1)
@@ -155,7 +156,7 @@ def long_table(reader: Reader, folder: pathlib.Path, count: int) -> str:
     reader.seen(".buttons button.send").click()
     for part in range(1, 5):
         begun, first = time.monotonic(), len(line.posts)
-        reader.wait(lambda part=part: len(line.posts) - before >= count * part // 4, "the rows are not sent", count)
+        reader.wait(lambda: len(line.posts) - before >= count * part // 4, "the rows are not sent", count)
         rates.append((len(line.posts) - first) / (time.monotonic() - begun))
     reader.says(f"{count} of {count} rows answered: {count} accepted", ".progress", 60)
     exchanges = len(line.posts) - before + line.keys_asked - keys_asked

@@ -37,7 +37,8 @@ def stays(reader: Reader) -> int:
     fields = [("Type", "master"), ("Owner", reader.user), ("Purpose", LONG), ("Activation (UTC)", day(1)),
               ("Protect Stop (UTC)", day(9000))]
     # keyreg refuses both, and the second answer is that of a full register.
-    for answers, words in (([], ["PeriodTooLong"]), (["409"], ["Full", "has 1,000,000 keys, and takes no more"])):
+    for answers, words in ((list[str](), ["PeriodTooLong"]),
+                           (["409"], ["Full", "has 1,000,000 keys, and takes no more"])):
         reader.desk.line.todo = answers
         reader.anew("register").submit("register", fields)
         reader.refused(*words)

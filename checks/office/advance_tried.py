@@ -17,7 +17,7 @@ from places import UNITS
 from client import Client
 from registers import database
 from register_rules import GREATEST_NUMBER
-from script import expect, fresh_folder, verdict
+from script import expect, fresh_folder, not_none, verdict
 from serving import Served
 
 # So many seconds a key may still protect as it is served first.
@@ -27,7 +27,7 @@ AHEAD = 3
 def unit_command() -> str:
     """The command that the unit runs, as a shell's text."""
     text = (UNITS / "keyreg-advance.service").read_text(encoding="ascii")
-    line = re.search(r"^ExecStart=/bin/sh -c '(.*)'$", text, re.M)[1]
+    line = not_none(re.search(r"^ExecStart=/bin/sh -c '(.*)'$", text, re.M))[1]
     return line.replace("$$", "$").replace("%%", "%").replace('\\\\"', '\\"')
 
 

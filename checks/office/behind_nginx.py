@@ -34,7 +34,7 @@ import client
 from openapi import unmet_by_nginx
 
 PERIOD = {"kind": "set-period", "type": "master", "originator": 6, "recipient": 0}
-KEY = {"kind": "register", "type": "master", "owner": "bob", "activation": None, "protect_stop": None,
+KEY: dict[str, Any] = {"kind": "register", "type": "master", "owner": "bob", "activation": None, "protect_stop": None,
        "deactivation": None, "purpose": "root"}
 POLICY = "content-security-policy: default-src 'none'; script-src 'self'; style-src 'self'; connect-src 'self';"
 EVIL = "Origin: http://evil.example"
@@ -65,9 +65,8 @@ def asked(place: Place, *lines: str, body: bytes = b"", user: Any = None, word: 
           source: str = "127.0.0.1") -> Answer:
     """The answer to a request; a user gives a password."""
     lines = (*lines, basic(user, word)) if user else lines
-    is_port = isinstance(place, int)
-    with (socket.create_connection(("::1" if ":" in source else "127.0.0.1", place), PATIENCE) if is_port
-          else place.connected(source=source)) as connection:
+    with (socket.create_connection(("::1" if ":" in source else "127.0.0.1", place), PATIENCE)
+          if isinstance(place, int) else place.connected(source=source)) as connection:
         connection.sendall(head(*lines, "Connection: close") + body)
         reply = received(connection)
     first, _, body = reply.partition(b"\r\n\r\n")
@@ -100,9 +99,9 @@ def expect_no_preflight(place: Place, status: int, host: str, *fields: str) -> N
 def behind(guard: Guard) -> None:
     """Who a request that comes by way of nginx is from, and who is refused. A request that says for which user it is
     acts for that one alone."""
-    forged, refused = {"fields": ("Caller: office", "caller: office")}, {"name": "NotOffice", "refused": 21}
-    another = {**KEY, "owner": "another"}
-    cases = [
+    forged: dict[str, Any] = {"fields": ("Caller: office", "caller: office")}
+    refused, another = {"name": "NotOffice", "refused": 21}, {**KEY, "owner": "another"}
+    cases: list[tuple[dict[str, Any], dict[str, Any], int, Any]] = [
         *(({**forged, "user": user, "word": word}, PERIOD, 401, None) for user, word in STRANGERS),
         ({**forged, "user": "alice.meyer"}, PERIOD, 409, refused),
         ({"fields": ("Caller: bob",), "user": "alice.meyer"}, KEY, 200, 1),

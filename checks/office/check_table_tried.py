@@ -21,7 +21,7 @@ from places import DESK
 from check_table import requests_of
 from registers import IMPORT_COLUMNS, File, copy_files, new_register, run_program
 from register_rules import moment_of, text_of
-from script import expect, fresh_folder, output_of, verdict
+from script import expect, fresh_folder, not_none, output_of, verdict
 from tools import exported, run_tool, words_of
 
 CASES, SHEETS, NUMBERS = (json.loads((DESK / "tests" / f"{name}.json").read_text("utf-8"))
@@ -33,8 +33,8 @@ START = "2026-02-01T00:00:00Z"
 RECORDED = [(column, was, now, re.split("[:,]", how)[0]) for column, was, now, how in SHEETS["changed"]]
 # How LibreOffice reads a table: as it proposes, as Windows-1252, and as UTF-8 with each column as text.
 FILTER = "Text - txt - csv (StarCalc)"
-READINGS = {"as it proposes": [], "as Windows-1252": [f"--infilter={FILTER}:44,34,1"],
-            "as text": [f"--infilter={FILTER}:44,34,76,1,1/2/2/2/3/2/4/2/5/2/6/2"]}
+READINGS: dict[str, list[str]] = {"as it proposes": [], "as Windows-1252": [f"--infilter={FILTER}:44,34,1"],
+                                   "as text": [f"--infilter={FILTER}:44,34,76,1,1/2/2/2/3/2/4/2/5/2/6/2"]}
 # What an import refuses for its form, and what is said of it.
 REFUSED = [
     ({"type": "Master"}, "none of the seven"), ({"owner": "two words"}, "no name"), ({"owner": "Müller"}, "no name"),
@@ -190,8 +190,8 @@ def sent_once(folder: pathlib.Path) -> None:
     desk = Desk(folder, [KEY])
     for case in NUMBERS:
         rows = [dict(zip(COLUMNS, case["row"]))] * case["time"]
-        *_, (number, _) = requests_of([*rows[1:], None, {**rows[0], "owner": "zoe"}, rows[0]], case["caller"])
-        expect(number == case["number"], f"{case} has the number {number}")
+        *_, last = requests_of([*rows[1:], None, {**rows[0], "owner": "zoe"}, rows[0]], case["caller"])
+        expect(last and last[0] == case["number"], f"{case} has the number {last}")
     rows = [{**KEY, "purpose": f"volume {place}"} for place in range(1000)]
     lines = requests_written(desk, rows, "intake")
     replies = [run_program(["run", "--file", desk.file], "\n".join([*some, ""]).encode()).stdout.decode().splitlines()
@@ -232,8 +232,9 @@ def all_changed(folder: pathlib.Path, count: int) -> list[float]:
                     for key, of_key in zip(keys, dates)][::way])
         begun, words = time.monotonic(), words_of("check_table", table, "--export", export)
         with subprocess.Popen(words, stdout=subprocess.PIPE, text=True) as process:
-            first, came = process.stdout.readline(), time.monotonic() - begun
-            lines = [first, *process.stdout]
+            output = not_none(process.stdout)
+            first, came = output.readline(), time.monotonic() - begun
+            lines = [first, *output]
         seconds.append(time.monotonic() - begun)
         expect(came < seconds[-1] / 2, f"{form}: the first line came after {came:.1f} of {seconds[-1]:.1f} seconds")
         places = dict(re.findall(r"row (\d+) \(key (\d+)\): deactivation was .*: taken for a date", "".join(lines)))

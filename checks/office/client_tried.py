@@ -22,7 +22,7 @@ from typing import Any, Callable, Optional
 sys.path.insert(1, str(pathlib.Path(__file__).resolve().parents[1] / "shared"))
 from answers import MEMBERS
 from registers import File, database, new_register
-from script import expect, fresh_folder, options, verdict
+from script import expect, fail, fresh_folder, not_none, options, verdict
 from serving import PATIENCE, Served, free_port, received
 from tools import words_of
 from client import Client, NoAnswer, Numbers, Refused, Unexpected
@@ -51,12 +51,12 @@ class Network:
                 self.exchange(near)
 
     def exchange(self, near: socket.socket) -> None:
-        fate = self.fixed or self.chance.choices(list(FATES), FATES.values())[0]
+        fate = self.fixed or self.chance.choices(list(FATES), list(FATES.values()))[0]
         self.fates.append(fate)
         request = b""
         while b"\r\n\r\n" not in request:
             request += near.recv(65536)
-        length = int(re.search(rb"(?i)content-length: (\d+)", request)[1]) if b"POST" in request[:4] else 0
+        length = int(not_none(re.search(rb"(?i)content-length: (\d+)", request))[1]) if b"POST" in request[:4] else 0
         while len(request.partition(b"\r\n\r\n")[2]) < length:
             request += near.recv(65536)
         answer = PAGE % int(fate[:3]) if fate[0] in "45" else b""
@@ -134,16 +134,16 @@ def killed(network: Network, folder: pathlib.Path, count: int) -> int:
 def typed(asking: subprocess.Popen, numbers: pathlib.Path, taken: int, count: int) -> int:
     """Types one request after the other, each after the reply to the one before, until the client is gone; gives how
     many it has taken."""
-    if kept(numbers)[1] and not asking.stdout.readline().startswith("resumed"):
+    if kept(numbers)[1] and not not_none(asking.stdout).readline().startswith("resumed"):
         return taken
     while taken < count:
         request = {"kind": "register", "type": "master", "owner": "bob", "purpose": f"key {taken + 1}",
                    "activation": None, "protect_stop": None, "deactivation": None}
         before, is_answered = kept(numbers)[0], False
         with contextlib.suppress(BrokenPipeError):
-            asking.stdin.write(json.dumps(request) + "\n")
-            asking.stdin.flush()
-            is_answered = asking.stdout.readline().startswith("ok")
+            not_none(asking.stdin).write(json.dumps(request) + "\n")
+            not_none(asking.stdin).flush()
+            is_answered = not_none(asking.stdout).readline().startswith("ok")
         if not is_answered:
             asking.wait()
             return taken + (kept(numbers)[0] != before)
@@ -154,12 +154,12 @@ def typed(asking: subprocess.Popen, numbers: pathlib.Path, taken: int, count: in
 # ---- what is raised
 
 
-def raised(kind: type, call: Callable[..., Any], *words: Any, **more: Any) -> Any:
+def raised(kind: type[Exception], call: Callable[..., Any], *words: Any, **more: Any) -> Any:
     try:
         call(*words, **more)
     except kind as fault:
         return fault
-    return expect(False, f"{call.__name__} {words} raised no {kind.__name__}")
+    fail(f"{call.__name__} {words} raised no {kind.__name__}")
 
 
 def refused(network: Network, folder: pathlib.Path) -> None:
@@ -168,12 +168,13 @@ def refused(network: Network, folder: pathlib.Path) -> None:
     lines = [f"{now} ann 1 register master bob - - - root", f"{now} ann 2 register master ann - - - spare"]
     with Served(lines=lines) as served, Client(network.address, "ann", numbers) as office:
         network.target, network.fixed = served.port, "as it is"
-        for call, words, wanted in (
+        cases: list[tuple[Callable[..., Any], list[Any], tuple[int, str, dict[str, Any]]]] = [
                 (office.activate, [1], (5, "NotOwner", {})), (office.activate, [3], (4, "UnknownKey", {})),
                 (office.destroy, [2], (18, "ApprovalsMissing", {"have": 0, "need": 2})),
                 (office.set, [2, "soon"], (1, "BadLine", {})),
                 (office.revoke, [2, 5], (7, "WrongState", {"state": "Pre-Active"})),
-                (office.key, [3], (4, "UnknownKey", {}))):
+                (office.key, [3], (4, "UnknownKey", {}))]
+        for call, words, wanted in cases:
             fault = raised(Refused, call, *words)
             expect((fault.number, fault.name, fault.values) == wanted, f"{fault}, {fault.values} and not {wanted}")
         with unittest.mock.patch.object(office, "ask", lambda kind, **members: (kind, members)):
@@ -197,7 +198,7 @@ def refused(network: Network, folder: pathlib.Path) -> None:
         network.fixed, office.patience = "request lost", 0.3
         raised(NoAnswer, office.resume)
         network.fixed = "as it is"
-        expect(office.resume().key == 0 and office.resume() is None, "a resumed request has its reply, once")
+        expect(not_none(office.resume()).key == 0 and office.resume() is None, "a resumed request has its reply, once")
         network.fixed = "502"
         raised(NoAnswer, office.advance)
         office.forget()

@@ -96,9 +96,9 @@ def killed_at_random(folder: pathlib.Path, lines: list[str], given: Any, chance:
     expect(counts == sorted(counts), f"the standby lost requests: {counts}")
     expect(len(set(counts)) > 2, f"the standby had {counts} requests: too few looks to tell")
     expect_end(0, f", {count} in all", register, standby)
-    rows = rows_of(standby)
+    held = rows_of(standby)
     for name in wanted:
-        in_order(rows[name], wanted[name], f"at the end: {name}")
+        in_order(held[name], wanted[name], f"at the end: {name}")
     expect_end(0, f": 0 requests given, {count} in all", register, standby)
     return going, count
 
@@ -124,7 +124,8 @@ def no_standbys(folder: pathlib.Path) -> None:
     copy_files(None, fresh)
     two_lines = ("UPDATE request SET command = 'advance' || char(10) || '1 x 1 advance' WHERE rowid = 1",)
     expect_end(1, "is no request", changed(full, two_lines), fresh)
-    for register, standby in ((text, fresh), (folder / "none", fresh), (full, text)):
+    pairs: list[tuple[File, File]] = [(text, fresh), (folder / "none", fresh), (full, text)]
+    for register, standby in pairs:
         expect_end(2, "cannot be read", register, standby)
     expect_end(3, "No such file", full, folder / "other.keyreg", program=folder / "no_program")
     expect_end(3, "could not be made", full, folder / "no_folder" / "other.keyreg")

@@ -113,9 +113,11 @@ def no_requests(copy: File) -> None:
     two_lines = "register master bob - - - x\n300 office 900 set-period master 1 0"
     rows = [("eve", 900, two_lines), ("eve", 900, ""), ("e e", 900, "advance"), ("eve", 0, "advance"),
             ("eve", 900, "register master bob - - - x\r")]
-    twice = [*zip(anew("request")), ("INSERT INTO request SELECT * FROM request WHERE number = 2",)]
+    twice: list[tuple] = [*zip(anew("request")), ("INSERT INTO request SELECT * FROM request WHERE number = 2",)]
     lines = rebuilt(copy)[1]
-    for text, statements in (*(("it is no request", [(put, row)]) for row in rows), ("of this number before", twice)):
+    cases: list[tuple[str, list[tuple]]] = [("it is no request", [(put, row)]) for row in rows]
+    cases.append(("of this number before", twice))
+    for text, statements in cases:
         status, given, said = rebuilt(changed(copy, *statements))
         expect(status == 1 and any(text in line for line in said), f"{statements}: {status}, {said}")
         expect(given == lines, f"{statements}: other lines")

@@ -21,7 +21,7 @@ from command_day import SHORT
 from drawn_registers import DAY, FULL, KINDS, anew, at_one_moment, changed, drawn, made, rows_of
 from registers import TABLES, File, answered_and_killed, columns_of, copy_files, database, keyreg, new_register
 from register_rules import COMMANDS, command_text
-from script import expect, fresh_folder, options, output_of, verdict
+from script import expect, fresh_folder, not_none, options, output_of, verdict
 from tools import many_requests, run_tool, words_of
 
 # So many bytes any requests may take, and each of them.
@@ -201,7 +201,7 @@ def earlier_copies(folder: pathlib.Path, full: File, chance: random.Random) -> i
 
 def remade(table: str, old: str, new: str) -> list[str]:
     """Statements that make a table of the register again with this change of its definition."""
-    made = re.search(rf"(?m)^CREATE TABLE {table} (.*);$", TABLES)[1]
+    made = not_none(re.search(rf"(?m)^CREATE TABLE {table} (.*);$", TABLES))[1]
     expect(old in made, f"no {old!r} in {made}")
     return [f"CREATE TABLE other {made.replace(old, new, 1)}",
             f"INSERT INTO other SELECT * FROM {table} ORDER BY rowid", f"DROP TABLE {table}", f"ALTER TABLE other RENAME TO {table}"]
@@ -233,11 +233,12 @@ def defined_otherwise(folder: pathlib.Path, first: File, full: File) -> int:
     spelled = ['CREATE TABLE other (\n\tkey_no integer /* its key */ PRIMARY KEY REFERENCES "keys" ([number]),\n\t'
                '`need` Integer not null -- 2 to 5\n) Strict', "INSERT INTO other SELECT * FROM quorum",
                "DROP TABLE quorum", "ALTER TABLE other RENAME TO quorum"]
-    for file, earlier, statements in (
+    alike: list[tuple[File, File, list[str]]] = [
             (first, first, []), (full, full, []), (later, first, []), (full, full, remade("request", "", "")),
             (full, full, spelled), (full, full, ["CREATE INDEX of_callers ON request (caller COLLATE NOCASE)",
                                                  "CREATE TABLE mine (a UNIQUE)", "CREATE UNIQUE INDEX b ON mine (a)",
-                                                 "CREATE TRIGGER c AFTER INSERT ON mine BEGIN SELECT 1; END"])):
+                                                 "CREATE TRIGGER c AFTER INSERT ON mine BEGIN SELECT 1; END"])]
+    for file, earlier, statements in alike:
         status, lines = replay(changed(file, *zip(statements)), "--since", earlier)
         expect(status == 0 and not any("schema" in line or "definitions" in line for line in lines),
                f"{file} {statements}: {status}, {lines}")

@@ -25,7 +25,7 @@ from axe import violations
 from browser import as_seen, as_usual, chromium, print_page
 from registers import EXPORT_COLUMNS, EXPORT_DATES, export_row, new_register
 from register_rules import STATES, moment_of, state_at, text_of
-from script import expect, fresh_folder, in_order, output_of, verdict
+from script import expect, fresh_folder, in_order, not_none, output_of, verdict
 from timeline import NEVER, spans_of
 from tools import exported, run_tool
 
@@ -60,7 +60,7 @@ TAGS = ("html head meta title style body main h1 p div span svg rect path line t
 PROBE = pathlib.Path(__file__).with_name("page_seen.js")
 
 # A row of an export with its dates in seconds, and its state.
-Row = Mapping[str, Any]
+Row = dict[str, Any]
 
 
 def drawn(export: str) -> str:
@@ -89,8 +89,9 @@ def keys_of(export: str) -> Iterator[Row]:
         dates = {name: moment_of(row[name]) if row[name] else None for name in EXPORT_DATES}
         moments = (dates[name] for name in ("activation", "deactivation", "destroyed", "compromised"))
         state, due = STATES[state_at(NOW, *moments)], ""
-        if state == "Active" and dates["protect_stop"] <= NOW + DAYS * DAY:
-            due = "overdue" if dates["protect_stop"] <= NOW else "due"
+        stop = dates["protect_stop"]
+        if state == "Active" and stop is not None and stop <= NOW + DAYS * DAY:
+            due = "overdue" if stop <= NOW else "due"
         yield {**row, **dates, "state": state, "due": due}
 
 
@@ -141,7 +142,7 @@ class Browser:
         text, boxes = (output_of(["pdftotext", way, sheets, "-"]) for way in ("-layout", "-bbox"))
         filled = []
         for sheet in boxes.split("<page ")[1:]:
-            height = float(re.search(r'height="([\d.]+)"', sheet)[1])
+            height = float(not_none(re.search(r'height="([\d.]+)"', sheet))[1])
             filled.append(max(map(float, re.findall(r'yMax="([\d.]+)"', sheet)), default=0) / height)
         return text.split("\f")[:-1], filled
 
@@ -163,13 +164,16 @@ def looked_at(browser: Browser, name: str, export: str, page: int = 1) -> list[R
     rows = list(keys_of(export))[1000 * (page - 1):1000 * page]
     table = next(element for element in elements if element["tag"] == "table")
     first, last = int(table["data-first"]), int(table["data-last"])
+
+    def x(moment: float) -> float:
+        return 100 * min(max((moment - first) / (last - first), 0), 1)
+
     in_order([row["number"] for row in drawn_rows], [row["number"] for row in rows], name)
     for row, shown in zip(rows, drawn_rows):
         texts = {part["class"].split()[0]: part["text"] for part in shown["parts"] if part["tag"] == "td"}
         shapes = {part.get("class", "") for part in shown["parts"]}
         fill = STATES.index(row["state"]) - 1
-        spans = [(kind, *(100 * min(max((moment - first) / (last - first), 0), 1) for moment in span))
-                 for kind, *span in spans_of(row)]
+        spans = [(kind, x(begin), x(until)) for kind, begin, until in spans_of(row)]
         # A bar is seen, however short its span is.
         is_line = all(kind == other and abs(begin - x) < .01 and abs(end - until) < .06 for
                       (kind, begin, end), (other, x, until) in zip(spans, drawn_spans(shown["parts"]), strict=True))

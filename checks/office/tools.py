@@ -15,7 +15,8 @@ def words_of(name: str, *words: Any) -> list[str]:
 
 def run_tool(name: str, *words: Any, **how: Any) -> subprocess.CompletedProcess:
     """Runs a program of office/ to its end."""
-    return subprocess.run(words_of(name, *words), **{"capture_output": True, "check": False, **how})
+    usual: dict[str, Any] = {"capture_output": True, "check": False}
+    return subprocess.run(words_of(name, *words), **{**usual, **how})
 
 
 def exported(file: File) -> str:

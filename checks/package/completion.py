@@ -118,11 +118,11 @@ def faults_of(shell: str, words: Sequence[str], folder: pathlib.Path, files: str
     with begun([*words, *begin.split()], first.format(files), folder) as terminal:
         for text, wanted in COMPLETED:
             terminal.typed(text)
-            terminal.until(lambda lines, text=text: line_of(lines).startswith(text))
+            terminal.until(lambda lines: line_of(lines).startswith(text))
             terminal.typed("", "Tab")
             # zsh writes the `=` that an option takes.
             right = {wanted.rstrip(), wanted.rstrip() + "=" * wanted.split()[-1].startswith("--")}
-            lines = terminal.until(lambda lines, right=right: line_of(lines) in right and len(lines) == 1)
+            lines = terminal.until(lambda lines: line_of(lines) in right and len(lines) == 1)
             if line_of(lines) not in right or len(lines) != 1:
                 yield f"{shell}: `{text}` and Tab: {lines}, not {wanted!r}"
             terminal.clear()
@@ -136,7 +136,7 @@ def faults_of(shell: str, words: Sequence[str], folder: pathlib.Path, files: str
             terminal.clear()
         for text, choices in CHOICES:
             terminal.typed(text, "Tab", "Tab")
-            lines = terminal.until(lambda lines, choices=choices: not missing_in(lines, choices))
+            lines = terminal.until(lambda lines: not missing_in(lines, choices))
             if missing := missing_in(lines, choices):
                 yield f"{shell}: `{text}` and two Tabs do not show {missing}: {lines}"
             terminal.clear()

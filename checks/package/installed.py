@@ -38,7 +38,7 @@ from places import TOP, read, use
 import completion
 from document_commands import anchor_of, compared
 from roots import ALONE, MIRROR, NAMED, PACKAGES, blocks_of, call, made_package, make_base, present, row_words
-from script import expect, fresh_folder, options, verdict
+from script import expect, fresh_folder, not_none, options, verdict
 from serving import begins_to_listen
 
 # What shows the man page, and the shells, of which fish needs Python: they come behind what the pages bring.
@@ -160,7 +160,7 @@ def read_there(root: pathlib.Path, docs: pathlib.Path) -> None:
 
 def unit_words(root: pathlib.Path, unit: pathlib.Path) -> list[str]:
     """What a unit starts, as its user does, in the root."""
-    user, line = (re.search(rf"(?m)^{name}=(.*)", unit.read_text())[1] for name in ("User", "ExecStart"))
+    user, line = (not_none(re.search(rf"(?m)^{name}=(.*)", unit.read_text()))[1] for name in ("User", "ExecStart"))
     return inside(root, "/", "setpriv", f"--reuid={user}", f"--regid={user}", "--clear-groups", "sh", "-c",
                   f"umask 077; exec {line}")
 
@@ -206,7 +206,8 @@ def browsed(list_words: list[str]) -> None:
     PASSWORDS[USER] = PASSWORD
     with contextlib.ExitStack() as stack:
         try:
-            reader = Reader(types.SimpleNamespace(line=types.SimpleNamespace(server_port=DESK_PORT)), USER)
+            here: Any = types.SimpleNamespace(line=types.SimpleNamespace(server_port=DESK_PORT))
+            reader = Reader(here, USER)
             stack.callback(reader.driver.quit)
             number = day.register(reader, "master", USER, "root of vault 2")
             call_well(*list_words)
@@ -220,7 +221,7 @@ def browsed(list_words: list[str]) -> None:
 def desk(root: pathlib.Path, docs: pathlib.Path, units: pathlib.Path) -> None:
     """The desk stands by the words of the installed pages, serves a browser, and goes by them."""
     list_words = unit_words(root, units / "keyreg-list.service")
-    head = re.search(r"(?:^#     .*\n)+", (units / "keyreg.service").read_text(), re.M)[0]
+    head = not_none(re.search(r"(?:^#     .*\n)+", (units / "keyreg.service").read_text(), re.M))[0]
     call_well(*as_root(root, re.sub(r"(?m)^#     ", "", head)))
     in_terminal(as_root(root, "\n".join(blocks_of(docs / "docs/OPERATING.md")["the-desk"][0])))
     nginx = as_root(root, "exec nginx -g 'daemon off;'")
@@ -288,7 +289,7 @@ def unpacked(root: pathlib.Path) -> None:
         return set(call("find", root / "usr/local", "-type", "d", "-printf", "%p %u:%g %m\n").stdout.splitlines())
 
     plain = next(PACKAGES.glob("*.tar.gz"))
-    texts = [re.search(rf"`(tar -{word} [^`]*)`", read("docs/OPERATING.md"))[1].replace("\\|", "|")
+    texts = [not_none(re.search(rf"`(tar -{word} [^`]*)`", read("docs/OPERATING.md")))[1].replace("\\|", "|")
              for word in ("xzf", "tzf")]
     install, remove = (re.sub(r"keyreg-\S+\.tar\.gz", plain.name, text) for text in texts)
     # Debian's are of the group staff, and written by it.

@@ -18,7 +18,7 @@ sys.path.insert(1, str(pathlib.Path(__file__).resolve().parents[1] / "shared"))
 from places import TOP, UNITS, read
 from registers import run_program
 from roots import call
-from script import expect, verdict
+from script import expect, not_none, verdict
 
 PAGE = TOP / "docs/keyreg.1"
 # The options that clap itself answers, by their short names.
@@ -84,7 +84,7 @@ def page_faults(page: str, wanted: Options) -> Iterator[str]:
 
 def other_faults(wanted: Options) -> Iterator[str]:
     """What the unit and the files of completion have otherwise than the program's help."""
-    started = re.search(r"^ExecStart=\S+ serve (.*)", (UNITS / "keyreg.service").read_text(), re.M)
+    started = not_none(re.search(r"^ExecStart=\S+ serve (.*)", (UNITS / "keyreg.service").read_text(), re.M))
     if re.findall(r"-(-\w+) \S+", started[1]) != [name for name, _ in wanted["serve"]]:
         yield f"office/units/keyreg.service has {started[1]}"
     names = {name.split("-")[-1] for options in wanted.values() for name, _ in options}

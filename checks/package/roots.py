@@ -10,7 +10,7 @@ from typing import Any
 
 from places import PROGRAM, TOP
 from document_commands import anchor_of
-from script import expect, output_of
+from script import expect, not_none, output_of
 
 PACKAGES = TOP / "packages"
 MIRROR = "http://deb.debian.org/debian"
@@ -51,7 +51,7 @@ def present(root: pathlib.Path) -> list[str]:
 
 def row_words(page: pathlib.Path, name: str) -> str:
     """What the row of this name in the table of *Packages* has a person type; a name of a unit is no command."""
-    row = re.search(rf"(?m)^\| {name} \| (.*) \|$", page.read_text("utf-8"))[1]
+    row = not_none(re.search(rf"(?m)^\| {name} \| (.*) \|$", page.read_text("utf-8")))[1]
     return "\n".join(words for words in re.findall(r"`([^`]*)`", row) if " " in words)
 
 

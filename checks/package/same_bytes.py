@@ -59,8 +59,12 @@ def packaged(base: pathlib.Path, place: Place, program: pathlib.Path) -> pathlib
         os.utime(folder / name, (MOMENT + place.shift, MOMENT + place.shift))
     environment = {**os.environ, "SOURCE_DATE_EPOCH": str(MOMENT), "KEYREG": os.path.abspath(program),
                    **place.environment}
-    output_of(["./package"], cwd=folder, env=environment,
-              preexec_fn=lambda: place.cores and os.sched_setaffinity(0, place.cores))
+
+    def keep_to_cores() -> None:
+        if place.cores:
+            os.sched_setaffinity(0, place.cores)
+
+    output_of(["./package"], cwd=folder, env=environment, preexec_fn=keep_to_cores)
     os.umask(before)
     return folder / "packages"
 

@@ -71,7 +71,7 @@ def longest_reply() -> str:
     expect(2048 < len(wanted), f"a reply of {len(wanted)} bytes")
     with Served(exchanges=2, lines=lines) as served:
         reply = served.raw(KEY)
-        expect(reply == wanted, f"the longest reply: {reply}")
+        expect(reply == wanted, f"the longest reply: {reply!r}")
         # A client whose system has room for little, and which takes some bytes now and then.
         with socket.socket() as connection:
             connection.setsockopt(socket.SOL_SOCKET, socket.SO_RCVBUF, 1)
@@ -91,7 +91,7 @@ def longest_body(environment: dict[str, str], receives: pathlib.Path) -> str:
         begun = int(time.time())
         reply = served.raw(post(ADVANCE.ljust(MOST_BODY), "Caller: zed", "Request-Number: 1"))
         wanted = served_since(begun, Register(), "zed", 1, ("advance",))
-        expect(reply in wanted, f"a body of {MOST_BODY} bytes: {reply}")
+        expect(reply in wanted, f"a body of {MOST_BODY} bytes: {reply!r}")
         expect((fault := served.ended()) is None, f"after a long body: {fault}")
     reads = int(receives.read_text("ascii"))
     expect(0 < reads <= MOST_READS, f"a body of {MOST_BODY} bytes was read in {reads} pieces")

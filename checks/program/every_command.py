@@ -88,7 +88,8 @@ def step_faults(day: list[Asked]) -> Iterator[str]:
     counts = dict(re.findall(r'^ +\("([^"]+)", "[^"]+", (\d+)\),$', read(STEPS), re.M))
     register = Register()
     for asked in day:
-        wanted = steps_of(asked, register.keys.get(asked.request.named), register.latest)
+        named = asked.request.named
+        wanted = steps_of(asked, register.keys.get(named) if named else None, register.latest)
         reply_line(register, *asked.request[:4])
         if counts.get(asked.text) != str(wanted):
             yield f"{STEPS}: {asked.text}: {counts.get(asked.text)} stands there, and by the rule it takes {wanted}"

@@ -23,7 +23,7 @@ import socket
 import subprocess
 import sys
 import time
-from typing import Callable, Iterator, Optional, Sequence
+from typing import Any, Callable, Iterator, Optional, Sequence
 
 sys.path.insert(1, str(pathlib.Path(__file__).resolve().parents[1] / "shared"))
 from answers import BAD, LENGTH_REQUIRED, NO_ROUTE, TOO_LARGE
@@ -79,13 +79,13 @@ class Compared:
     def hold(self, asked: str, reply: bytes, wanted: bytes) -> None:
         """Holds a reply to that of the rules, and to what docs/openapi.yaml says of the method and target."""
         Compared.count += 1
-        expect(reply == wanted, f"{asked}: {reply}, where {wanted} is wanted")
+        expect(reply == wanted, f"{asked}: {reply!r}, where {wanted!r} is wanted")
         method, target = (asked.split(" ") + [""])[:2]
         fault = reply and unmet(method, target, reply)
-        expect(not fault, f"{asked}, by docs/openapi.yaml: {fault}")
+        expect(not fault, f"{asked}, by docs/openapi.yaml: {fault!r}")
 
-    def post(self, caller: str, number: int, command: tuple, refusal: Optional[int] = None, way: Way = by_curl,
-             body: Optional[bytes] = None) -> None:
+    def post(self, caller: str, number: int, command: tuple, refusal: Optional[int] = None, *,
+             way: Way = by_curl, body: Optional[bytes] = None) -> None:
         """A request with a command, and the number of its refusal, None for one that is accepted."""
         body = body or json.dumps(request_object(command), ensure_ascii=False).encode()
         expect(is_command(body), f"by docs/openapi.yaml {body!r} is no command")
@@ -106,7 +106,7 @@ class Compared:
         for of_usage, path in enumerate((f"/keys/{key}", f"/keys/{key}/usage")):
             self.hold(f"GET {path}", way(self.served, "GET", path), get_reply(self.register, key, bool(of_usage)))
 
-    def raw(self, request: bytes, wanted: bytes, **how: object) -> None:
+    def raw(self, request: bytes, wanted: bytes, **how: Any) -> None:
         first = request.lstrip(b"\r\n").partition(b"\n")[0].rstrip(b"\r").decode(errors="replace")
         self.hold(f"{first} {request[:200]!r}", self.served.raw(request, **how), wanted)
 
@@ -143,7 +143,7 @@ def refusals() -> None:
     now, master = int(time.time()), ("register", "master", "bob")
     purpose = 'payroll disks, "site A" \\ \u03b2\u2028\U0001f511'
     first = ("register", "data-encryption", "bob", now - DAY, None, None, purpose)
-    requests = [
+    requests: list[tuple] = [
         ("ann", 1, first), ("ann", 1, first), ("ann", 1, ("advance",), 2),
         ("ann", 2, (*master, None, None, None, "\u00e9" * 100)),
         ("ann", 3, (*master, 500, 400, 600, "x"), 9),
@@ -179,7 +179,8 @@ def clock() -> None:
             both.get(1)
             expect(both.register.keys[1].state(both.register.latest) == state, "the clock and the rules differ")
     with compared((4_000_000_000, "ann", 1, ("advance",))) as both:
-        for request in (("ann", 2, ("advance",), 3), ("ann", 1, ("advance",)), ("ann", 1, ("approve", 1), 2)):
+        requests: list[tuple] = [("ann", 2, ("advance",), 3), ("ann", 1, ("advance",)), ("ann", 1, ("approve", 1), 2)]
+        for request in requests:
             both.post(*request)
 
 
@@ -260,11 +261,12 @@ def heads() -> None:
         # None of these was applied: the number is still free, and the key as it was.
         both.get(1)
         ann = ["Caller: ann", "Request-Number: {}"]
-        for number, (fields, body, how) in enumerate([
+        odd: list[tuple[list[str], bytes, dict[str, Any]]] = [
                 (["CALLER:\t ann \t", "rEQUEST-nUMBER:{}", "content-length:  0018 \t"], ADVANCE, {}),
                 (["Content-Length: 18", "X-Caller: bob", *ann, "Expect: 100-continue"], ADVANCE + KEY, {}),
                 ([*ann, f"Content-Length: {MOST_BODY}"], ADVANCE.rjust(MOST_BODY), {"pieces": 1009}),
-                ([*ann, "Content-Length: 18", *HEADERS[:60]], ADVANCE, {"ends": False})], 1):
+                ([*ann, "Content-Length: 18", *HEADERS[:60]], ADVANCE, {"ends": False})]
+        for number, (fields, body, how) in enumerate(odd, 1):
             begun = int(time.time())
             reply = both.served.raw(head(*FIRST, *(field.format(number) for field in fields)) + body, **how)
             both.answered(reply, begun, "ann", number, ("advance",))

@@ -55,7 +55,7 @@ def main() -> None:
         with Served(file=str(file)) as served:
             reply = served.raw(post_command("eve", 2, ("register", "master", "bob", None, None, None, "disks")))
             is_right = reply == refusal_reply(20) if keys == MOST_KEYS else reply.startswith(b"HTTP/1.1 200 ")
-            expect(is_right, f"over HTTP one key more gets {reply}")
+            expect(is_right, f"over HTTP one key more gets {reply!r}")
     verdict(f"a register of {keys} keys opens, is exported and reported whole, and answers")
 
 

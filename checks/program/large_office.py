@@ -75,11 +75,12 @@ def first_requests(office: Office) -> None:
         for place in range(8 if key % 10 == 0 else 5):
             office.ask(owner(key), "add-custodian", key, f"custodian-{place}")
     for key in range(1, KEYS + 1):
-        for command in {
+        commands: dict[int, list[tuple]] = {
             1: [("revoke", key, 1, None)], 2: [("set", key, office.moment + YEAR, "=", "="), ("activate", key)],
             3: [("assign", key, f"heir-{key}")], 5: [("set", key, office.moment + YEAR, None, "=")],
             6: [("revoke", key, 6, None)], 7: [("revoke", key, 2, BEGUN - key)], 8: [("revoke", key, 3, None)],
-        }.get(key % 10, []):
+        }
+        for command in commands.get(key % 10, []):
             office.ask(owner(key), *command)
         if key % 10 == 5:
             # An approval goes with its custodian, and does not come back with it.
@@ -120,7 +121,7 @@ def look_at_rows(file: pathlib.Path, register: Register, name: str) -> None:
 
 
 def look_at_replies(file: pathlib.Path, exchanges: Exchanges, name: str) -> None:
-    lines, replies = map(list, zip(*exchanges))
+    lines, replies = zip(*exchanges)
     in_order(keyreg(["run", "--file", file], lines), replies, name)
 
 
@@ -128,14 +129,14 @@ def look_at_keys(served: Served, register: Register, keys: list[int]) -> None:
     for key, of_usage in itertools.product(keys, (False, True)):
         path = f"/keys/{key}" + "/usage" * of_usage
         reply, wanted = served.raw(get(path)), get_reply(register, key, of_usage)
-        expect(reply == wanted, f"GET {path}: {reply}, where {wanted} is wanted")
+        expect(reply == wanted, f"GET {path}: {reply!r}, where {wanted!r} is wanted")
 
 
 def look_at_serve(file: pathlib.Path, register: Register) -> Register:
     """Each key and its usage, then destructions of keys of each need and requests at the last keys, then these keys
     anew; the program ends after the last. The register after it."""
     last = KEYS + 1
-    requests = [(owner(key), 9000 + key, ("destroy", key)) for key in (10, 20, 30, 40)]
+    requests: list[tuple[str, int, tuple]] = [(owner(key), 9000 + key, ("destroy", key)) for key in (10, 20, 30, 40)]
     requests += [("zed", 9000, ("register", "master", "zed", None, None, None, "one more")),
                  ("zed", 9001, ("add-custodian", last, "ann")), (owner(KEYS), 9002, ("set-quorum", KEYS, 5)),
                  ("zed", 9003, ("destroy", last + 1))]
@@ -200,10 +201,11 @@ def look_at_far_keys(file: pathlib.Path, count: int) -> None:
         reply_line(register, 100, "importer", key, ("register", "master", "bob", None, None, None, f"key {key}"))
     keys = sorted({1, *(key for key in (65535, 65536, 65537) if key < count), count - 1, count, count + 1})
     for key in keys:
-        for caller, *command in (
+        commands: list[tuple] = [
                 ("bob", "set-quorum", key, 2), ("bob", "add-custodian", key, "ann"),
                 ("bob", "add-custodian", key, "cy"), ("bob", "activate", key), ("bob", "revoke", key, 1, None),
-                ("ann", "approve", key), ("cy", "approve", key), ("bob", "destroy", key)):
+                ("ann", "approve", key), ("cy", "approve", key), ("bob", "destroy", key)]
+        for caller, *command in commands:
             place = len(exchanges)
             request = (200 + place, caller, 1 + place, tuple(command))
             exchanges.append((line(*request), reply_line(register, *request)))

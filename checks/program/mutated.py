@@ -23,7 +23,7 @@ from command_day import SHORT
 from registers import copy_files, new_register, run_program, sound_rows
 from register_rules import REFUSALS
 from rules_shown import import_table
-from script import expect, fresh_folder, options, verdict
+from script import expect, fresh_folder, not_none, options, verdict
 from serving import Served, get, post_command
 
 PATIENCE = 20
@@ -117,7 +117,7 @@ def heads(chance: random.Random, file: str) -> str:
             given = changed(chance, chance.choice(HEADS))
             reply = served.raw(given)
             expect(REPLY.match(reply) if given else not reply, f"head: {reply!r}; given {given!r}")
-            length = int(re.search(rb"Content-Length: ([0-9]+)\r\n", reply)[1]) if reply else 0
+            length = int(not_none(re.search(rb"Content-Length: ([0-9]+)\r\n", reply))[1]) if reply else 0
             expect(len(reply.partition(b"\r\n\r\n")[2]) == length, f"head: {reply!r}; given {given!r}")
             expect(not served.has_ended(), f"head: serve ended; given {given!r}")
     look_at(file, given)
@@ -147,7 +147,7 @@ def main() -> None:
         made, file = str(folder / "made.keyreg"), str(folder / "copy.keyreg")
         new_register(made, DAY.decode().splitlines()[:6])
         for name in asked.parts:
-            ends, late = collections.Counter(), time.monotonic() + asked.seconds / len(asked.parts)
+            ends, late = collections.Counter[str](), time.monotonic() + asked.seconds / len(asked.parts)
             for seed in itertools.takewhile(lambda _: time.monotonic() < late, itertools.count(asked.seed)):
                 copy_files(made, file)
                 try:

@@ -69,8 +69,8 @@ def unmet(method: str, target: str, reply: bytes) -> Optional[str]:
     if headers:
         return f"the headers {sorted(headers)}"
     # A client that asks by HEAD shows no body.
-    fault = body and fault_of(response["content"][kind]["schema"], json.loads(body))
-    return f"a body of status {status}: {fault}" if fault else None
+    unmet = fault_of(response["content"][kind]["schema"], json.loads(body)) if body else None
+    return f"a body of status {status}: {unmet}" if unmet else None
 
 
 def unmet_by_nginx(target: str, status: int, fields: dict[str, str], body: str) -> Optional[str]:

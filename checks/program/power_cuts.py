@@ -107,7 +107,7 @@ def recorded(file: str, before: Sequence[Request], requests: Sequence[Request], 
     done = subprocess.run([*traced(trace), PROGRAM, command, "--file", file, *terms], capture_output=True, check=False,
                           input=lines_of(requests) if given is None else given)
     end = (done.returncode, done.stdout, done.stderr)
-    expect(end == (0, b"".join(wanted), b""), f"{command}: {done.returncode}, {done.stderr}, {done.stdout[-2000:]}")
+    expect(end == (0, b"".join(wanted), b""), f"{command}: {done.returncode}, {done.stderr!r}, {done.stdout[-2000:]!r}")
     return Recording(files, events_of(trace, file), wanted, before, requests)
 
 
@@ -145,7 +145,7 @@ def exchanges(file: str) -> Recording:
     with Served(exchanges=len(asks), file=file, before=traced(trace)) as served:
         for ask in asks:
             reply, register = served.answered(register, *ask)
-            expect(reply.startswith(b"HTTP/1.1 200 "), f"exchanges: {reply}")
+            expect(reply.startswith(b"HTTP/1.1 200 "), f"exchanges: {reply!r}")
             replies.append(reply)
             requests.append(Request(json.loads(reply.partition(b"\r\n\r\n")[2])["moment"], *ask))
         expect((fault := served.ended()) is None, f"exchanges: {fault}")

@@ -4,7 +4,7 @@ import re
 from answers import compact, post_reply, register_of, reply_line, shown, usage
 from places import read
 from register_rules import LAST, Register, request_of
-from script import expect
+from script import expect, not_none
 from worked_rows import exchanges_of, worked_rows
 
 # Lines that are no request, by the bounds of the fields; of the last purpose a byte less would do.
@@ -38,7 +38,7 @@ def look_at_rules() -> None:
         replies = [reply_to(register, text) for text in lines]
         expect(replies == list(wanted), f"the rules give {replies} for *{name}*")
     worked = read("docs/WORKED.md")
-    advanced = re.search(r"(?s)```\n(HTTP/1.1 200 OK\n.*?)\n```", worked)[1].replace("\n", "\r\n").encode()
+    advanced = not_none(re.search(r"(?s)```\n(HTTP/1.1 200 OK\n.*?)\n```", worked))[1].replace("\n", "\r\n").encode()
     expect(post_reply(Register(), 100, "ann", 1, ("advance",)) == advanced, "the rules' reply to *advanced*")
     register, _ = register_of((100, "ann", 1, ("register", "data-encryption", "bob", 0, None, None, "payroll disks")))
     for body in (shown(register, 1), usage(register, 1)):

@@ -18,7 +18,7 @@ import io
 import pathlib
 import sys
 from datetime import datetime, timedelta
-from typing import Optional
+from typing import Any, Optional, Sequence
 
 sys.path.insert(1, str(pathlib.Path(__file__).resolve().parents[1] / "shared"))
 from registers import EXPORT_COLUMNS, IMPORT_COLUMNS, File, keyreg, new_register, run_program, table_rows, words_for
@@ -29,7 +29,7 @@ WELL, BAD_HEADER, READ_FAULT = (0, ""), (4, "keyreg: BadHeader\n"), (4, "keyreg:
 DEFAULTS = "100 ann 1 register data-encryption bob 0 - - payroll disks"
 
 
-def look(words: list[str], end: tuple[int, str], output: str = "", given: bytes = b"") -> None:
+def look(words: Sequence[Any], end: tuple[int, str], output: str = "", given: bytes = b"") -> None:
     """Holds the program's status, its line on standard error and what it writes to these."""
     done = run_program(words, given)
     found = (done.returncode, done.stderr.decode()), done.stdout.decode()
@@ -97,7 +97,7 @@ def due(number: int, stop: str, mark: str, owner: str, purpose: str) -> str:
 
 # Lines, the cells of each key in an export where they are others than those of *defaults*, and by how many days a
 # report looks ahead, the moment up to which it does, and its lines of keys.
-REGISTERS = [
+REGISTERS: list[tuple[list[str], list[dict[str, str]], dict[int, tuple[str, list[str]]]]] = [
     ([], [], {0: ("1970-01-01T00:00:00Z", []), 36_500: ("2069-12-07T00:00:00Z", [])}),
     # A key with all dates but its destruction's; two with one Protect Stop Date, and one with a later one.
     (["100 ann 1 register master bob 1000 2000 2000 say \"hi\", twice",
@@ -167,7 +167,7 @@ def plus_months(date: Optional[datetime], months: int) -> Optional[datetime]:
     """The date so many months later, with the length of months as the calendar module has it; None past the last
     year."""
     year, month = divmod(date.year * 12 + date.month - 1 + months, 12) if date else (10_000, 0)
-    if year > END.year:
+    if date is None or year > END.year:
         return None
     return date.replace(year=year, month=month + 1, day=min(date.day, calendar.monthrange(year, month + 1)[1]))
 

@@ -192,7 +192,7 @@ class Exchange:
             reply = served.raw(request)
             self.count, is_right = here.count(), reply in self.replies(begun)
             expect(self.count >= refused, f"only {self.count} were asked for")
-            expect(is_right or reply in (MEMORY, STORE), f"{reply}")
+            expect(is_right or reply in (MEMORY, STORE), f"{reply!r}")
             if reply == STORE:
                 fault = served.ended(3, OF_STORE)
                 expect(fault is None, f"{fault}")
@@ -202,7 +202,7 @@ class Exchange:
             with Served(file=file) as served:
                 again = served.raw(request)
         # Where it was applied it comes again, with the reply that it has.
-        expect(again == reply if is_right else again in self.replies(begun), f"again: {again}")
+        expect(again == reply if is_right else again in self.replies(begun), f"again: {again!r}")
         return "as asked" if is_right else "503" if reply == MEMORY else "500"
 
     def replies(self, begun: int) -> list[bytes]:

@@ -30,7 +30,7 @@ from places import PROGRAM, read
 from registers import ACCEPTED, APPROVED_ANEW, APPROVED_ANEW_ROWS, EXPORT_COLUMNS, IMPORT_COLUMNS, OPTIONS, VERSION
 from registers import File, Life, answered_and_killed, database, export_row, new_register, run_program, table_rows
 from registers import words_for
-from script import expect, fresh_folder, options, verdict
+from script import expect, fresh_folder, not_none, options, verdict
 from serving import Served, begins_to_listen, free_port, get, listens
 
 # So long, in seconds, a command may take, and so long a program is looked at that is not to end.
@@ -116,8 +116,8 @@ def look_at_wrong_words(folder: pathlib.Path) -> None:
         said = run_program(words, LINES.encode()).stderr.decode()
         expect(said.startswith(f"{first}\n"), f"{words}: {said!r} does not begin with {first!r}")
     # The newest version of CHANGES without a package's number, that of the tables, and the logic that README names.
-    newest = re.search(r"^## ([0-9.]+)(?:-[0-9]+)?$", read("CHANGES.md"), re.M)[1]
-    logic = re.search(r"logic ([0-9a-f]{16})", read("README.md"))[1]
+    newest = not_none(re.search(r"^## ([0-9.]+)(?:-[0-9]+)?$", read("CHANGES.md"), re.M))[1]
+    logic = not_none(re.search(r"logic ([0-9a-f]{16})", read("README.md")))[1]
     for word in ("--version", "-V"):
         look([word], (1, f"keyreg {newest} (tables of version {VERSION}, program logic {logic})\n"))
     expect(os.listdir(folder) == [], f"wrong words made {os.listdir(folder)}")
@@ -204,7 +204,7 @@ def look_at_strangers(folder: pathlib.Path) -> None:
         file = folder / name
         if isinstance(made_by, bytes):
             file.write_bytes(made_by)
-        else:
+        elif isinstance(made_by, str):
             if made_by.startswith("UPDATE"):
                 made(file)
             with database(file) as connection:
@@ -239,17 +239,19 @@ def look_at_streams(folder: pathlib.Path) -> None:
         # The request in hand was applied, and none after it.
         kept = table_rows(file)["request"]
         expect(kept == APPROVED_ANEW_ROWS["request"][:1], f"run, output full: {kept}")
-        for words, wanted, given in (([], WRITE_FAULT, LINES), (["export", "--file", file], WRITE_FAULT, ""),
-                                     (words_for("report", file), WRITE_FAULT, ""), (run, WELL, ""),
-                                     (imports, WRITE_FAULT, HEADER + ROW), (["run"], CLAPS, "")):
+        calls: list[tuple[Sequence[Any], End, str]] = [
+            ([], WRITE_FAULT, LINES), (["export", "--file", file], WRITE_FAULT, ""),
+            (words_for("report", file), WRITE_FAULT, ""), (run, WELL, ""),
+            (imports, WRITE_FAULT, HEADER + ROW), (["run"], CLAPS, "")]
+        for words, wanted, given in calls:
             look(words, wanted, given=given, stdout=full)
     before, unread = table_rows(file), os.open(folder, os.O_RDONLY)
-    for words in ([], run, imports):
+    for words in (list[Any](), run, imports):
         look(words, READ_FAULT, given=unread)
     os.close(unread)
     # Where the fault can be named nowhere, its status tells of it.
     with open("/dev/full", "wb") as full:
-        for words, status in (([], 4), (run, 4), (words_for("export", folder / "gone"), 2), (["show"], 1)):
+        for words, status in ((list[Any](), 4), (run, 4), (words_for("export", folder / "gone"), 2), (["show"], 1)):
             done = run_program(words, LINES.encode(), stdout=full, stderr=full)
             expect(done.returncode == status, f"{words}, both outputs full: status {done.returncode}, not {status}")
     look(imports, READ_FAULT, given=HEADER.encode() + b"\xff,b,,,,p\n")
@@ -280,7 +282,8 @@ def look_at_full_disk(folder: pathlib.Path) -> None:
 
 def look_at_unreadable(folder: pathlib.Path) -> None:
     """A file that the program has no leave to read stays as it is. Root starts the program as another user."""
-    file, nobody = made(folder / "unreadable", ""), {"user": 65534} if os.geteuid() == 0 else {}
+    file = made(folder / "unreadable", "")
+    nobody: dict[str, Any] = {"user": 65534} if os.geteuid() == 0 else {}
     folder.chmod(0o777)
     for path in folder.iterdir():
         path.chmod(0)
@@ -325,15 +328,15 @@ def peak_kib(numbers: Sequence[int], folder: pathlib.Path) -> int:
     is answered and before its input ends."""
     output, wanted = folder / "out", "".join(REGISTERED % number for number in numbers)
     with open(output, "wb") as target, subprocess.Popen([PROGRAM], stdin=subprocess.PIPE, stdout=target) as process:
-        process.stdin.write("".join(REGISTER % number for number in numbers).encode())
-        process.stdin.flush()
+        not_none(process.stdin).write("".join(REGISTER % number for number in numbers).encode())
+        not_none(process.stdin).flush()
         while os.path.getsize(output) < len(wanted) and process.poll() is None:
             time.sleep(0.01)
         status = pathlib.Path(f"/proc/{process.pid}/status").read_text(encoding="ascii")
-        process.stdin.close()
+        not_none(process.stdin).close()
     expect(process.returncode == 0 and output.read_text("ascii") == wanted,
            f"{len(numbers)} registrations in memory: status {process.returncode}, or other replies")
-    return int(re.search(r"^VmHWM:\s*(\d+) kB$", status, re.M)[1])
+    return int(not_none(re.search(r"^VmHWM:\s*(\d+) kB$", status, re.M))[1])
 
 
 def look_at_memory(folder: pathlib.Path) -> None:
@@ -373,19 +376,19 @@ def look_at_serve(folder: pathlib.Path) -> None:
             expect(other.connect_ex(("127.0.0.2", served.port)), "another address is served")
             for sent, wanted in exchanges[:count]:
                 reply = served.raw(sent)
-                expect(reply == wanted, f"serve {count + 1}: {reply} to {sent!r}")
+                expect(reply == wanted, f"serve {count + 1}: {reply!r} to {sent!r}")
                 time.sleep(GLANCE)
                 expect(not served.has_ended(), f"serve {count + 1} ended behind {sent!r}")
             served.answered(register, "zed", 1, ("advance",))
             fault = served.ended()
             expect(fault is None and not listens(served.port), f"serve {count + 1}: {fault}, or it listens still")
         kept = [row[:3] for row in table_rows(shutil.copy(file, folder / "alone"))["request"]]
-        wanted = [("ann", 1, "register master bob - - - spare"), ("zed", 1, "advance")]
-        expect(kept == wanted, f"the database of serve alone: {kept}")
+        expect(kept == [("ann", 1, "register master bob - - - spare"), ("zed", 1, "advance")],
+               f"the database of serve alone: {kept}")
     with socket.create_server(("127.0.0.1", 0)) as taken:
-        port = str(taken.getsockname()[1])
-        look(words_for("serve", file, port=port), READ_FAULT)
-        look(words_for("serve", folder / "gone", port=port), STORE)
+        held = str(taken.getsockname()[1])
+        look(words_for("serve", file, port=held), READ_FAULT)
+        look(words_for("serve", folder / "gone", port=held), STORE)
     port = free_port()
     with open("/dev/full", "wb") as full, subprocess.Popen([PROGRAM, *words_for("serve", file, port=str(port))],
                                                            stdout=full) as process:

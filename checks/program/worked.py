@@ -22,7 +22,7 @@ from register_rules import Register, request_of
 from registers import VERSION, File, database, expect_replies, keyreg, new_register, run_program, table_rows, words_for
 from registers import write_register
 from rules_shown import moment_text, tables
-from script import expect, fresh_folder, options, verdict
+from script import expect, fresh_folder, not_none, options, verdict
 from worked_rows import Fact, cells, exchanges_of, ticked, worked_rows
 
 HEADER = "type,owner,activation,protect_stop,deactivation,purpose\n"
@@ -134,7 +134,7 @@ REPORT = re.compile(r"after \*(.*)\*: a report for (\d+) days")
 def look_at_import(name: str, file: File) -> None:
     """The import of a row into a new register; where it is sent again at another moment, it is answered alike."""
     given, output = cells()[name]
-    moment, caller, first, rows = IMPORT.fullmatch(given).groups()
+    moment, caller, first, rows = not_none(IMPORT.fullmatch(given)).groups()
     keyreg(["init", "--file", file])
     again = re.findall(r"the same at (\d+)", rows)
     for at in (moment, *again):
@@ -146,7 +146,7 @@ def look_at_import(name: str, file: File) -> None:
 def look_at_report(name: str, file: File) -> None:
     """A line of a key is the number, the moment, the mark, the type, the owner and the purpose, in their widths."""
     given, output = cells()[name]
-    before, days = REPORT.fullmatch(given).groups()
+    before, days = not_none(REPORT.fullmatch(given)).groups()
     register_in(file, before)
     head, *key, total = ticked(output)
     text = [f"{key[0]:>7}  {key[1]}  {key[2]:<7}  {key[3]:<22}  {key[4]}  {key[5]}"] if key else []

@@ -52,7 +52,7 @@ def first_version(file: str) -> str:
     return f"{file}.first"
 
 
-def changed(file: str, *statements: tuple) -> str:
+def changed(file: File, *statements: tuple) -> str:
     """A copy of the file in which another program made these changes."""
     other = copy_files(None, f"{file}.changed")
     with database(file) as source, database(other) as target:
@@ -78,7 +78,7 @@ def drawn_command(chance: random.Random, date: Callable[[], Optional[int]], occu
                   name: str, kind: str, purpose: str) -> tuple:
     """A command of any kind about this key, name and type, each as often as its row says."""
     reason = chance.choice([1, 1, 2, 3, 4, 5, 6, 7])
-    rows = [
+    rows: list[tuple] = [
         (9, "register", kind, name, date(), date(), date(), purpose),
         (6, "activate", key), (9, "set", key, *(chance.choice(["=", "=", date()]) for _ in range(3))),
         (7, "revoke", key, reason, occurrence if reason in COMPROMISES else None), (3, "assign", key, name),

@@ -11,7 +11,7 @@ import tempfile
 from typing import Mapping, Optional, Union
 
 from places import DESK, UNITS
-from script import expect, output_of
+from script import expect, not_none, output_of
 from serving import PATIENCE, begins_to_listen, free_ports
 
 CONF = UNITS / "nginx-keyreg.conf"
@@ -38,7 +38,7 @@ def by_tls(text: str, folder: pathlib.Path) -> str:
                folder / "certificate.pem"])
     edit = re.search(r"(?m)^# +(sed) -i (.*) /etc/nginx/conf\.d/keyreg\.conf$", text)
     expect(edit, f"{CONF.name} names no edit for TLS")
-    return output_of(["sh", "-c", " ".join(edit.groups())], input=text)
+    return output_of(["sh", "-c", " ".join(not_none(edit).groups())], input=text)
 
 
 class Guard:
@@ -80,12 +80,13 @@ class Guard:
         # It stands where not everybody's PATH leads.
         program = shutil.which("nginx", path=f"{os.environ['PATH']}:/usr/sbin")
         expect(program, "nginx is not installed: apt-get install nginx-light")
-        self.process = subprocess.Popen([program, "-p", folder, "-c", folder / "nginx.conf"], stderr=subprocess.PIPE)
+        self.process = subprocess.Popen([not_none(program), "-p", folder, "-c", folder / "nginx.conf"],
+                                        stderr=subprocess.PIPE)
         if not begins_to_listen(self.process, self.port):
             self.process.terminate()
-            expect(False, f"nginx does not listen: {self.process.stderr.read()}")
+            expect(False, f"nginx does not listen: {not_none(self.process.stderr).read()!r}")
 
-    def connected(self, name: str = HOST, source: str = "127.0.0.1") -> Union[socket.socket, ssl.SSLSocket]:
+    def connected(self, name: Optional[str] = HOST, source: str = "127.0.0.1") -> Union[socket.socket, ssl.SSLSocket]:
         """A connection to it from an address of this machine, by TLS with this name in its first message."""
         there = "::1" if ":" in source else "127.0.0.1"
         connection = socket.create_connection((there, self.port), PATIENCE, (source, 0))
@@ -101,5 +102,5 @@ class Guard:
     def __exit__(self, *_: object) -> None:
         self.process.terminate()
         self.process.wait()
-        self.process.stderr.close()
+        not_none(self.process.stderr).close()
         self.held.cleanup()

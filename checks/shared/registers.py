@@ -6,14 +6,15 @@ import re
 import shutil
 import sqlite3
 import subprocess
-from typing import Any, Iterable, Iterator, Mapping, Optional, Sequence, Union
+from typing import Any, Iterable, Iterator, Mapping, Optional, Sequence, TypeVar, Union
 
 from places import PROGRAM, VERSION_1
 import register_rules
-from script import expect
+from script import expect, not_none
 from worked_rows import exchanges_of
 
 File = Union[str, os.PathLike]
+Place = TypeVar("Place", bound=File)
 
 # The texts of the key types and of the states by their codes, of which 0 stands where a reply names no state; a date
 # that is not set; the version of the tables.
@@ -44,7 +45,7 @@ ACCEPTED = [exchange for exchange in APPROVED_ANEW if exchange[1].startswith("ok
 
 # Its rows, by the formats: type 7 is master, state 6 Destroyed-Compromised; a compromise without an occurrence gets the
 # Initial Date. A request has its line's parts, and of its reply the key and the state.
-APPROVED_ANEW_ROWS = {
+APPROVED_ANEW_ROWS: dict[str, list[tuple]] = {
     "meta": [(1, VERSION, 109, 1)],
     "keys": [(1, 7, "bob", "spare", 6, 100, UNSET, UNSET, UNSET, 108, 109, 100)],
     "custodian": [(1, "cat"), (1, "dan")], "approval": [(1, "cat"), (1, "dan")],
@@ -55,7 +56,7 @@ APPROVED_ANEW_ROWS = {
 
 
 # The options of each command of the program beside its file, each with a value that serves.
-OPTIONS = {
+OPTIONS: dict[str, dict[str, str]] = {
     "init": {}, "run": {}, "export": {}, "report": {"days": "7"},
     "import": {"moment": "110", "caller": "imp", "first": "1"},
     "serve": {"port": "8420", "exchanges": "1"},
@@ -75,9 +76,9 @@ def export_row(**cells: Any) -> list[str]:
 
 def run_program(words: Sequence[Any], given: Any = b"", **how: Any) -> subprocess.CompletedProcess:
     """Runs the program to its end; given are bytes, or an open file."""
-    source = {"input": given} if isinstance(given, bytes) else {"stdin": given}
-    streams = {"stdout": subprocess.PIPE, "stderr": subprocess.PIPE}
-    return subprocess.run([PROGRAM, *words], **{**source, **streams, "check": False, **how})
+    usual: dict[str, Any] = {"stdout": subprocess.PIPE, "stderr": subprocess.PIPE, "check": False}
+    source: dict[str, Any] = {"input": given} if isinstance(given, bytes) else {"stdin": given}
+    return subprocess.run([PROGRAM, *words], **{**source, **usual, **how})
 
 
 def keyreg(words: Sequence[Any], lines: Iterable[str] = ()) -> list[str]:
@@ -107,9 +108,9 @@ class Life(subprocess.Popen):
         super().__init__([PROGRAM, "run", "--file", file], stdin=subprocess.PIPE, stdout=subprocess.PIPE)
 
     def reply(self, line: str) -> str:
-        self.stdin.write(f"{line}\n".encode())
-        self.stdin.flush()
-        return self.stdout.readline().decode().rstrip("\n")
+        not_none(self.stdin).write(f"{line}\n".encode())
+        not_none(self.stdin).flush()
+        return not_none(self.stdout).readline().decode().rstrip("\n")
 
 
 def answered_and_killed(file: File, lines: Iterable[str]) -> None:
@@ -120,7 +121,7 @@ def answered_and_killed(file: File, lines: Iterable[str]) -> None:
         life.kill()
 
 
-def copy_files(file: Optional[File], other: File) -> File:
+def copy_files(file: Optional[File], other: Place) -> Place:
     """Copies a file with its log, if there is one; nothing else is left by these names."""
     for end in ("", "-wal"):
         if file and os.path.exists(f"{file}{end}"):
@@ -175,7 +176,8 @@ def write_register(file: File, latest: int, count: int, version: int = VERSION, 
     with database(file) as connection:
         connection.executescript("PRAGMA synchronous = OFF; PRAGMA journal_mode = OFF;"
                                  + (TABLES if version == VERSION else FIRST_TABLES))
-        for name, of_table in {"meta": [(1, version, latest, count)], **rows}.items():
+        tables: dict[str, Iterable[Any]] = {"meta": [(1, version, latest, count)], **rows}
+        for name, of_table in tables.items():
             cells = ", ".join("?" * len(columns_of(name)))
             connection.executemany(f"INSERT INTO {name} VALUES ({cells})", of_table)
         connection.commit()

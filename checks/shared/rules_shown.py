@@ -1,9 +1,10 @@
 """What the register of office/register_rules.py is in the tables of a file, in an export and in a report, by
 docs/SPECIFICATION.md."""
-from typing import Optional
+from typing import Iterable, Optional
 
 from registers import EXPORT_COLUMNS, IMPORT_COLUMNS, STATES
 from register_rules import ACTIVE, LAST, Register, command_text, is_long, key_rows, other_rows, text_of
+from script import not_none
 
 DAY = 86400
 Rows = dict[str, list[tuple]]
@@ -16,7 +17,7 @@ def moment_text(moment: Optional[int]) -> str:
 
 def tables(register: Register) -> Rows:
     """The rows of each table, in order."""
-    rows: Rows = {name: [] for name in ("keys", "custodian", "approval", "quorum")} | other_rows(register)
+    rows: Rows = {"keys": [], "custodian": [], "approval": [], "quorum": [], **other_rows(register)}
     for number, key in register.keys.items():
         for name, of_key in key_rows(number, key, register.latest).items():
             rows[name] += of_key
@@ -47,15 +48,16 @@ def report_text(register: Register, days: int) -> str:
     for number, key in register.keys.items():
         if key.state(latest) != ACTIVE:
             continue
-        if key.stop <= horizon or is_long((key.activation, key.stop, key.end), register.period(key.kind)):
-            mark = "overdue" if key.stop <= latest else "due" if key.stop <= horizon else "long"
-            line = f"{number:7}  {moment_text(key.stop)}  {mark:7}  {key.kind:22}  {key.owner}  {key.purpose}"
-            lines.append((key.stop, number, line))
+        stop = not_none(key.stop)
+        if stop <= horizon or is_long((key.activation, stop, key.end), register.period(key.kind)):
+            mark = "overdue" if stop <= latest else "due" if stop <= horizon else "long"
+            line = f"{number:7}  {moment_text(stop)}  {mark:7}  {key.kind:22}  {key.owner}  {key.purpose}"
+            lines.append((stop, number, line))
     due = "".join(f"{line}\n" for _, _, line in sorted(lines))
     return f"Keys due for rotation by {moment_text(horizon)}\n{due}total {len(lines)}\n"
 
 
-def import_table(rows: list[tuple]) -> str:
+def import_table(rows: Iterable[tuple]) -> str:
     """The table of an import: of each row its type, owner, the three dates and the purpose."""
     lines = [",".join([kind, owner, *map(moment_text, dates), field(purpose)]) for kind, owner, *dates, purpose in rows]
     return "".join(f"{line}\n" for line in [",".join(IMPORT_COLUMNS), *lines])

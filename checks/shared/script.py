@@ -8,10 +8,11 @@ import shutil
 import subprocess
 import sys
 import tempfile
-from typing import Any, Iterable, Iterator, NoReturn, Optional, Sequence, Union
+from typing import Any, Iterable, Iterator, NoReturn, Optional, Sequence, TypeVar, Union
 
 # Where files in memory may stand: the folder that whoever runs the checks clears away, or the system's.
 MEMORY_FOLDER = os.environ.get("KEYREG_IN_MEMORY") or "/dev/shm"
+Value = TypeVar("Value")
 
 
 def options(text: Optional[str], parts: Sequence[str] = (), usual: Sequence[str] = (),
@@ -49,22 +50,34 @@ def fresh_folder(memory: Optional[int] = None) -> Iterator[pathlib.Path]:
         yield pathlib.Path(folder)
 
 
+def fail(fault: str) -> NoReturn:
+    """Ends the script by a fault."""
+    sys.exit(f"FAILED: {fault}")
+
+
 def expect(holds: object, fault: str) -> None:
     """Ends the script by a fault, where something does not hold."""
     if not holds:
-        sys.exit(f"FAILED: {fault}")
+        fail(fault)
+
+
+def not_none(value: Optional[Value]) -> Value:
+    """A value that has to be there, as of a match, or a pipe of a process."""
+    if value is None:
+        raise LookupError("it is not there")
+    return value
 
 
 def in_order(rows: Iterable[Any], wanted: Iterable[Any], name: str) -> None:
     """Ends the script by a fault where these rows, or lines, differ from those that are wanted: by the first."""
     for place, (row, other) in enumerate(itertools.zip_longest(rows, wanted), 1):
         if row != other:
-            sys.exit(f"FAILED: {name}, row {place} is {row!r}, and should be {other!r}")
+            fail(f"{name}, row {place} is {row!r}, and should be {other!r}")
 
 
 def output_of(words: Sequence[Any], **how: Any) -> str:
     """What another program writes that has to end with status 0."""
-    done = subprocess.run([*map(str, words)], **{"capture_output": True, "text": True, "check": False, **how})
+    done = subprocess.run([*map(str, words)], capture_output=True, text=True, check=False, **how)
     expect(done.returncode == 0,
            f"{' '.join(done.args[:3])}: status {done.returncode}, {done.stdout[-2000:]}{done.stderr[-2000:]}")
     return done.stdout

@@ -16,9 +16,9 @@ from typing import Any, Iterable, Optional
 
 from answers import compact, request_object, served_since
 from places import PROGRAM
-from registers import keyreg, new_register
+from registers import File, keyreg, new_register
 from register_rules import Register
-from script import expect, in_memory
+from script import expect, fail, in_memory, not_none
 
 # So long, in seconds, a start, a reply and an end may take.
 PATIENCE = 60
@@ -34,7 +34,7 @@ def free_port() -> int:
         with socket.socket() as chosen, contextlib.suppress(OSError):
             chosen.bind(("127.0.0.1", port))
             return port
-    return expect(False, "no port is free")
+    fail("no port is free")
 
 
 def free_ports(count: int) -> list[int]:
@@ -74,11 +74,11 @@ def received(connection: socket.socket) -> bytes:
 class Served:
     """A served register: a new one in a folder of its own, with what the lines make of it, or that of a given file."""
 
-    def __init__(self, exchanges: int = 1_000_000, lines: Iterable[str] = (), file: Optional[str] = None,
+    def __init__(self, exchanges: int = 1_000_000, lines: Iterable[str] = (), file: Optional[File] = None,
                  file_limit: Optional[int] = None, environment: Optional[dict[str, str]] = None,
                  port: Optional[int] = None, before: Iterable[str] = ()) -> None:
         self.folder = None if file else tempfile.TemporaryDirectory(dir=in_memory(2**24))
-        self.file = file or os.path.join(self.folder.name, "office.keyreg")
+        self.file = str(file) if file else os.path.join(not_none(self.folder).name, "office.keyreg")
         self.replies = keyreg(["run", "--file", file], lines) if file and lines else []
         if not file:
             self.replies = new_register(self.file, lines)
@@ -94,8 +94,9 @@ class Served:
         self.process = subprocess.Popen(words, stdin=subprocess.DEVNULL, stdout=subprocess.PIPE,
                                         stderr=subprocess.PIPE, preexec_fn=limited, env=environment)
         if not begins_to_listen(self.process, self.port):
-            why = f": status {self.process.returncode}, {self.process.stderr.read()}" if self.has_ended() else ""
-            expect(False, f"serve does not listen at port {self.port}{why}")
+            error = not_none(self.process.stderr)
+            why = f": status {self.process.returncode}, {error.read()!r}" if self.has_ended() else ""
+            fail(f"serve does not listen at port {self.port}{why}")
 
     def connected(self) -> socket.socket:
         return socket.create_connection(("127.0.0.1", self.port), timeout=PATIENCE)
@@ -116,7 +117,7 @@ class Served:
         """The reply to a request, which is that of the rules at a second since it was begun, and the register then."""
         begun, reply = int(time.time()), self.raw(post_command(*request))
         after = served_since(begun, register, *request)
-        expect(reply in after, f"{request}: {reply}, where {[*after]} is wanted")
+        expect(reply in after, f"{request}: {reply!r}, where {[*after]} is wanted")
         return reply, after[reply]
 
     def has_ended(self) -> bool:
@@ -139,7 +140,7 @@ class Served:
         if not self.has_ended():
             self.kill()
         for stream in (self.process.stdout, self.process.stderr):
-            stream.close()
+            not_none(stream).close()
         if self.folder:
             self.folder.cleanup()
 

@@ -2,7 +2,7 @@
 others, by their names."""
 import functools
 import re
-from typing import NamedTuple, Optional, Union
+from typing import Any, NamedTuple, Optional
 
 from places import read
 from script import expect
@@ -26,7 +26,7 @@ class Fact(NamedTuple):
     the names in a table, the latest moment; or that there is no such key."""
     key: int
     what: str
-    value: Union[None, int, str, list[str]] = None
+    value: Any = None
 
 
 class Row(NamedTuple):
@@ -78,7 +78,7 @@ def facts_of(cell: str) -> list[Fact]:
         elif said:
             of_key = facts_of_key(key, said)
             expect(key and of_key, f"docs/WORKED.md: {said!r} has no form that is known")
-            facts += of_key
+            facts += of_key or []
     return facts
 
 
@@ -96,7 +96,7 @@ def worked_rows() -> dict[str, Row]:
     for name, (given, output) in cells().items():
         parts = INPUT.fullmatch(given)
         lines, replies = ticked(parts[2]) if parts else [], replies_of(output)
-        if lines and len(lines) == len(replies):
+        if parts and lines and len(lines) == len(replies):
             rows[name] = Row(parts[1] or "", lines, replies, facts_of(output))
     return {name: row for name, row in rows.items() if not row.before or row.before in rows}
 

@@ -6,6 +6,7 @@ import re
 from typing import Iterator, NamedTuple
 
 from places import TOP, listed, read
+from script import not_none
 
 FUNCTION = re.compile(r"( *)(pub(?:\([\w ]+\))? )?(?:const )?fn (\w+)")
 CLAUSE = re.compile(r"\s*(?:requires|ensures)(?: (\w+))? \{")
@@ -82,7 +83,7 @@ def arguments(text: str) -> list[str]:
 
 def function_at(path: str, lines: list[str], at: int, owner: str) -> Function:
     """The function whose head begins at this line, and goes to the one that opens its body or ends by a semicolon."""
-    indent, public, name = FUNCTION.match(lines[at]).groups()
+    indent, public, name = not_none(FUNCTION.match(lines[at])).groups()
     end = next(place for place in range(at, len(lines)) if lines[place].rstrip().endswith((";", "{ }", "{}"))
                or lines[place].rstrip().endswith("{") and not CLAUSE.match(lines[place]))
     text = "\n".join(line for line in lines[at:end + 1] if not line.lstrip().startswith("//"))
@@ -188,5 +189,5 @@ class RustFile:
         if self.lines[at].strip().startswith("ghost"):
             return True
         head = next(place for place in range(at, -1, -1) if FUNCTION.match(self.lines[place]))
-        indent, public, _ = FUNCTION.match(self.lines[head]).groups()
+        indent, public, _ = not_none(FUNCTION.match(self.lines[head])).groups()
         return public == "pub " or bool(indent and OF_TRAIT.match(self.lines[self.block_of(head)]))

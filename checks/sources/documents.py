@@ -40,7 +40,7 @@ import definitions
 import theorem
 from contracts import Function, functions, stands_on
 from document_commands import anchor_of, first_look, wrong_outputs
-from script import options, verdict
+from script import not_none, options, verdict
 use("bench")
 import costs_svg
 
@@ -262,10 +262,11 @@ def kit_faults() -> list[str]:
 
 def stale_faults() -> Faults:
     table, reply = read("crates/register_tables/src/table.rt"), read("crates/register_core/src/reply.rt")
-    kinds = re.search(r"ALL: &'static \[CommandKind\] = &\[(.*?)\];",
-                      read("crates/register_requests/src/command_fields.rt"), re.S)[1].count("CommandKind::")
-    steps = re.search(r"KeepsToSteps S\.Store (\d+) self", read("crates/register_desk/src/desk/applying.rt"))[1]
-    tables = re.search(r"TABLES: \[TableName; (\d+)\]", table)[1]
+    kinds = not_none(re.search(r"ALL: &'static \[CommandKind\] = &\[(.*?)\];",
+                      read("crates/register_requests/src/command_fields.rt"), re.S))[1].count("CommandKind::")
+    applying = read("crates/register_desk/src/desk/applying.rt")
+    steps = not_none(re.search(r"KeepsToSteps S\.Store (\d+) self", applying))[1]
+    tables = not_none(re.search(r"TABLES: \[TableName; (\d+)\]", table))[1]
     counted = ((r"\b(\w+) tables of a (?:database|register)", tables), (r"\b(?:the|all) (\w+) tables\b", tables),
                (r"\b(\w+) commands\b", str(kinds)),
                (r"takes at most (\w+) steps", steps), (r"bound on steps is (\w+)", steps))
@@ -300,7 +301,7 @@ def compared(what: str, drawn: set[tuple[str, ...]], wanted: set[tuple[str, ...]
 
 def picture_faults() -> Faults:
     readme, path = read("README.md"), "docs/ARCHITECTURE.md"
-    states = re.search(r"The states are ([^.(]*)", read("docs/SPECIFICATION.md"))[1]
+    states = not_none(re.search(r"The states are ([^.(]*)", read("docs/SPECIFICATION.md")))[1]
     names = re.findall(r"[\w-]+", states.replace(" and ", " "))
     rows = [cells(line) for _, line in numbered("docs/SPECIFICATION.md")]
     transitions = {tuple(row[:3]) for row in rows if len(row) == 4 and row[1] in (*names, "none") and row[2] in names}
@@ -314,7 +315,7 @@ def picture_faults() -> Faults:
               if not any(other in contracts.below(between) for between in others)}
     text = "\n".join(re.findall(r"```mermaid\n(.*?)```", read(path), re.S))
     faults += compared(f"{path}: its graph", {
-        pair for pair in re.findall(r"(?m)^ *(\w+) --> (\w+)$", text) if {*pair} & {*uses}}, arrows)
+        pair for pair in re.findall(r"(?m)^ *(\w+) --> (\w+)$", text) if {*pair} & {*uses}}, {*arrows})
     faults += [f"{path}: nothing is named {name}"
                for name in dict.fromkeys(re.findall(r"\b(?:[A-Z]\w*::)?[a-z]+_\w+|\b[A-Z]\w*::\w+", text))
                if name not in uses and not functions_named(name)]

@@ -22,7 +22,7 @@ from typing import Callable, Iterator, NamedTuple, Optional, Sequence
 sys.path.insert(1, str(pathlib.Path(__file__).resolve().parents[1] / "shared"))
 from places import TOP
 from contracts import below, reached, stands_on
-from script import fresh_folder, options, verdict
+from script import fresh_folder, not_none, options, verdict
 
 # Gives back its words and its input, or lives on as `serve` does; and what a linker leaves that was stopped.
 PROGRAM = '#!/bin/sh\necho "words: $*"\n[ "$1" = linger ] && exec sleep 60\nexec cat\n'
@@ -74,7 +74,7 @@ def rt() -> None:
 # ---- the copy in which ./keyreg is called
 
 CRATES = reached(["keyreg"])
-LOGIC = re.search(r"logic ([0-9a-f]{16})", (TOP / "crates/register_words/src/words.rt").read_text("utf-8"))[1]
+LOGIC = not_none(re.search(r"logic ([0-9a-f]{16})", (TOP / "crates/register_words/src/words.rt").read_text("utf-8")))[1]
 
 
 class Called(NamedTuple):
@@ -110,8 +110,8 @@ class Copy:
             # Proofs are most of the files, and each tree of a proof has what it stands on.
             leaving = shutil.ignore_patterns("out", "__pycache__", "proofs")
             shutil.copytree(TOP / name, self.top / name, ignore=leaving)
-        self.environ = {**os.environ, "PATH": f"{folder / 'bin'}:{os.environ['PATH']}", "ORDERS": self.orders,
-                        "TMPDIR": self.rest, "LOGIC": LOGIC}
+        self.environ = {**os.environ, "PATH": f"{folder / 'bin'}:{os.environ['PATH']}", "ORDERS": str(self.orders),
+                        "TMPDIR": str(self.rest), "LOGIC": LOGIC}
 
     def start(self, words: Sequence[str] = WORDS, before: Sequence[str] = (), **environ: str) -> subprocess.Popen:
         """A call at the head of a group of processes."""
@@ -204,7 +204,7 @@ def without_the_kit(copy: Copy) -> Iterator[str]:
 def what_makes_it_build(copy: Copy) -> Iterator[str]:
     """A source of the program's, also one that changed during the build before, and nothing else."""
     for path in ("README.md", "checks/sources/first_build.py", "keyreg", "crates/test_program/src/lib.rt",
-                 next((copy.top / "crates/register_tables/must-fail").iterdir())):
+                 str(next((copy.top / "crates/register_tables/must-fail").iterdir()))):
         copy.order(renewed=path)
         if (called := copy.call()) != (0, WANTED, "") or copy.begun():
             yield f"{path} changed: {called}"
@@ -246,7 +246,7 @@ def stopped(copy: Copy) -> Iterator[str]:
         what = f"{number.name} at {crate}, by {end.__name__}"
         copy.order(f"wait-{crate}=20")
         begun = copy.start()
-        until(lambda crate=crate: crate in copy.begun())
+        until(lambda: crate in copy.begun())
         start = time.monotonic()
         end(begun.pid, number)
         called = copy.ended(begun)
@@ -269,7 +269,7 @@ def together(copy: Copy) -> Iterator[str]:
     calls = copy.start(), copy.start()
     until(lambda: "streams" in copy.begun())
     waits = copy.start()
-    waits.stderr.readline()
+    not_none(waits.stderr).readline()
     waits.terminate()
     ends = [copy.ended(begun) for begun in calls]
     for called in ends:
@@ -278,7 +278,7 @@ def together(copy: Copy) -> Iterator[str]:
         yield f"two calls at once: not one of them says that it waits: {ends}"
     os.utime(copy.top / SOURCE)
     lasting = copy.start(["linger"])
-    lasting.stdout.readline()
+    not_none(lasting.stdout).readline()
     copy.order()
     yield from copy.built("beside a program", copy.call("timeout", "60"))
     lasting.kill()

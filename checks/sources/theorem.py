@@ -19,7 +19,7 @@ sys.path.insert(1, str(pathlib.Path(__file__).resolve().parents[1] / "shared"))
 from places import TOP, listed, read
 import definitions
 from definitions import Definition, Key
-from script import options, verdict
+from script import not_none, options, verdict
 
 # The law whose contract is the theorem: its file, and its name.
 ROOT = ("crates/register_program/src/laws.rt", "register_is_found_again")
@@ -139,7 +139,7 @@ def theorem_page() -> str:
                      for places in (STEP, OPENING))
     number, lines, _ = count(theorem()[1])
     return words_of("theorem").format(
-        says=re.search(r"(?:^> .*\n)+", read("README.md"), re.M)[0].rstrip(), step=step, opening=opening,
+        says=not_none(re.search(r"(?:^> .*\n)+", read("README.md"), re.M))[0].rstrip(), step=step, opening=opening,
         law="\n".join(theorem()[0].text), number=f"{number:,}", lines=f"{lines:,}",
         statement="\n".join(definitions.definition(STATEMENT).text))
 

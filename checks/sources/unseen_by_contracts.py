@@ -109,7 +109,7 @@ CALL = re.compile(r"(?:\.|::|(?<!fn )\b)"
                   r"(execute|query|query_row|query_all|transaction|run|run_in_transaction|commit|rollback)\(")
 
 # The word, as it stands in code, and the crates in which it may.
-GIVEN = {
+GIVEN: dict[str, tuple[str, set[str]]] = {
     "the runtime": (r"\bHostRuntime\b", {"disk_files", "keyreg"}),
     "files": (r"\bstd::fs\b", {"disk_files"}),
     "the network": (r"\bstd::net\b|\bTcp(?:Stream|Listener)\b|\bNet\b", {"disk_files"}),
@@ -146,7 +146,7 @@ def given_faults() -> Iterator[str]:
 def mark_faults() -> Iterator[str]:
     """Where what came of a stream, the network or the clock is marked otherwise."""
     for files, (mark, wanted) in MARKED.items():
-        marked = collections.defaultdict(list)
+        marked = collections.defaultdict[str, list[str]](list)
         for function in (function for path in listed(files) for function in functions_of(path)):
             marked[function.name] += [line.strip() for line in function.body if mark.search(line)]
         yield from (f"{files}: {name} names marks in {marked.get(name)}" for name in sorted({*marked, *wanted})

@@ -19,7 +19,7 @@ from typing import Iterator
 
 sys.path.insert(1, str(pathlib.Path(__file__).resolve().parents[1] / "shared"))
 from places import TOP
-from script import fresh_folder, options, verdict
+from script import fresh_folder, not_none, options, verdict
 
 EDITS = "more-must-fail.edits"
 NAMED = re.compile(r"(?m)^# (\w+)\n((?:\w+: ?.*\n)+)")
@@ -61,7 +61,7 @@ def refused(crates: list[str]) -> int:
                 (folder / f"{name}.edit").write_text(edit, encoding="utf-8")
         with subprocess.Popen(["rt", "ci", *crates], cwd=copy, stdout=subprocess.PIPE, stderr=subprocess.STDOUT,
                               text=True, errors="replace", stdin=subprocess.DEVNULL) as child:
-            for line in child.stdout:
+            for line in not_none(child.stdout):
                 is_refused = bool(REFUSED.match(line))
                 count += is_refused
                 print(line * (line.startswith("rt:") and not is_refused), end="", flush=True)

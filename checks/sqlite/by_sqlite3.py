@@ -14,6 +14,7 @@
 import pathlib
 import sqlite3
 import sys
+from typing import Any
 
 sys.path.insert(1, str(pathlib.Path(__file__).resolve().parents[1] / "shared"))
 from answers import register_of
@@ -37,7 +38,7 @@ MORE = [
 
 
 def in_another_order(_: pathlib.Path, other: pathlib.Path) -> None:
-    rows = {name: rows[::-1] for name, rows in APPROVED_ANEW_ROWS.items() if name != "meta"}
+    rows: dict[str, Any] = {name: rows[::-1] for name, rows in APPROVED_ANEW_ROWS.items() if name != "meta"}
     write_register(other, 109, 1, more="", **rows)
 
 
