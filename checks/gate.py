@@ -64,6 +64,7 @@ GATE = (
     Part("program/connections.py", 90),
     Part("desk/in_browser.py --least", 180),
     Part("sqlite/by_sqlite3.py", 180),
+    Part("sources/linted.py", 120),
     Part("sources/documents.py", 90),
     Part("office/behind_nginx.py", 60),
     Part("desk/own_tests.py", 60),
@@ -103,12 +104,12 @@ REST = (
 )
 
 # What the scripts call, by the Debian package that has it. Those of one command stand together:
-# the compiler needs the headers of the C library.
+# the compiler needs the headers of the C library, mypy the types of what is not Python's own.
 COMMANDS = {
     "bash": "bash", "chromedriver": "chromium-driver", "chromium": "chromium", "cmp": "diffutils",
     "curl": "curl", "gcc": "gcc libc6-dev", "groff": "groff-base", "mandoc": "mandoc",
-    "nginx": "nginx-light", "node": "nodejs", "openssl": "openssl", "sqlite3": "sqlite3",
-    "strace": "strace",
+    "mypy": "mypy python3-typeshed", "nginx": "nginx-light", "node": "nodejs", "openssl": "openssl",
+    "shellcheck": "shellcheck", "sqlite3": "sqlite3", "strace": "strace",
 }
 # What parts of REST call besides.
 MORE_COMMANDS = {

@@ -1,5 +1,6 @@
-# What checks/package/in_systemd.py has a booted systemd do, as root, with the package installed. Each `holds NAME COMMAND..` is
-# a line of what it tells. Its words are the parts that are tried: units, accidents.
+#!/bin/bash
+# What checks/package/in_systemd.py has a booted systemd do, as root, with the package installed. Each `holds NAME
+# COMMAND..` is a line of what it tells. Its words are the parts that are tried: units, accidents.
 PATH=/usr/sbin:/usr/bin:/sbin:/bin
 export DEBIAN_FRONTEND=noninteractive
 parts=" $* "
@@ -26,8 +27,8 @@ head_typed() {
 }
 
 # ---- an office is set up whole, by the pages alone, where nothing is that they have a person install
-named="curl nginx openssl python3 sqlite3"
-holds "nothing is there that the pages name" fails command -v $named
+named=(curl nginx openssl python3 sqlite3)
+holds "nothing is there that the pages name" fails command -v "${named[@]}"
 head_typed keyreg
 holds "the service is up" until_holds 60 state_is keyreg active
 echo wonder-land >/tmp/password
@@ -39,8 +40,10 @@ for unit in list advance nightly follow; do
     ended_well() {
         local exit
         exit=$(systemctl show -p ExecMainExitTimestamp --value "keyreg-$unit")
-        [ -n "$exit" ] && [ "$(systemctl show -p Result --value "keyreg-$unit")" = success ] ||
-            { systemctl status --no-pager "keyreg-$unit"; return 1; }
+        if [ -z "$exit" ] || [ "$(systemctl show -p Result --value "keyreg-$unit")" != success ]; then
+            systemctl status --no-pager "keyreg-$unit"
+            return 1
+        fi
     }
     holds "set up: keyreg-$unit was active once, and ended well" ended_well
     holds "set up: keyreg-$unit.timer goes on" state_is keyreg-$unit.timer active
@@ -91,14 +94,14 @@ rm -rf /var/lib/keyreg-standby /var/lib/keyreg/nightly/*
 
 # ---- one register
 typed a-days-work 2
-all_there() { local name; for name in $named; do command -v "$name" || { echo "no $name"; return 1; }; done; }
+all_there() { local name; for name in "${named[@]}"; do command -v "$name" || { echo "no $name"; return 1; }; done; }
 holds "the page's own commands have what they need" all_there
 holds "it serves" until_holds 60 gets 8420 404
 holds "the folder is the office's alone" mode_is /var/lib/keyreg "keyreg 750"
 holds "the register is its own alone" mode_is /var/lib/keyreg/office.keyreg "keyreg 600"
 holds "it waits for the clock" sh -c 'systemctl show -p After -p Wants keyreg | grep -c time-sync.target | grep -qx 2'
 
-cd /tmp
+cd /tmp || exit
 key='{"kind":"register","type":"master","owner":"bob","purpose":"root","activation":null,"protect_stop":null,'
 key+='"deactivation":null}'
 client() { python3 /usr/share/keyreg/client.py --caller ann --numbers /tmp/ann.numbers --patience "$1"; }
@@ -380,7 +383,7 @@ typed take-a-standby-into-use 1
 start_units
 holds "readable: the office is up again" is_up
 holds "readable: nothing is lost" has "add-custodian 1 fay"
-cd /tmp
+cd /tmp || exit
 fi
 [[ $parts == *" units "* ]] || exit 0
 
@@ -392,7 +395,8 @@ systemctl daemon-reload
 start_units
 holds "it serves after it" until_holds 60 gets 8420 200
 holds "its timers go on after it" state_is keyreg-nightly.timer active
-holds "systemd has the units of the package" sh -c '[ "$(systemctl show -p NeedDaemonReload --value keyreg)" = no ]'
+is_loaded() { [ "$(systemctl show -p NeedDaemonReload --value keyreg)" = no ]; }
+holds "systemd has the units of the package" is_loaded
 systemctl enable keyreg-list.timer keyreg-follow.timer 2>/tmp/told
 sed -i '1s/$/ keyreg-follow.timer keyreg@payroll keyreg@site-b/' /blocks/packages/remove.sh
 holds "a removal, by OPERATING" bash -e /blocks/packages/remove.sh
