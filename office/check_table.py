@@ -205,11 +205,12 @@ class Keys:
     def likely(self, row: dict[str, str], place: int) -> list[int]:
         """The keys that the row may have come from: that at its own place, and those that share most fields with it."""
         shared = collections.Counter[int]()
-        for column, form in ((column, form) for column in COLUMNS[1:] if row[column] for form in forms(row[column])):
-            places = self.by_field[column, form]
-            shared.update(places if len(places) <= MOST_LIKE else [])
-        return [place] * (place < len(self.keys)) + [other for other, _ in shared.most_common(MOST_LIKE)
-                                                     if other != place]
+        for column in COLUMNS[1:]:
+            for form in forms(row[column]) if row[column] else ():
+                places = self.by_field[column, form]
+                shared.update(places if len(places) <= MOST_LIKE else [])
+        others = [other for other, _ in shared.most_common(MOST_LIKE) if other != place]
+        return [place, *others] if place < len(self.keys) else others
 
     def changed(self, row: dict[str, str], place: int) -> tuple[Optional[dict[str, str]], dict[str, str]]:
         """The key that the row came from, with what became of its fields; that at its own place is asked first."""

@@ -94,6 +94,11 @@ def text_of_request(request: Request) -> str:
     return shown((request.caller, request.number, command_text(request.command), request.moment))
 
 
+def reply_text(key_no: int, state: int) -> str:
+    """A reply as it is printed, also one of a state that is none."""
+    return f"ok {key_no} {STATES[state] if state in range(7) else state}"
+
+
 class Foreseen:
     """What keyreg will answer to the requests that are written, beside what it answered first."""
 
@@ -140,9 +145,8 @@ class Foreseen:
         elif key_no and self.old[key_no] != request.named:
             return f"otherwise: {text_of_request(request)}: it reaches key {key_no}, which was key {self.old[key_no]}"
         if (key_no, state) != (request.key_no, request.state):
-            replies = " and ".join(f"ok {key} {STATES[code] if code in range(7) else code}{when}" for key, code, when in
-                                   ((key_no, state, ","), (request.key_no, request.state, " before")))
-            return f"otherwise: {text_of_request(request)}: {replies}"
+            now, before = reply_text(key_no, state), reply_text(request.key_no, request.state)
+            return f"otherwise: {text_of_request(request)}: {now}, and {before} before"
         return None
 
 

@@ -296,9 +296,11 @@ def replayed(file: File, requests: Iterable[Request]) -> list[str]:
         if count and place % 5000 == 0:
             print(f"{place} of {count} requests", end="\r", file=sys.stderr, flush=True)
         register.take(request)
-    wanted = other_rows(register)
-    other = [line for name in wanted if name in file.kept for line in differences(name, file.rows(name), wanted[name])]
-    return register.faults + other + list(key_differences(file, register))
+    faults = register.faults
+    for name, wanted in other_rows(register).items():
+        if name in file.kept:
+            faults += differences(name, file.rows(name), wanted)
+    return faults + list(key_differences(file, register))
 
 
 def by_number(name: str, rows: Iterable[Row]) -> Iterator[tuple[int, str, Row]]:

@@ -1,4 +1,4 @@
-#!/bin/bash
+# shellcheck shell=bash
 # What checks/package/in_systemd.py has a booted systemd do, as root, with the package installed. Each `holds NAME
 # COMMAND..` is a line of what it tells. Its words are the parts that are tried: units, accidents.
 PATH=/usr/sbin:/usr/bin:/sbin:/bin
