@@ -1,6 +1,6 @@
 #!/usr/bin/env python3
-"""What reads sources finds no fault in ours: mypy no wrong hint in office/ and in checks/, and in office/ none that
-lacks; shellcheck nothing in what a shell runs.
+"""What reads sources finds no fault in ours: mypy no wrong hint in office/ and in checks/, where each function has
+hints, and in office/ whole ones; shellcheck nothing in what a shell runs.
 
     checks/sources/linted.py
 
