@@ -16,8 +16,8 @@
 - How often a connection was called: each function of `Counted` makes the calls of CALLS, once.
 - What a crate of the program touches of the machine. A function reaches a file, a connection, a clock or the program's
   words only through what it is given: the calls of `std` that do take the runtime, or a value under one of its bounds.
-  So where neither a word of GIVEN nor a runtime stands, no function reaches them. The program itself has the runtime
-  and its contracts say little: every word of it stands in program.rt.txt too, without comments and empty lines.
+  So where neither a word of GIVEN nor a runtime stands, no function reaches them. What has the runtime, and of which
+  contracts say little, stands word by word in a text of HELD too, without comments and empty lines.
 """
 import collections
 import difflib
@@ -93,8 +93,11 @@ REFUSAL = re.compile(r"\b(?:(?:End|OpenRefusal|ConnectError)::Store|StoreError::
                      r"|(?:StoreError|CheckError|CreateError|RowsError)::Database|(?<!\w)Error::SqliteFailure)\b"
                      r"(?!(?:\([^()]*\))?\)*\s*(?:=>|=[^=]|\|)|\.fmt)"
                      r"|\bis_broken = |\bis_broken: true")
-# What asks for room beforehand, whose refusal is want of memory.
-ROOM = re.compile(r"\b(?:with_capacity|(?:try_)?reserve(?:_exact)?|from_elem)\b|\bvec!\[[^\]]*;")
+# What asks for room beforehand, or for any room at all, whose refusal is want of memory; and the lines of a file in
+# memory, which is as long as it was asked to be.
+ROOM = re.compile(r"\b(?:with_capacity|(?:try_)?reserve(?:_exact)?|from_elem|repeat(?:_n)?|usize::MAX)\b"
+                  r"|\.(?:resize(?:_with)?|extend)\(|\bvec!\[[^\]]*;")
+ROOM_OF_FILES = {("crates/memory_disk/src/lib.rt", "file.resize(len, 0)")}
 
 # What each function of counted.rt that calls a connection, or one of these, calls.
 COUNTED = "crates/register_tables/src/counted.rt"
@@ -107,6 +110,13 @@ CALLS = {
 }
 CALL = re.compile(r"(?:\.|::|(?<!fn )\b)"
                   r"(execute|query|query_row|query_all|transaction|run|run_in_transaction|commit|rollback)\(")
+
+# Code that stands in a text beside this script too: of a file all, or these functions.
+HELD = {
+    "crates/keyreg/src/main.rt": ("program.rt.txt", ()),
+    "crates/disk_files/src/network.rt": ("network.rt.txt", ()),
+    "crates/disk_files/src/disk_files.rt": ("opening.rt.txt", ("connect_error", "connect")),
+}
 
 # The word, as it stands in code, and the crates in which it may.
 GIVEN: dict[str, tuple[str, set[str]]] = {
@@ -138,9 +148,21 @@ def given_faults() -> Iterator[str]:
             re.search(word, line) for path in listed(f"crates/{crate}/src/**/*.rt") for line in lines_of(path))}
         yield from (f"{crate} {'names' if crate in having else 'is given, and does not name,'} {what}"
                     for crate in sorted(having ^ allowed))
-    wanted, lines = read("checks/sources/program.rt.txt").splitlines(), lines_of("crates/keyreg/src/main.rt")
-    differences = difflib.unified_diff(wanted, [*filter(None, lines)], n=0, lineterm="")
-    yield from (f"the program: {line}" for line in [*differences][2:])
+
+
+def held_lines(path: str, names: tuple[str, ...]) -> list[str]:
+    """The lines of a file, or of these functions of it, that are no comment and not empty."""
+    lines = [line for function in functions_of(path) if function.name in names
+             for line in (f"fn {function.name}", *function.body)] if names else lines_of(path)
+    return [*filter(None, lines)]
+
+
+def held_faults() -> Iterator[str]:
+    """Where code differs from the text that holds it."""
+    for path, (text, names) in HELD.items():
+        wanted = read(f"checks/sources/{text}").splitlines()
+        differences = difflib.unified_diff(wanted, held_lines(path, names), n=0, lineterm="")
+        yield from (f"{path}: {line}" for line in [*differences][2:])
 
 
 def mark_faults() -> Iterator[str]:
@@ -160,7 +182,8 @@ def place_faults() -> Iterator[str]:
     asked for beforehand: in crates that are no tests, without imports and clauses."""
     lines = [(path, line) for path in listed("crates/*/src/**/*.rt") if not path.startswith("crates/test_")
              for line in lines_of(path) if "use " not in line and "ensures" not in line]
-    yield from (f"{path} asks for room: {line.strip()}" for path, line in lines if ROOM.search(line))
+    yield from (f"{path} asks for room: {line.strip()}" for path, line in lines
+                if ROOM.search(line) and (path, line.strip()) not in ROOM_OF_FILES)
     for at, (what, word) in enumerate((("want of memory", MEMORY), ("a refused call", REFUSAL))):
         told = [(path, line.strip()) for path, line in lines for _ in word.findall(line)]
         counts = collections.Counter(path.removeprefix("crates/") for path, _ in told)
@@ -182,10 +205,11 @@ def call_faults() -> Iterator[str]:
 
 def main() -> None:
     options(__doc__)
-    faults = [*mark_faults(), *place_faults(), *call_faults(), *given_faults()]
+    faults = [*mark_faults(), *place_faults(), *call_faults(), *given_faults(), *held_faults()]
     memory, refused = map(sum, zip(*PLACES.values()))
     verdict(f"marks of streams, {memory} places that make want of memory, {refused} a refused call, {len(CALLS)} "
-            f"functions that call a connection, {len(GIVEN)} words of the machine: {len(faults)} faults", faults)
+            f"functions that call a connection, {len(GIVEN)} words of the machine, {len(HELD)} texts of code: "
+            f"{len(faults)} faults", faults)
 
 
 main()
