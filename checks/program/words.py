@@ -35,6 +35,8 @@ from serving import Served, begins_to_listen, free_port, get, listens
 
 # So long, in seconds, a command may take, and so long a program is looked at that is not to end.
 PATIENCE, GLANCE = 30, 0.2
+# The most bytes of a path that Linux takes.
+MOST_PATH = 4095
 HEADER, ROW, IMPORTED = ",".join(IMPORT_COLUMNS) + "\n", "master,bob,,,,spare\n", "ok 2 Pre-Active 110\n"
 # Of those that are accepted each has its first reply where it comes again.
 LINES, REPLIES, AGAIN, FIRST_REPLIES = ("".join(text + "\n" for text in texts)
@@ -60,6 +62,9 @@ VALUES = {
     "days": ("36500", ("", "-1", "00", "1.5", "36501", "4294967296")),
     "port": ("65535", ("", "0", "08420", "65536")), "exchanges": ("1000000", ("", "0", "-1", "1000001")),
 }
+# A value that each option but --caller has, and its spellings that none has; likewise of --caller.
+SEVEN = ("7", (" 7", "7 ", "7\n", "\t7", "007", "+7", "-7", "7.", "0x7", "\u0667"))
+ANN = ("ann", (" ann", "ann ", "ann\n", "\tann", "ann\u00a0"))
 # What is said first of words that are no command, or ask for help.
 REQUIRED, FILE = "error: the following required arguments were not provided:", "'--file <FILE>'"
 FIRST_LINES = [
@@ -126,7 +131,8 @@ def look_at_wrong_words(folder: pathlib.Path) -> None:
 def look_at_values(folder: pathlib.Path) -> None:
     """A bad value is found before the file is looked at; a good one is none, so that the file is."""
     for command, values in OPTIONS.items():
-        for name, (good, wrong) in ((name, VALUES[name]) for name in values):
+        for name, (good, wrong) in itertools.chain.from_iterable(
+                ((name, VALUES[name]), (name, ANN if name == "caller" else SEVEN)) for name in values):
             look(words_for(command, folder / "missing", **{name: good}), STORE, given=HEADER + ROW)
             for bad in wrong:
                 look(words_for(command, folder / "missing", **{name: bad}), BAD_VALUE, given=HEADER + ROW)
@@ -166,25 +172,39 @@ def look_at_names(folder: pathlib.Path) -> None:
 
 
 def look_at_long_paths(folder: pathlib.Path) -> None:
-    for length in (200, 255, 256, 300, 1100, 4000):
+    """The longest is the one beside which a journal of SQLite's, which is looked for too, can have its name. Beside one
+    of as many bytes as there may be no log can, so that it is `Store`, and no other file than its own is made."""
+    for length in (200, 255, 256, 300, 1100, 4000, MOST_PATH - len("-journal")):
         look_at_life(folder, long_path(folder, length))
+    path = long_path(folder, MOST_PATH, 150)
+    there = os.listdir(os.path.dirname(path))
+    for command in OPTIONS:
+        look(words_for(command, path), STORE, given=HEADER + ROW)
+    others = {*os.listdir(os.path.dirname(path))} - {*there, os.path.basename(path)}
+    expect(not others, f"a path of {MOST_PATH} bytes made {others}")
 
 
-def long_path(folder: pathlib.Path, length: int) -> str:
-    """A path of so many bytes, each part of it under 100, or of as few as there can be."""
+def long_path(folder: pathlib.Path, length: int, last: int = 100) -> str:
+    """A path of so many bytes, or of as few as there can be: each part of it has under 100, and the last at most so
+    many."""
     path = str(folder / "r")
-    while len(os.fsencode(path)) < length - 100:
+    while len(os.fsencode(path)) < length - last:
         path = os.path.join(os.path.dirname(path), "d" * 80, "r")
     os.makedirs(os.path.dirname(path), exist_ok=True)
     return path + "e" * max(length - len(os.fsencode(path)), 1)
 
 
 def look_at_no_files(folder: pathlib.Path) -> None:
-    """Paths that name no file, and a file that is not there: nothing is made."""
-    for path, command in itertools.product((":memory:", "file:x", "file::memory:", "", "gone/x", ".", "x"), OPTIONS):
+    """Paths that name no file, a register with a slash behind it among them, and a file that is not there: nothing is
+    made or changed."""
+    before = made(folder / "register").read_bytes()
+    for path, command in itertools.product((":memory:", "file:x", "file::memory:", "", "gone/x", ".", "x", "x/",
+                                            "register/", "register//", "register/."), OPTIONS):
         if (path, command) != ("x", "init"):
-            look(words_for(command, path), STORE, given=LINES, cwd=folder)
-    expect(os.listdir(folder) == [], f"paths of no file made {os.listdir(folder)}")
+            look(words_for(command, path), STORE, given=HEADER + ROW, cwd=folder)
+    there = {*os.listdir(folder)} - {"register-wal"}
+    expect(there == {"register"}, f"paths of no file made {there}")
+    expect((folder / "register").read_bytes() == before, "a register with a slash behind it changed")
 
 
 # Files that are no registers, by their bytes or by a statement of SQL over a new file or a register; how they open, and
