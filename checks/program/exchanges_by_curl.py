@@ -202,9 +202,11 @@ def routes() -> None:
             both.raw(head(f"GET {target} HTTP/1.1", "Host: localhost"), NO_ROUTE)
         for path, allowed in ALLOWED.items():
             wanted = not_allowed(allowed)
-            for method in ("PUT", "DELETE", "OPTIONS", "BREW", "get", "GET" if allowed == "POST" else "POST"):
+            for method in ("PUT", "DELETE", "OPTIONS", "BREW", allowed.lower(), allowed.title(), "POSTS",
+                           "GET" if allowed == "POST" else "POST"):
                 both.hold(f"{method} {path}", by_curl(both.served, method, path), wanted)
-            both.hold(f"PUT {path}", by_python(both.served, "PUT", path, (), b"{}"), wanted)
+            for method in ("PUT", allowed.lower()):
+                both.hold(f"{method} {path}", by_python(both.served, method, path, ANN, ADVANCE), wanted)
             both.hold(f"HEAD {path}", by_curl(both.served, "HEAD", path), wanted.partition(b"{")[0])
             for method in ("HEAD", "TRACE", "CONNECT"):
                 both.hold(f"{method} {path}", by_bytes(both.served, method, path), wanted)
