@@ -6,16 +6,22 @@
 whole      The longest reply that a register has, of more than 2 KB, arrives whole, also where the client takes it
            in small pieces. A long request is read in pieces, and not byte by byte.
 behind     A client that sends 600 KB behind its request, all of it before it is served, has its whole reply and
-           then an end in order: behind replies and a 500, with which the program ends.
+           then an end in order: behind replies and a 500, with which the program ends. Of one that sends on and on
+           1 MiB is taken off, once it was told of the end.
 waited     A client keeps the next one waiting for 10 seconds in all, 9.5 at least and 11 at most: one that sends
-           nothing, one that sends slowly, one that takes nothing of its reply, and one that sends for half of the
-           time and then takes nothing.
+           nothing, one that sends slowly, also after eight seconds of silence, one that takes nothing of its reply,
+           and one that sends for half of the time and then takes nothing.
+clock      The moment of an exchange is the second that the wall clock tells once its client was accepted, also where
+           it is set back, or forward while the client is read.
+failing    Of calls for a client, and of clocks, one fails: there is no reply, the request is applied or is not, and
+           the next client is served, or the program ends by 35.
+each       Of more clients than 16 bits count each is answered, and no request is applied but theirs.
 
-No reply is long enough to fill a system's buffer. So a library stands before libc in the last two: `send` takes some
-bytes of the first reply, and then none within the time that the program gave the system, as where a client does not
-read. It counts the reads too.
+The system would do little of this, so a library stands before libc, system.c. Where a reply is not taken, `send` takes
+some bytes of it, and then none within the time that the program gave the system: no reply is long enough to fill a
+buffer.
 
-The parts run side by side, some 12 seconds. It wants Linux and gcc.
+The parts run side by side, some 15 seconds. It wants Linux and gcc.
 """
 import concurrent.futures
 import contextlib
@@ -28,16 +34,18 @@ import time
 from typing import Any, Callable, Optional
 
 sys.path.insert(1, str(pathlib.Path(__file__).resolve().parents[1] / "shared"))
-from answers import BAD, STORE, TOO_LARGE, get_reply, register_of, served_since
+from answers import BAD, STORE, TOO_LARGE, get_reply, post_reply, register_of, served_since
+from registers import sound_rows
 from refusing import built
 from register_rules import LAST, MOST_CUSTODIANS, TYPES, Register
+from rules_shown import tables
 from script import expect, fresh_folder, options, verdict
 from serving import ADVANCE, MOST_BODY, PATIENCE, Served, get, post
 
 KEY = get("/keys/1")
 REGISTER, LINES = register_of((100, "bob", 1, ("register", "data-encryption", "bob", None, None, None, "disks")))
-# More than a hundred reads of a connection that is closed, and less than the 1 MiB that is taken off it.
-BEHIND = b"x" * 600_000
+# More than a hundred reads of a connection that is closed, and less than what is taken off it.
+BEHIND, MOST_BEHIND = b"x" * 600_000, 1 << 20
 # What a client keeps the next one waiting, in seconds.
 LEAST, MOST = 9.5, 11.0
 # The most reads of a request with the longest body: some for each of its pieces of 4096 bytes.
@@ -86,14 +94,19 @@ def longest_reply() -> str:
     return f"a reply of {len(wanted)} bytes came whole"
 
 
-def longest_body(environment: dict[str, str], receives: pathlib.Path) -> str:
-    with Served(exchanges=1, environment={**environment, "RECEIVES": str(receives)}) as served:
+def calls_of(path: pathlib.Path) -> list[tuple[str, int]]:
+    """The calls on connections that a run made, each with what it gave."""
+    return [(name, int(given)) for name, given in map(str.split, path.read_text("ascii").splitlines())]
+
+
+def longest_body(environment: dict[str, str], calls: pathlib.Path) -> str:
+    with Served(exchanges=1, environment={**environment, "CALLS": str(calls)}) as served:
         begun = int(time.time())
         reply = served.raw(post(ADVANCE.ljust(MOST_BODY), "Caller: zed", "Request-Number: 1"))
         wanted = served_since(begun, Register(), "zed", 1, ("advance",))
         expect(reply in wanted, f"a body of {MOST_BODY} bytes: {reply!r}")
         expect((fault := served.ended()) is None, f"after a long body: {fault}")
-    reads = int(receives.read_text("ascii"))
+    reads = [name for name, _ in calls_of(calls)].count("recv")
     expect(0 < reads <= MOST_READS, f"a body of {MOST_BODY} bytes was read in {reads} pieces")
     return f"a body of {MOST_BODY} bytes was read in {reads} pieces"
 
@@ -145,6 +158,20 @@ def behind_500() -> str:
     return "so did a 500"
 
 
+def endless(environment: dict[str, str], calls: pathlib.Path) -> str:
+    with Served(exchanges=1, lines=LINES, environment={**environment, "CALLS": str(calls), "ENDLESS": "1"}) as served:
+        reply = served.raw(KEY)
+        expect(reply == get_reply(REGISTER, 1, False), f"a client that sends on and on: {reply}")
+        expect((fault := served.ended()) is None, f"after a client that sends on and on: {fault}")
+    names, counts = zip(*calls_of(calls))
+    told = names.index("shutdown")
+    expect(names[:told] == ("accept4", "recv", "send") and {*names[told + 1:]} == {"recv"},
+           f"a client that sends on and on: {names[:told + 2]}")
+    taken = sum(counts[told + 1:])
+    expect(taken == MOST_BEHIND, f"{taken} bytes are taken off a client that sends on and on, not {MOST_BEHIND}")
+    return f"{taken} bytes were taken off a client that sends on and on, once it was told of the end"
+
+
 # ---- waited
 
 
@@ -153,6 +180,11 @@ def slowly(client: socket.socket) -> None:
     for byte in KEY[:-1]:
         client.sendall(bytes([byte]))
         time.sleep(0.4)
+
+
+def late_and_slowly(client: socket.socket) -> None:
+    time.sleep(8)
+    slowly(client)
 
 
 def for_half_the_time(client: socket.socket) -> None:
@@ -183,18 +215,86 @@ def waited(name: str, sends: Callable[[socket.socket], object], environment: Opt
     return f"a client that {name} kept the next one waiting for {seconds:.1f} s"
 
 
+# ---- clock and failing
+
+
+def advance(number: int) -> bytes:
+    return post(ADVANCE, "Caller: ann", f"Request-Number: {number}")
+
+
+# What the wall clock tells before a client was accepted, and the number of each of its requests with what it tells
+# then: up to the last moment, and past it.
+BEFORE, TIMES, PAST = 9000, ((1, 1000.75), (2, 2000.5), (3, 1500), (1, 1200), (3, 2000.9), (4, LAST + 0.5)), LAST + 1
+
+
+def by_the_clock(environment: dict[str, str]) -> str:
+    wall = " ".join(map(str, (BEFORE, *(seconds for _, seconds in TIMES), PAST)))
+    register, replies = Register(), []
+    with Served(exchanges=len(TIMES) + 2, environment={**environment, "WALL": wall}) as served:
+        for number, seconds in TIMES:
+            wanted = post_reply(register, int(seconds), "ann", number, ("advance",))
+            replies.append(served.raw(advance(number)))
+            expect(replies[-1] == wanted, f"request {number} at {seconds}: {replies[-1]}, where {wanted} is wanted")
+        expect((reply := served.raw(advance(5))) == b"", f"a request at {PAST}: {reply}")
+        fault = served.ended(4, b"keyreg: ReadFault\n")
+        expect(fault is None, f"after a clock past the last moment: {fault}")
+    expect(sum(b"MomentBehind" in reply for reply in replies) == 1, f"of {replies} one is refused 3")
+    return f"{len(replies)} exchanges have the second of the wall clock, wherever it is set"
+
+
+# Which call fails, and whether the request was applied: None where the program ends.
+FAILING = {
+    "monotonic 1": False, "monotonic 2": False, "monotonic 3": True, "SO_RCVTIMEO 1": False, "SO_SNDTIMEO 1": True,
+    "recv 1": False, "send 1": True, "realtime 1": None, "accept4 1": None,
+}
+
+
+def failing(environment: dict[str, str]) -> str:
+    """The same request is sent again, a second later: its reply tells at which of the two it was applied."""
+    for call, is_applied in FAILING.items():
+        with Served(exchanges=2, environment={**environment, "FAILS": call, "WALL": "9 10 11"}) as served:
+            expect((reply := served.raw(advance(1))) == b"", f"where {call} fails: {reply}")
+            if is_applied is not None:
+                reply = served.raw(advance(1))
+                wanted = post_reply(Register(), 10 if is_applied else 11, "ann", 1, ("advance",))
+                expect(reply == wanted, f"after {call} failed: {reply}, where {wanted} is wanted")
+            fault = served.ended(*((0, b"") if is_applied is not None else (4, b"keyreg: ReadFault\n")))
+            expect(fault is None, f"after {call} failed: {fault}")
+    return f"{len(FAILING)} calls that fail end an exchange, or the program by 35"
+
+
+# ---- each
+
+CLIENTS = 65_540
+
+
+def each() -> str:
+    with Served(exchanges=CLIENTS, lines=LINES) as served:
+        wanted = get_reply(REGISTER, 1, False)
+        for client in range(1, CLIENTS + 1):
+            reply = served.raw(KEY)
+            expect(reply == wanted, f"client {client}: {reply}")
+        expect((fault := served.ended()) is None, f"after {CLIENTS} clients: {fault}")
+        rows = sound_rows(served.file)
+        expect(rows == {**rows, **tables(REGISTER)}, f"{CLIENTS} clients who ask for a key changed the register: {rows}")
+    return f"each of {CLIENTS} clients was answered"
+
+
 def main() -> None:
     options(__doc__)
-    with fresh_folder() as folder, concurrent.futures.ThreadPoolExecutor(8) as pool:
-        environment = {**os.environ, "LD_PRELOAD": built("full_buffer.c", str(folder))}
+    with fresh_folder() as folder, concurrent.futures.ThreadPoolExecutor(16) as pool:
+        environment = {**os.environ, "LD_PRELOAD": built("system.c", str(folder))}
         full = {**environment, "ROOM": "100"}
         parts = [
             pool.submit(waited, "sends nothing", lambda client: None),
             pool.submit(waited, "sends slowly", slowly),
+            pool.submit(waited, "is silent for eight seconds and then sends slowly", late_and_slowly),
             pool.submit(waited, "takes nothing of its reply", lambda client: client.sendall(KEY), full),
             pool.submit(waited, "sends for five seconds and then takes nothing", for_half_the_time, full),
-            pool.submit(longest_reply), pool.submit(longest_body, environment, folder / "receives"),
+            pool.submit(longest_reply), pool.submit(longest_body, environment, folder / "longest_body"),
             pool.submit(behind_replies), pool.submit(behind_500),
+            pool.submit(endless, environment, folder / "endless"), pool.submit(by_the_clock, environment),
+            pool.submit(failing, environment), pool.submit(each),
         ]
         for part in parts:
             print(part.result(), flush=True)
