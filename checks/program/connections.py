@@ -276,7 +276,7 @@ def each() -> str:
             expect(reply == wanted, f"client {client}: {reply}")
         expect((fault := served.ended()) is None, f"after {CLIENTS} clients: {fault}")
         rows = sound_rows(served.file)
-        expect(rows == {**rows, **tables(REGISTER)}, f"{CLIENTS} clients who ask for a key changed the register: {rows}")
+        expect(rows == {**rows, **tables(REGISTER)}, f"{CLIENTS} clients who ask for a key changed it: {rows}")
     return f"each of {CLIENTS} clients was answered"
 
 

@@ -143,13 +143,14 @@ def refusals() -> None:
     now, master = int(time.time()), ("register", "master", "bob")
     purpose = 'payroll disks, "site A" \\ \u03b2\u2028\U0001f511'
     first = ("register", "data-encryption", "bob", now - DAY, None, None, purpose)
+    last = ("ann", GREATEST_NUMBER, ("register", "authentication", "b" * 64, LAST - DAY, LAST, LAST, "end of days"))
     requests: list[tuple] = [
         ("ann", 1, first), ("ann", 1, first), ("ann", 1, ("advance",), 2),
         ("ann", 2, (*master, None, None, None, "\u00e9" * 100)),
         ("ann", 3, (*master, 500, 400, 600, "x"), 9),
         ("ann", 3, ("register", "data-encryption", "bob", 0, 63072001, None, "x"), 10),
         ("ann", 3, (*master, LAST, None, None, "x"), 11),
-        ("ann", GREATEST_NUMBER, ("register", "authentication", "b" * 64, LAST - DAY, LAST, LAST, "end of days")),
+        last, last,
         ("bob", 1, ("activate", 4294967295), 4), ("zed", 1, ("set", 2, "=", "=", "="), 5),
         ("zed", 1, ("approve", 2), 6), ("bob", 1, ("activate", 1), 7), ("bob", 1, ("set", 1, now, "=", "="), 8),
         *(("bob", 1 + place, ("add-custodian", 2, f"c{place}")) for place in range(16)),

@@ -7,8 +7,8 @@ no contract can refuse an end that comes too early.
 
 An office has 150 keys of all types, up to 16 custodians and needs of 2 to 5, and a period set for each type. Its
 register is made by the program, and once more from a file of version 1 that SQLite's library wrote. Each is asked
-again, exported, reported, served, and read by SQLite. Then so many rows as --rows says, 100000 where nothing is said,
-are imported at once, and asked at the first and the last keys. It needs Linux.
+again, exported, reported, served, and read by SQLite. An import gets 20000 rows one by one. Then so many rows as --rows
+says, 100000 where nothing is said, are imported at once, and asked at the first and the last keys. It needs Linux.
 """
 import itertools
 import pathlib
@@ -17,13 +17,15 @@ from typing import Any
 
 sys.path.insert(1, str(pathlib.Path(__file__).resolve().parents[1] / "shared"))
 from answers import get_reply, reply_line
-from registers import INDEXES, keyreg, new_register, sound_rows, write_first_version
+from registers import INDEXES, Life, keyreg, new_register, sound_rows, words_for, write_first_version
 from register_rules import PERIODS, Register, line
 from rules_shown import DAY, export_text, import_table, report_text, tables
 from script import expect, fresh_folder, in_memory, in_order, options, verdict
 from serving import Served, get
 
 KEYS, BEGUN, YEAR = 150, 1_000_000_000, 365 * DAY
+# How many rows an import gets one by one, at most.
+BY_ROWS = 20_000
 Exchanges = list[tuple[str, str]]
 
 
@@ -180,15 +182,28 @@ def look_at_versions(folder: pathlib.Path) -> Office:
     return office
 
 
+IMPORTER = {"moment": "100", "caller": "importer", "first": "1"}
+
+
+def look_at_import_by_rows(file: pathlib.Path, count: int) -> None:
+    """An import of so many rows, each of which comes once the one before it was answered."""
+    new_register(file)
+    header, *rows = import_table([("master", "bob", None, None, None, "spare")] * count).splitlines()
+    wanted = [f"ok {place} Pre-Active 100" for place in range(1, count + 1)]
+    with Life(file, words_for("import", file, **IMPORTER)) as life:
+        life.stdin.write(f"{header}\n".encode())
+        in_order(map(life.reply, rows), wanted, f"{count} rows, one by one")
+    expect(life.returncode == 0, f"an import row by row: status {life.returncode}")
+
+
 def look_at_import(file: pathlib.Path, count: int, keys: int) -> None:
     """One import of so many rows, of which so many are keys, the last one among them."""
     new_register(file)
     types = itertools.chain(["master"] * (keys - 1), ["monster"] * (count - keys), ["master"])
     table = import_table([(kind, "bob", None, None, None, f"key {place}") for place, kind in enumerate(types, 1)])
-    words = ["import", "--file", file, "--moment", "100", "--caller", "importer", "--first", "1"]
     wanted = [f"ok {place} Pre-Active 100" for place in range(1, keys + 1)]
     wanted[-1:-1] = ["refused 1 BadLine"] * (count - keys)
-    in_order(keyreg(words, table.splitlines()), wanted, f"{count} rows")
+    in_order(keyreg(words_for("import", file, **IMPORTER), table.splitlines()), wanted, f"{count} rows")
     lines = keyreg(["export", "--file", file])
     is_whole = len(lines) == keys + 1 and lines[-1].startswith(f"{keys},master,bob,")
     expect(is_whole, f"an export of {len(lines)} lines, {lines[-1]}")
@@ -222,6 +237,7 @@ def main() -> None:
         office = look_at_versions(folder)
         # Where a sync costs time fewer rows are keys.
         keys, file = count if in_memory(2**27) else min(count, 3000), folder / "rows"
+        look_at_import_by_rows(folder / "one_by_one", min(count, keys, BY_ROWS))
         look_at_import(file, count, keys)
         look_at_far_keys(file, keys)
     needs = {key.need for key in office.register.keys.values() if key.destroyed is not None}

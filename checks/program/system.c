@@ -1,7 +1,7 @@
-/* Stands before the C library, for connections.py: the system as a connection meets it. By variables of the environment:
+/* Stands before the C library, for connections.py: the system as a connection meets it. In the environment:
    ROOM     the buffer has room for so many bytes of the first reply, and for no more within the time that it is given
-   WALL     the wall clock tells these seconds: before a client was accepted, after one was, after the second, and so on;
-            with each read it goes on by an hour
+   WALL     the wall clock tells these seconds: before a client was accepted, after one was, after the second and so
+            on; with each read it goes on by an hour
    FAILS    the name of a call, and how often it was called when it fails
    ENDLESS  a client that was told of the end has sent as many bytes as are asked for
    CALLS    the file that gets a line for each call on a connection: its name, and what it gave */

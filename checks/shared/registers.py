@@ -102,10 +102,10 @@ def expect_replies(file: File, exchanges: Iterable[tuple[str, str]]) -> None:
 
 
 class Life(subprocess.Popen):
-    """A run over a file, which no other program gets before the `with` ends it."""
+    """A run over a file, or what other words ask for, which no other program gets before the `with` ends it."""
 
-    def __init__(self, file: File) -> None:
-        super().__init__([PROGRAM, "run", "--file", file], stdin=subprocess.PIPE, stdout=subprocess.PIPE)
+    def __init__(self, file: File, words: Sequence[Any] = ()) -> None:
+        super().__init__([PROGRAM, *(words or ["run", "--file", file])], stdin=subprocess.PIPE, stdout=subprocess.PIPE)
 
     def reply(self, line: str) -> str:
         not_none(self.stdin).write(f"{line}\n".encode())
