@@ -8,7 +8,8 @@ no contract can refuse an end that comes too early.
 An office has 150 keys of all types, up to 16 custodians and needs of 2 to 5, and a period set for each type. Its
 register is made by the program, and once more from a file of version 1 that SQLite's library wrote. Each is asked
 again, exported, reported, served, and read by SQLite. An import gets 20000 rows one by one. Then so many rows as --rows
-says, 100000 where nothing is said, are imported at once, and asked at the first and the last keys. It needs Linux.
+says, 100000 where nothing is said, are imported at once, and asked at the first and the last keys. A register of more
+requests than an advance each minute makes in three years answers. It needs Linux.
 """
 import itertools
 import pathlib
@@ -18,14 +19,15 @@ from typing import Any
 sys.path.insert(1, str(pathlib.Path(__file__).resolve().parents[1] / "shared"))
 from answers import get_reply, reply_line
 from registers import INDEXES, Life, keyreg, new_register, sound_rows, words_for, write_first_version
+from registers import write_register
 from register_rules import PERIODS, Register, line
 from rules_shown import DAY, export_text, import_table, report_text, tables
 from script import expect, fresh_folder, in_memory, in_order, options, verdict
 from serving import Served, get
 
 KEYS, BEGUN, YEAR = 150, 1_000_000_000, 365 * DAY
-# How many rows an import gets one by one, at most.
-BY_ROWS = 20_000
+# How many rows an import gets one by one, at most, and how many requests a register has at last.
+BY_ROWS, REQUESTS = 20_000, 2_000_001
 Exchanges = list[tuple[str, str]]
 
 
@@ -231,19 +233,27 @@ def look_at_far_keys(file: pathlib.Path, count: int) -> None:
         expect((fault := served.ended()) is None, f"serve: {fault}")
 
 
+def look_at_many_requests(file: pathlib.Path) -> None:
+    """The first and the last of so many requests come again, and one more is accepted."""
+    write_register(file, 100, 0, request=(("zed", number, "advance", 0, 0, 100) for number in range(1, REQUESTS + 1)))
+    look_at_replies(file, [("100 zed 1 advance", "ok 0 - 100"), (f"100 zed {REQUESTS} advance", "ok 0 - 100"),
+                           (f"101 zed {REQUESTS + 1} advance", "ok 0 - 101")], f"{REQUESTS} requests")
+
+
 def main() -> None:
     count = options(__doc__, rows=100_000).rows
-    with fresh_folder(memory=2**27) as folder:
+    with fresh_folder(memory=2**28) as folder:
         office = look_at_versions(folder)
         # Where a sync costs time fewer rows are keys.
         keys, file = count if in_memory(2**27) else min(count, 3000), folder / "rows"
         look_at_import_by_rows(folder / "one_by_one", min(count, keys, BY_ROWS))
         look_at_import(file, count, keys)
         look_at_far_keys(file, keys)
+        look_at_many_requests(folder / "many_requests")
     needs = {key.need for key in office.register.keys.values() if key.destroyed is not None}
     expect(needs == {2, 3, 4, 5}, f"destroyed keys have needs of {needs}")
-    verdict(f"{len(office.exchanges)} requests over {KEYS} keys in both versions, an import of {count} rows: all by "
-            "the rules")
+    verdict(f"{len(office.exchanges)} requests over {KEYS} keys in both versions, an import of {count} rows, "
+            f"{REQUESTS} requests: all by the rules")
 
 
 main()

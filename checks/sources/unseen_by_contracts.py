@@ -162,7 +162,7 @@ def held_faults() -> Iterator[str]:
     for path, (text, names) in HELD.items():
         wanted = read(f"checks/sources/{text}").splitlines()
         differences = difflib.unified_diff(wanted, held_lines(path, names), n=0, lineterm="")
-        yield from (f"{path}: {line}" for line in [*differences][2:])
+        yield from (f"{path}, not as in {text}: {line}" for line in [*differences][2:])
 
 
 def mark_faults() -> Iterator[str]:
