@@ -57,7 +57,7 @@ GATE = (
     Part("program/power_cuts.py --points 60 --choices 1", 120, cores=2),
     Part("program/exchanges_by_curl.py", 120),
     Part("sources/first_build.py", 300),
-    Part("program/large_office.py", 120),
+    Part("program/large_office.py", 180),
     Part("program/words.py", 120),
     Part("program/killed.py --runs 20 --migrations 16", 180),
     Part("sqlite/copied_while_served.py --seconds 15", 90),

@@ -139,7 +139,8 @@ def commands() -> None:
 
 
 def refusals() -> None:
-    """Each refusal but 1, 3 and 20, which other parts and full_register.py have, each by the next way."""
+    """Each refusal but 1, 3 and 20, which other parts and full_register.py have, each by the next way. A key is shown
+    with each number of custodians."""
     now, master = int(time.time()), ("register", "master", "bob")
     purpose = 'payroll disks, "site A" \\ \u03b2\u2028\U0001f511'
     first = ("register", "data-encryption", "bob", now - DAY, None, None, purpose)
@@ -163,6 +164,7 @@ def refusals() -> None:
     with compared() as both:
         for way, request in zip(itertools.cycle(WAYS), requests):
             both.post(*request, way=way)
+            both.get(2, by_bytes)
         for way, key in itertools.product(WAYS, (1, 2, 3, 4)):
             both.get(key, way)
 

@@ -18,8 +18,8 @@ from typing import Any
 
 sys.path.insert(1, str(pathlib.Path(__file__).resolve().parents[1] / "shared"))
 from answers import get_reply, reply_line
-from registers import INDEXES, Life, keyreg, new_register, sound_rows, words_for, write_first_version
-from registers import write_register
+from registers import INDEXES, Life, export_row, keyreg, new_register, sound_rows, words_for
+from registers import write_first_version, write_register
 from register_rules import PERIODS, Register, line
 from rules_shown import DAY, export_text, import_table, report_text, tables
 from script import expect, fresh_folder, in_memory, in_order, options, verdict
@@ -188,14 +188,18 @@ IMPORTER = {"moment": "100", "caller": "importer", "first": "1"}
 
 
 def look_at_import_by_rows(file: pathlib.Path, count: int) -> None:
-    """An import of so many rows, each of which comes once the one before it was answered."""
+    """An import of so many rows, each of which comes once the one before it was answered; purposes of each length."""
     new_register(file)
-    header, *rows = import_table([("master", "bob", None, None, None, "spare")] * count).splitlines()
+    purposes = ["x" * (1 + place % 200) for place in range(count)]
+    header, *rows = import_table([("master", "bob", None, None, None, purpose) for purpose in purposes]).splitlines()
     wanted = [f"ok {place} Pre-Active 100" for place in range(1, count + 1)]
     with Life(file, words_for("import", file, **IMPORTER)) as life:
         life.stdin.write(f"{header}\n".encode())
         in_order(map(life.reply, rows), wanted, f"{count} rows, one by one")
     expect(life.returncode == 0, f"an import row by row: status {life.returncode}")
+    exported = [",".join(export_row(number=number, state="Pre-Active", purpose=purpose))
+                for number, purpose in enumerate(purposes, 1)]
+    in_order(keyreg(["export", "--file", file])[1:], exported, "the export of purposes of each length")
 
 
 def look_at_import(file: pathlib.Path, count: int, keys: int) -> None:

@@ -29,7 +29,7 @@ from answers import BAD, get_reply, register_of
 from places import PROGRAM, read
 from registers import ACCEPTED, APPROVED_ANEW, APPROVED_ANEW_ROWS, EXPORT_COLUMNS, IMPORT_COLUMNS, OPTIONS, VERSION
 from registers import File, Life, answered_and_killed, database, export_row, new_register, run_program, table_rows
-from registers import words_for
+from registers import words_for, write_first_version
 from script import expect, fresh_folder, not_none, options, verdict
 from serving import Served, begins_to_listen, free_port, get, listens
 
@@ -284,9 +284,9 @@ def look_at_full_disk(folder: pathlib.Path) -> None:
     """A file that may not grow ends a run by `Store`, with a prefix of the replies; opened again it goes on."""
     file, most = made(folder / "full_disk", ""), 60
 
-    def limited() -> None:
+    def limited(most_bytes: int = 200_000) -> None:
         signal.signal(signal.SIGXFSZ, signal.SIG_IGN)
-        resource.setrlimit(resource.RLIMIT_FSIZE, (200_000, 200_000))
+        resource.setrlimit(resource.RLIMIT_FSIZE, (most_bytes, most_bytes))
 
     lines = [f"{place} ann {place} register master bob - - - {'x' * 150}\n" for place in range(1, most + 1)]
     replies = [f"ok {place} Pre-Active {place}\n" for place in range(1, most + 1)]
@@ -298,6 +298,11 @@ def look_at_full_disk(folder: pathlib.Path) -> None:
     is_prefix = 0 < answered < most and done.stdout.decode() == "".join(replies[:answered])
     expect(is_prefix and (done.returncode, done.stderr.decode()) == FULL_DISK, f"a file that may not grow: {done}")
     look(["run", "--file", file], WELL, "".join(replies), "".join(lines))
+    # Nor is it want of memory where a register cannot be made, or one of version 1 not be taken on.
+    write_first_version(first := folder / "first")
+    for words in (["init", "--file", folder / "new"], ["run", "--file", first]):
+        look(words, STORE, given=LINES, preexec_fn=lambda: limited(100))
+    look(["run", "--file", first], WELL, FIRST_REPLIES, AGAIN)
 
 
 def look_at_unreadable(folder: pathlib.Path) -> None:
