@@ -5,9 +5,9 @@
 
 whole      The longest reply that a register has, of more than 2 KB, arrives whole, also where the client takes it
            in small pieces. A long request is read in pieces, and not byte by byte.
-behind     A client that sends 600 KB behind its request, all of it before it is served, has its whole reply and
-           then an end in order: behind replies and a 500, with which the program ends. Of one that sends on and on
-           1 MiB is taken off, once it was told of the end.
+behind     A client that sends 1 MiB behind its request, all of it before it is served, has its whole reply and then
+           an end in order: behind replies and a 500, with which the program ends. Of one that sends on and on as
+           much is taken off, once it was told of the end.
 waited     A client keeps the next one waiting for 10 seconds in all, 9.5 at least and 11 at most: one that sends
            nothing, one that sends slowly, also after eight seconds of silence, one that takes nothing of its reply,
            and one that sends for half of the time and then takes nothing.
@@ -35,8 +35,8 @@ from typing import Any, Callable, Optional
 
 sys.path.insert(1, str(pathlib.Path(__file__).resolve().parents[1] / "shared"))
 from answers import BAD, STORE, TOO_LARGE, get_reply, post_reply, register_of, served_since
-from registers import sound_rows
 from refusing import built
+from registers import sound_rows
 from register_rules import LAST, MOST_CUSTODIANS, TYPES, Register
 from rules_shown import tables
 from script import expect, fresh_folder, options, verdict
@@ -44,8 +44,8 @@ from serving import ADVANCE, MOST_BODY, PATIENCE, Served, get, post
 
 KEY = get("/keys/1")
 REGISTER, LINES = register_of((100, "bob", 1, ("register", "data-encryption", "bob", None, None, None, "disks")))
-# More than a hundred reads of a connection that is closed, and less than what is taken off it.
-BEHIND, MOST_BEHIND = b"x" * 600_000, 1 << 20
+# As much as is taken off a connection before it is closed.
+BEHIND = b"x" * 2**20
 # What a client keeps the next one waiting, in seconds.
 LEAST, MOST = 9.5, 11.0
 # The most reads of a request with the longest body: some for each of its pieces of 4096 bytes.
@@ -168,7 +168,7 @@ def endless(environment: dict[str, str], calls: pathlib.Path) -> str:
     expect(names[:told] == ("accept4", "recv", "send") and {*names[told + 1:]} == {"recv"},
            f"a client that sends on and on: {names[:told + 2]}")
     taken = sum(counts[told + 1:])
-    expect(taken == MOST_BEHIND, f"{taken} bytes are taken off a client that sends on and on, not {MOST_BEHIND}")
+    expect(taken == len(BEHIND), f"{taken} bytes are taken off a client that sends on and on, not {len(BEHIND)}")
     return f"{taken} bytes were taken off a client that sends on and on, once it was told of the end"
 
 
