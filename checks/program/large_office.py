@@ -216,11 +216,17 @@ def look_at_import(file: pathlib.Path, count: int, keys: int) -> None:
 
 
 def look_at_far_keys(file: pathlib.Path, count: int) -> None:
-    """Requests, keys and usages at the first key of an import of so many, at the last ones, and about the 65536th."""
+    """Requests, keys and usages at the first key of an import of so many, at the last ones, and about the 65536th. A
+    report has keys that stand near those."""
     register, exchanges = Register(), Exchanges()
     for key in range(1, count + 1):
         reply_line(register, 100, "importer", key, ("register", "master", "bob", None, None, None, f"key {key}"))
     keys = sorted({1, *(key for key in (65535, 65536, 65537) if key < count), count - 1, count, count + 1})
+    due = [key - 8 for key in keys[1:-1]]
+    for key in due:
+        for command in (("activate", key), ("set", key, "=", 5000, 5000)):
+            request = (200, "bob", 1 + len(exchanges), command)
+            exchanges.append((line(*request), reply_line(register, *request)))
     for key in keys:
         commands: list[tuple] = [
                 ("bob", "set-quorum", key, 2), ("bob", "add-custodian", key, "ann"),
@@ -232,6 +238,9 @@ def look_at_far_keys(file: pathlib.Path, count: int) -> None:
             exchanges.append((line(*request), reply_line(register, *request)))
     expect(all(reply.startswith("ok ") for _, reply in exchanges[:-8]), f"the rules say {exchanges}")
     look_at_replies(file, exchanges, f"keys {keys}")
+    report = keyreg(["report", "--file", file, "--days", "1"])
+    in_order(report, report_text(register, 1).splitlines(), f"report of keys {due}")
+    expect(report[-1] == f"total {len(due)}", f"the rules report {report}")
     with Served(exchanges=2 * len(keys), file=str(file)) as served:
         look_at_keys(served, register, keys)
         expect((fault := served.ended()) is None, f"serve: {fault}")
