@@ -8,9 +8,11 @@ whole      The longest reply that a register has, of more than 2 KB, arrives who
 behind     A client that sends 1 MiB behind its request, all of it before it is served, has its whole reply and then
            an end in order: behind replies and a 500, with which the program ends. Of one that sends on and on as
            much is taken off, once it was told of the end.
-waited     A client keeps the next one waiting for 10 seconds in all, 9.5 at least and 11 at most: one that sends
-           nothing, one that sends slowly, also after eight seconds of silence, one that takes nothing of its reply,
-           and one that sends for half of the time and then takes nothing.
+waited     A client keeps the next one waiting for 10 seconds in all, half a second less at least and one more at most:
+           one that sends nothing, one that sends slowly, also after eight seconds of silence, and one that takes
+           nothing of its reply; one that sends for five seconds and then takes nothing for these five besides.
+slow       What a commit takes is no time of the client's: a request whose two syncs take six seconds each has its
+           reply, and is applied once.
 clock      The moment of an exchange is the second that the wall clock tells once its client was accepted, also where
            it is set back, or forward while the client is read.
 failing    Of calls for a client, and of clocks, one fails: there is no reply, the request is applied or is not, and
@@ -46,8 +48,10 @@ KEY = get("/keys/1")
 REGISTER, LINES = register_of((100, "bob", 1, ("register", "data-encryption", "bob", None, None, None, "disks")))
 # As much as is taken off a connection before it is closed.
 BEHIND = b"x" * 2**20
-# What a client keeps the next one waiting, in seconds.
-LEAST, MOST = 9.5, 11.0
+# What a client keeps the next one waiting, in seconds: so much less at least, and so much more at most.
+SECONDS, LESS, MORE = 10.0, 0.5, 1.0
+# How long a sync takes that is slow, in seconds.
+SYNC = 6
 # The most reads of a request with the longest body: some for each of its pieces of 4096 bytes.
 MOST_READS = 100
 
@@ -194,7 +198,8 @@ def for_half_the_time(client: socket.socket) -> None:
     client.sendall(KEY[10:])
 
 
-def waited(name: str, sends: Callable[[socket.socket], object], environment: Optional[dict[str, str]] = None) -> str:
+def waited(name: str, sends: Callable[[socket.socket], object], environment: Optional[dict[str, str]] = None,
+           wanted: float = SECONDS) -> str:
     """How long a client that sends so keeps the next one waiting, which is then served."""
     def send(client: socket.socket) -> None:
         with contextlib.suppress(OSError):
@@ -210,16 +215,29 @@ def waited(name: str, sends: Callable[[socket.socket], object], environment: Opt
             seconds = time.monotonic() - begun
             thread.join()
         expect(reply == get_reply(REGISTER, 1, False), f"the client after one that {name}: {reply}")
-        expect(LEAST <= seconds <= MOST, f"a client that {name} kept the next one waiting for {seconds:.1f} s")
+        expect(wanted - LESS <= seconds <= wanted + MORE,
+               f"a client that {name} kept the next one waiting for {seconds:.1f} s, where {wanted:.0f} are wanted")
         expect((fault := served.ended()) is None, f"after a client that {name}: {fault}")
     return f"a client that {name} kept the next one waiting for {seconds:.1f} s"
 
 
-# ---- clock and failing
+# ---- slow, clock and failing
 
 
 def advance(number: int) -> bytes:
     return post(ADVANCE, "Caller: ann", f"Request-Number: {number}")
+
+
+def slow(environment: dict[str, str]) -> str:
+    with Served(exchanges=2, environment={**environment, "SYNC": str(SYNC), "WALL": "9 10 11"}) as served:
+        begun = time.monotonic()
+        wanted = post_reply(Register(), 10, "ann", 1, ("advance",))
+        expect((reply := served.raw(advance(1))) == wanted, f"behind a slow commit: {reply}, where {wanted} is wanted")
+        seconds = time.monotonic() - begun
+        expect(seconds > SECONDS, f"a commit that is to be slow took {seconds:.1f} s")
+        expect((reply := served.raw(advance(1))) == wanted, f"sent again: {reply}, where {wanted} is wanted")
+        expect((fault := served.ended()) is None, f"after a slow commit: {fault}")
+    return f"a request whose commit took {seconds:.0f} s has its reply"
 
 
 # What the wall clock tells before a client was accepted, and the number of each of its requests with what it tells
@@ -242,9 +260,10 @@ def by_the_clock(environment: dict[str, str]) -> str:
     return f"{len(replies)} exchanges have the second of the wall clock, wherever it is set"
 
 
-# Which call fails, and whether the request was applied: None where the program ends.
+# Which call fails, and whether the request was applied: None where the program ends. The timer is asked before and
+# after each turn.
 FAILING = {
-    "monotonic 1": False, "monotonic 2": False, "monotonic 3": True, "SO_RCVTIMEO 1": False, "SO_SNDTIMEO 1": True,
+    "monotonic 1": False, "monotonic 3": True, "SO_RCVTIMEO 1": False, "SO_SNDTIMEO 1": True,
     "recv 1": False, "send 1": True, "realtime 1": None, "accept4 1": None,
 }
 
@@ -260,7 +279,14 @@ def failing(environment: dict[str, str]) -> str:
                 expect(reply == wanted, f"after {call} failed: {reply}, where {wanted} is wanted")
             fault = served.ended(*((0, b"") if is_applied is not None else (4, b"keyreg: ReadFault\n")))
             expect(fault is None, f"after {call} failed: {fault}")
-    return f"{len(FAILING)} calls that fail end an exchange, or the program by 35"
+    # Behind the failing timer no time is left: a request that has come whole is answered, one in pieces has no next turn.
+    broken = {**environment, "FAILS": "monotonic 2", "WALL": "9 10 11"}
+    for pieces, wanted in ((None, post_reply(Register(), 10, "ann", 1, ("advance",))), (40, b"")):
+        with Served(exchanges=1, environment=broken) as served:
+            reply = served.raw(advance(1), pieces=pieces)
+            expect(reply == wanted, f"where the timer fails behind a turn: {reply}, where {wanted} is wanted")
+            expect((fault := served.ended()) is None, f"where the timer fails behind a turn: {fault}")
+    return f"{len(FAILING) + 1} calls that fail end an exchange, or the program by 35"
 
 
 # ---- each
@@ -290,7 +316,8 @@ def main() -> None:
             pool.submit(waited, "sends slowly", slowly),
             pool.submit(waited, "is silent for eight seconds and then sends slowly", late_and_slowly),
             pool.submit(waited, "takes nothing of its reply", lambda client: client.sendall(KEY), full),
-            pool.submit(waited, "sends for five seconds and then takes nothing", for_half_the_time, full),
+            pool.submit(waited, "sends for five seconds and then takes nothing", for_half_the_time, full, SECONDS + 5),
+            pool.submit(slow, environment),
             pool.submit(longest_reply), pool.submit(longest_body, environment, folder / "longest_body"),
             pool.submit(behind_replies), pool.submit(behind_500),
             pool.submit(endless, environment, folder / "endless"), pool.submit(by_the_clock, environment),

@@ -4,6 +4,7 @@
             on; with each read it goes on by an hour
    FAILS    the name of a call, and how often it was called when it fails
    ENDLESS  a client that was told of the end has sent as many bytes as are asked for
+   SYNC     a sync of a file takes so many seconds once a client was read
    CALLS    the file that gets a line for each call on a connection: its name, and what it gave */
 #include <errno.h>
 #include <stdio.h>
@@ -79,6 +80,17 @@ int setsockopt(int to, int level, int name, const void *value, socklen_t size)
         return -1;
     return syscall(SYS_setsockopt, to, level, name, value, size);
 }
+
+static int synced(int call, int file)
+{
+    char *seconds = getenv("SYNC");
+    if (seconds && reads)
+        sleep(atol(seconds));
+    return syscall(call, file);
+}
+
+int fsync(int file) { return synced(SYS_fsync, file); }
+int fdatasync(int file) { return synced(SYS_fdatasync, file); }
 
 ssize_t recv(int from, void *bytes, size_t count, int flags)
 {

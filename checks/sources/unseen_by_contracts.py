@@ -111,11 +111,12 @@ CALLS = {
 CALL = re.compile(r"(?:\.|::|(?<!fn )\b)"
                   r"(execute|query|query_row|query_all|transaction|run|run_in_transaction|commit|rollback)\(")
 
-# Code that stands in a text beside this script too: of a file all, or these functions.
-HELD = {
-    "crates/keyreg/src/main.rt": ("program.rt.txt", ()),
-    "crates/disk_files/src/network.rt": ("network.rt.txt", ()),
-    "crates/disk_files/src/disk_files.rt": ("opening.rt.txt", ("connect_error", "connect")),
+# Texts beside this script, with the code that stands there too: of a file all, or these functions.
+HELD: dict[str, dict[str, tuple[str, ...]]] = {
+    "program.rt.txt": {"crates/keyreg/src/main.rt": ()},
+    "network.rt.txt": {"crates/disk_files/src/network.rt": ()},
+    "opening.rt.txt": {"crates/disk_files/src/opening.rt": ("of_no_file", "connect_error", "open_files"),
+                       "crates/disk_files/src/disk_files.rt": ("connect",)},
 }
 
 # The word, as it stands in code, and the crates in which it may.
@@ -159,10 +160,11 @@ def held_lines(path: str, names: tuple[str, ...]) -> list[str]:
 
 def held_faults() -> Iterator[str]:
     """Where code differs from the text that holds it."""
-    for path, (text, names) in HELD.items():
+    for text, files in HELD.items():
         wanted = read(f"checks/sources/{text}").splitlines()
-        differences = difflib.unified_diff(wanted, held_lines(path, names), n=0, lineterm="")
-        yield from (f"{path}, not as in {text}: {line}" for line in [*differences][2:])
+        stands = [line for path, names in files.items() for line in held_lines(path, names)]
+        differences = difflib.unified_diff(wanted, stands, n=0, lineterm="")
+        yield from (f"{', '.join(files)}, not as in {text}: {line}" for line in [*differences][2:])
 
 
 def mark_faults() -> Iterator[str]:
