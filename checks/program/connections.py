@@ -165,7 +165,7 @@ def behind_500() -> str:
 def endless(environment: dict[str, str], calls: pathlib.Path) -> str:
     with Served(exchanges=1, lines=LINES, environment={**environment, "CALLS": str(calls), "ENDLESS": "1"}) as served:
         reply = served.raw(KEY)
-        expect(reply == get_reply(REGISTER, 1, False), f"a client that sends on and on: {reply}")
+        expect(reply == get_reply(REGISTER, 1, False), f"a client that sends on and on: {reply!r}")
         expect((fault := served.ended()) is None, f"after a client that sends on and on: {fault}")
     names, counts = zip(*calls_of(calls))
     told = names.index("shutdown")
@@ -232,10 +232,11 @@ def slow(environment: dict[str, str]) -> str:
     with Served(exchanges=2, environment={**environment, "SYNC": str(SYNC), "WALL": "9 10 11"}) as served:
         begun = time.monotonic()
         wanted = post_reply(Register(), 10, "ann", 1, ("advance",))
-        expect((reply := served.raw(advance(1))) == wanted, f"behind a slow commit: {reply}, where {wanted} is wanted")
+        reply = served.raw(advance(1))
+        expect(reply == wanted, f"behind a slow commit: {reply!r}, where {wanted!r} is wanted")
         seconds = time.monotonic() - begun
         expect(seconds > SECONDS, f"a commit that is to be slow took {seconds:.1f} s")
-        expect((reply := served.raw(advance(1))) == wanted, f"sent again: {reply}, where {wanted} is wanted")
+        expect((reply := served.raw(advance(1))) == wanted, f"sent again: {reply!r}, where {wanted!r} is wanted")
         expect((fault := served.ended()) is None, f"after a slow commit: {fault}")
     return f"a request whose commit took {seconds:.0f} s has its reply"
 
@@ -252,8 +253,8 @@ def by_the_clock(environment: dict[str, str]) -> str:
         for number, seconds in TIMES:
             wanted = post_reply(register, int(seconds), "ann", number, ("advance",))
             replies.append(served.raw(advance(number)))
-            expect(replies[-1] == wanted, f"request {number} at {seconds}: {replies[-1]}, where {wanted} is wanted")
-        expect((reply := served.raw(advance(5))) == b"", f"a request at {PAST}: {reply}")
+            expect(replies[-1] == wanted, f"request {number} at {seconds}: {replies[-1]!r}, where {wanted!r} is wanted")
+        expect((reply := served.raw(advance(5))) == b"", f"a request at {PAST}: {reply!r}")
         fault = served.ended(4, b"keyreg: ReadFault\n")
         expect(fault is None, f"after a clock past the last moment: {fault}")
     expect(sum(b"MomentBehind" in reply for reply in replies) == 1, f"of {replies} one is refused 3")
@@ -272,19 +273,23 @@ def failing(environment: dict[str, str]) -> str:
     """The same request is sent again, a second later: its reply tells at which of the two it was applied."""
     for call, is_applied in FAILING.items():
         with Served(exchanges=2, environment={**environment, "FAILS": call, "WALL": "9 10 11"}) as served:
-            expect((reply := served.raw(advance(1))) == b"", f"where {call} fails: {reply}")
+            expect((reply := served.raw(advance(1))) == b"", f"where {call} fails: {reply!r}")
             if is_applied is not None:
                 reply = served.raw(advance(1))
                 wanted = post_reply(Register(), 10 if is_applied else 11, "ann", 1, ("advance",))
-                expect(reply == wanted, f"after {call} failed: {reply}, where {wanted} is wanted")
+                expect(reply == wanted, f"after {call} failed: {reply!r}, where {wanted!r} is wanted")
             fault = served.ended(*((0, b"") if is_applied is not None else (4, b"keyreg: ReadFault\n")))
             expect(fault is None, f"after {call} failed: {fault}")
-    # Behind the failing timer no time is left: a request that has come whole is answered, one in pieces has no next turn.
+    # Behind the failing timer no time is left: a request that has come whole is answered, one that has not ends there.
     broken = {**environment, "FAILS": "monotonic 2", "WALL": "9 10 11"}
-    for pieces, wanted in ((None, post_reply(Register(), 10, "ann", 1, ("advance",))), (40, b"")):
-        with Served(exchanges=1, environment=broken) as served:
-            reply = served.raw(advance(1), pieces=pieces)
-            expect(reply == wanted, f"where the timer fails behind a turn: {reply}, where {wanted} is wanted")
+    for begins, wanted in ((len(advance(1)), post_reply(Register(), 10, "ann", 1, ("advance",))), (40, b"")):
+        with Served(exchanges=1, environment=broken) as served, served.connected() as client:
+            client.sendall(advance(1)[:begins])
+            time.sleep(1)
+            with contextlib.suppress(OSError):
+                client.sendall(advance(1)[begins:])
+            reply = to_the_end(client)
+            expect(reply == wanted, f"where the timer fails behind a turn: {reply!r}, where {wanted!r} is wanted")
             expect((fault := served.ended()) is None, f"where the timer fails behind a turn: {fault}")
     return f"{len(FAILING) + 1} calls that fail end an exchange, or the program by 35"
 
@@ -299,7 +304,7 @@ def each() -> str:
         wanted = get_reply(REGISTER, 1, False)
         for client in range(1, CLIENTS + 1):
             reply = served.raw(KEY)
-            expect(reply == wanted, f"client {client}: {reply}")
+            expect(reply == wanted, f"client {client}: {reply!r}")
         expect((fault := served.ended()) is None, f"after {CLIENTS} clients: {fault}")
         rows = sound_rows(served.file)
         expect(rows == {**rows, **tables(REGISTER)}, f"{CLIENTS} clients who ask for a key changed it: {rows}")

@@ -22,7 +22,7 @@ from registers import INDEXES, Life, export_row, keyreg, new_register, sound_row
 from registers import write_first_version, write_register
 from register_rules import PERIODS, Register, line
 from rules_shown import DAY, export_text, import_table, report_text, tables
-from script import expect, fresh_folder, in_memory, in_order, options, verdict
+from script import expect, fresh_folder, in_memory, in_order, not_none, options, verdict
 from serving import Served, get
 
 KEYS, BEGUN, YEAR = 150, 1_000_000_000, 365 * DAY
@@ -194,7 +194,7 @@ def look_at_import_by_rows(file: pathlib.Path, count: int) -> None:
     header, *rows = import_table([("master", "bob", None, None, None, purpose) for purpose in purposes]).splitlines()
     wanted = [f"ok {place} Pre-Active 100" for place in range(1, count + 1)]
     with Life(file, words_for("import", file, **IMPORTER)) as life:
-        life.stdin.write(f"{header}\n".encode())
+        not_none(life.stdin).write(f"{header}\n".encode())
         in_order(map(life.reply, rows), wanted, f"{count} rows, one by one")
     expect(life.returncode == 0, f"an import row by row: status {life.returncode}")
     exported = [",".join(export_row(number=number, state="Pre-Active", purpose=purpose))
@@ -232,9 +232,9 @@ def look_at_far_keys(file: pathlib.Path, count: int) -> None:
                 ("bob", "set-quorum", key, 2), ("bob", "add-custodian", key, "ann"),
                 ("bob", "add-custodian", key, "cy"), ("bob", "activate", key), ("bob", "revoke", key, 1, None),
                 ("ann", "approve", key), ("cy", "approve", key), ("bob", "destroy", key)]
-        for caller, *command in commands:
+        for caller, *words in commands:
             place = len(exchanges)
-            request = (200 + place, caller, 1 + place, tuple(command))
+            request = (200 + place, caller, 1 + place, tuple(words))
             exchanges.append((line(*request), reply_line(register, *request)))
     expect(all(reply.startswith("ok ") for _, reply in exchanges[:-8]), f"the rules say {exchanges}")
     look_at_replies(file, exchanges, f"keys {keys}")

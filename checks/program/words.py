@@ -197,7 +197,7 @@ def long_path(folder: pathlib.Path, length: int, last: int = 100) -> str:
 def look_at_no_files(folder: pathlib.Path) -> None:
     """Paths that name no file, a register with a slash behind it among them, and a file that is not there: nothing is
     made or changed."""
-    before = made(folder / "register").read_bytes()
+    before = pathlib.Path(made(folder / "register")).read_bytes()
     for path, command in itertools.product((":memory:", "file:x", "file::memory:", "", "gone/x", ".", "x", "x/",
                                             "register/", "register//", "register/."), OPTIONS):
         if (path, command) != ("x", "init"):
