@@ -39,13 +39,14 @@ class Label(NamedTuple):
     edit: str = ""
 
 
-# The parent of a process, and the processor seconds of it and of those that it has waited for.
-Stat = tuple[int, float]
+# The parent of a process, the processor seconds of it and of those that it has waited for, and when it began: a number
+# of a process comes back.
+Stat = tuple[int, float, int]
 
 
 def stat_of(pid: int) -> Stat:
     fields = pathlib.Path(f"/proc/{pid}/stat").read_text(encoding="utf-8", errors="replace").rpartition(")")[2].split()
-    return int(fields[1]), sum(map(int, fields[11:15])) / TICKS
+    return int(fields[1]), sum(map(int, fields[11:15])) / TICKS, int(fields[19])
 
 
 def is_made(edit: pathlib.Path, room: pathlib.Path) -> bool:
@@ -73,41 +74,43 @@ class Watch:
     """Looks at the processes below one, again and again, and keeps what each of its checks has used."""
 
     def __init__(self, pid: int) -> None:
-        self.pid, self.labels = pid, dict[int, Optional[Label]]()
-        self.used = collections.defaultdict[int, float](float)
+        self.pid, self.labels = pid, dict[tuple[int, int], Optional[Label]]()
+        self.used = collections.defaultdict[tuple[int, int], float](float)
 
-    def checks(self, pid: int, stats: dict[int, Stat]) -> Optional[int]:
+    def checks(self, pid: int, stats: dict[int, Stat]) -> Optional[tuple[int, int]]:
         """The labelled process that this one is or stands below, the nearest to the one that is watched."""
         nearest = None
         while pid > 1 and pid in stats:
-            nearest = pid if self.labels.get(pid) else nearest
+            parent, _, began = stats[pid]
+            nearest = (pid, began) if self.labels.get((pid, began)) else nearest
             if pid == self.pid:
                 return nearest
-            pid, _ = stats[pid]
+            pid = parent
         return None
 
     def look(self) -> None:
-        stats, now = dict[int, Stat](), collections.Counter[int]()
+        stats, now = dict[int, Stat](), collections.Counter[tuple[int, int]]()
         for pid in map(int, filter(str.isdigit, os.listdir("/proc"))):
             with contextlib.suppress(OSError, ValueError, IndexError):
                 stats[pid] = stat_of(pid)
-        for pid in stats.keys() - self.labels.keys():
-            with contextlib.suppress(OSError):
-                label = label_of(pid)
-                # A young process may become the checker yet.
-                if label or stats[pid][1] > 1:
-                    self.labels[pid] = label
-        for pid, (_, seconds) in stats.items():
+        for pid, (_, seconds, began) in stats.items():
+            if (pid, began) not in self.labels:
+                with contextlib.suppress(OSError):
+                    label = label_of(pid)
+                    # A young process may become the checker yet.
+                    if label or seconds > 1:
+                        self.labels[pid, began] = label
+        for pid, (_, seconds, _) in stats.items():
             if above := self.checks(pid, stats):
                 now[above] += seconds
-        for pid, seconds in now.items():
-            self.used[pid] = max(self.used[pid], seconds)
+        for process, seconds in now.items():
+            self.used[process] = max(self.used[process], seconds)
 
     def costs(self) -> dict[str, "Cost"]:
         """What each crate's checks have used."""
         costs = collections.defaultdict[str, Cost](Cost)
-        for pid, seconds in self.used.items():
-            crate, kind, edit = self.labels[pid]
+        for process, seconds in self.used.items():
+            crate, kind, edit = self.labels[process]
             costs[crate].minutes[kind] += seconds / 60
             costs[crate].edits += [(seconds, edit)] * (kind == "edits")
         return costs
