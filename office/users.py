@@ -13,7 +13,8 @@ FILE is /etc/nginx/keyreg.users where none is named. nginx takes the first line 
 the password before is refused from then on. nginx reads the file with each exchange; a new one is moved into the place
 whole. The first belongs to GROUP (www-data), which may read it; each later one has owner, group and mode of the former.
 
-A user's name is a caller's, and no other is taken. It needs openssl. The status is 0 where it is done, 1 where nothing was changed, 2 where words are wrong.
+A user's name is a caller's, and no other is taken. It needs openssl. The status is 0 where it is done, 1 where nothing
+was changed, 2 where words are wrong.
 """
 import argparse
 import contextlib

@@ -1,5 +1,5 @@
-"""How the desk looks: what Chromium's accessibility tree says of each page, what axe finds in it, contrast, focus, widths, dark and print;
-and how soon it shows what is found among 100,000 keys."""
+"""How the desk looks: what Chromium's accessibility tree says of each page, what axe finds in it, contrast, focus,
+widths, dark and print; and how soon it shows what is found among 100,000 keys."""
 import pathlib
 
 from axe import violations

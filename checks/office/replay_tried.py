@@ -204,7 +204,8 @@ def remade(table: str, old: str, new: str) -> list[str]:
     made = not_none(re.search(rf"(?m)^CREATE TABLE {table} (.*);$", TABLES))[1]
     expect(old in made, f"no {old!r} in {made}")
     return [f"CREATE TABLE other {made.replace(old, new, 1)}",
-            f"INSERT INTO other SELECT * FROM {table} ORDER BY rowid", f"DROP TABLE {table}", f"ALTER TABLE other RENAME TO {table}"]
+            f"INSERT INTO other SELECT * FROM {table} ORDER BY rowid", f"DROP TABLE {table}",
+            f"ALTER TABLE other RENAME TO {table}"]
 
 
 def defined_otherwise(folder: pathlib.Path, first: File, full: File) -> int:
