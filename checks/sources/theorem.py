@@ -21,14 +21,16 @@ import definitions
 from definitions import Definition, Key
 from script import not_none, options, verdict
 
-# The law whose contract is the theorem: its file, and its name.
-ROOT = ("crates/register_program/src/laws.rt", "register_is_found_again")
+# The function whose contract is the theorem: its file, and its name.
+ROOT = ("crates/register_program/src/world.rt", "run_again_and_again")
 # The contracts that tie it to the code, which THEOREM shows as they stand: those of its step, and that of an opening.
 STEP = (("crates/register_program/src/acting.rt", "act"),)
 OPENING = (("crates/register_program/src/register_file.rt", "open_file"),
            ("crates/register_program/src/laws.rt", "openings_find_lives"))
+# What it presumes of the outside.
+WORLD = Key("register_program", "src/world.rt", "World")
 # What the theorem states.
-STATEMENT = Key("register_program", "Sentence", "AreFoundAgain")
+STATEMENT = Key("register_program", "Sentence", "FindsAgain")
 # Of what these name, what DEFINITIONS has too: what leads on, what an opening finds, and what the machine's files are.
 TIES = (Key("register_program", "Sentence", "LeadsFrom"), Key("register_program", "Opening", "FindsHistory"),
         Key("disk_files", "src/disk_files.rt", "DiskFilesFiles"))
@@ -140,6 +142,7 @@ def theorem_page() -> str:
     number, lines, _ = count(theorem()[1])
     return words_of("theorem").format(
         says=not_none(re.search(r"(?:^> .*\n)+", read("README.md"), re.M))[0].rstrip(), step=step, opening=opening,
+        world="\n".join(definitions.definition(WORLD).text),
         law="\n".join(theorem()[0].text), number=f"{number:,}", lines=f"{lines:,}",
         statement="\n".join(definitions.definition(STATEMENT).text))
 

@@ -16,8 +16,9 @@
 - How often a connection was called: each function of `Counted` makes the calls of CALLS, once.
 - What a crate of the program touches of the machine. A function reaches a file, a connection, a clock or the program's
   words only through what it is given: the calls of `std` that do take the runtime, or a value under one of its bounds.
-  So where neither a word of GIVEN nor a runtime stands, no function reaches them. What has the runtime, and of which
-  contracts say little, stands word by word in a text of HELD too, without comments and empty lines.
+  So where neither a word of GIVEN nor a runtime stands, no function reaches them.
+- What has the runtime, and of which contracts say little, and loops over rows that might end too early: these stand
+  word by word in held.rt.txt too, without comments and empty lines.
 """
 import collections
 import difflib
@@ -49,7 +50,7 @@ MARKED = {
         "has_failed": ["self.failed"],
         "listen": ["self.failed = true;"],
         "new": ["accepted: 0,", "failed: false,"],
-        "tell_moment": ["self.failed = self.failed || moment.is_none();"],
+        "tell_moment": ["self.failed = true;", "self.failed = self.failed || moment.is_none();"],
     }),
 }
 # The most lines of the body of a turn, and of what it calls.
@@ -111,12 +112,15 @@ CALLS = {
 CALL = re.compile(r"(?:\.|::|(?<!fn )\b)"
                   r"(execute|query|query_row|query_all|transaction|run|run_in_transaction|commit|rollback)\(")
 
-# Texts beside this script, with the code that stands there too: of a file all, or these functions.
-HELD: dict[str, dict[str, tuple[str, ...]]] = {
-    "program.rt.txt": {"crates/keyreg/src/main.rt": ()},
-    "network.rt.txt": {"crates/disk_files/src/network.rt": ()},
-    "opening.rt.txt": {"crates/disk_files/src/opening.rt": ("of_no_file", "connect_error", "open_files"),
-                       "crates/disk_files/src/disk_files.rt": ("connect",)},
+# The code that stands in held.rt.txt beside this script too: of a file all, or these functions.
+HELD: dict[str, tuple[str, ...]] = {
+    "crates/keyreg/src/main.rt": (),
+    "crates/disk_files/src/network.rt": (),
+    "crates/disk_files/src/opening.rt": ("of_no_file", "connect_error", "open_files"),
+    "crates/disk_files/src/disk_files.rt": ("connect",),
+    "crates/row_checks/src/reading.rt": ("check_rows_left",),
+    "crates/register_desk/src/desk/listing.rt": ("next_row_by_number", "next_due_row_by_stop"),
+    "crates/register_report/src/table_writing.rt": ("put_and_count_listed_rows",),
 }
 
 # The word, as it stands in code, and the crates in which it may.
@@ -160,11 +164,9 @@ def held_lines(path: str, names: tuple[str, ...]) -> list[str]:
 
 def held_faults() -> Iterator[str]:
     """Where code differs from the text that holds it."""
-    for text, files in HELD.items():
-        wanted = read(f"checks/sources/{text}").splitlines()
-        stands = [line for path, names in files.items() for line in held_lines(path, names)]
-        differences = difflib.unified_diff(wanted, stands, n=0, lineterm="")
-        yield from (f"{', '.join(files)}, not as in {text}: {line}" for line in [*differences][2:])
+    stands = [line for path, names in HELD.items() for line in held_lines(path, names)]
+    differences = difflib.unified_diff(read("checks/sources/held.rt.txt").splitlines(), stands, n=0, lineterm="")
+    yield from (f"not as in held.rt.txt: {line}" for line in [*differences][2:])
 
 
 def mark_faults() -> Iterator[str]:
@@ -210,7 +212,7 @@ def main() -> None:
     faults = [*mark_faults(), *place_faults(), *call_faults(), *given_faults(), *held_faults()]
     memory, refused = map(sum, zip(*PLACES.values()))
     verdict(f"marks of streams, {memory} places that make want of memory, {refused} a refused call, {len(CALLS)} "
-            f"functions that call a connection, {len(GIVEN)} words of the machine, {len(HELD)} texts of code: "
+            f"functions that call a connection, {len(GIVEN)} words of the machine, code of {len(HELD)} files: "
             f"{len(faults)} faults", faults)
 
 

@@ -62,7 +62,7 @@ impl<'a, S: Start> Files for DiskFiles<'a, S> {
 
     type Failed = FailedFiles<FileFrom<S>>;
 
-    ghost start = { λ file. image_at S.Start };
+    ghost start = { λ files file. image_at S.Start };
 
     ghost may_leave = { λ left. (files.state left).may_leave };
 

@@ -6,4 +6,4 @@ mod network;
 mod opening;
 
 pub use disk_files::DiskFiles;
-pub use network::{MachineListener, MachineNetwork, MachineReadHalf, MachineWriteHalf};
+pub use network::{MachineNetwork, MachineReadHalf, MachineWriteHalf};

@@ -1,6 +1,9 @@
 //! The machine's own network.
-use machine_traits::{Client, Listener, Network, ReadHalf, WriteHalf};
-use std::io::{self, Read, Write};
+ghost use Rattle.std.specs.Prelude.{[], ◌∷◌, None};
+ghost use Rattle.machine_traits.specs.Network.{Notes, Went};
+
+use machine_traits::{Client, Network, ReadHalf, WriteHalf};
+use std::io::{self, ErrorKind, Read, Write};
 use std::net::{Ipv4Addr, Shutdown, SocketAddr, TcpListener, TcpStream};
 use std::time::{Clock, Duration};
 
@@ -12,21 +15,59 @@ const MAX_READS_BEHIND: usize = 256;
 #[derive(Drop)]
 pub struct MachineNetwork<'a> {
     rt: &'a HostRuntime,
+    /// The port at which it listens.
+    listener: Option<TcpListener>,
 }
 
 impl<'a> MachineNetwork<'a> {
-    /// That of this runtime.
+    /// That of this runtime. It listens at no port yet.
     pub fn new(rt: &'a HostRuntime) -> Self {
-        MachineNetwork { rt }
+        MachineNetwork { rt, listener: None }
+    }
+
+    /// Where it listens.
+    ///
+    /// # Errors
+    /// As the system told it, and where it listens at no port.
+    pub fn local_addr(&self) -> io::Result<SocketAddr> {
+        self.listener()?.local_addr()
+    }
+
+    /// The port at which it listens.
+    fn listener(&self) -> io::Result<&TcpListener> {
+        self.listener
+            .as_ref()
+            .ok_or(io::Error::from(ErrorKind::NotConnected))
     }
 }
 
 impl<'a> Network for MachineNetwork<'a> {
-    type Listener = MachineListener;
+    type ReadHalf = MachineReadHalf;
 
-    fn listen_at_localhost(&self, port: u16) -> io::Result<MachineListener> {
-        let listener = TcpListener::bind(self.rt, (Ipv4Addr::LOCALHOST, port))?;
-        Ok(MachineListener { listener })
+    type WriteHalf = MachineWriteHalf;
+
+    fn listen_at_localhost(&mut self, port: u16) -> io::Result<()> {
+        self.listener = Some(TcpListener::bind(self.rt, (Ipv4Addr::LOCALHOST, port))?);
+        Ok(())
+    }
+
+    fn accept_client(&mut self) -> io::Result<Client<MachineReadHalf, MachineWriteHalf>> {
+        let (stream, _) = self.listener()?.accept()?;
+        let other = stream.try_clone()?;
+        Ok(Client {
+            read_half: MachineReadHalf { stream },
+            write_half: MachineWriteHalf { stream: other },
+        })
+    }
+
+    fn tell_time(&mut self) -> io::Result<Duration> {
+        self.rt.since_1970()
+    }
+
+    fn see_off(&mut self, client: Client<MachineReadHalf, MachineWriteHalf>)
+        ensures { Notes None None (Went None ∷ []) }
+    {
+        drop(client);
     }
 }
 
@@ -37,37 +78,6 @@ impl<'a> Clock for MachineNetwork<'a> {
 
     fn since_1970(&self) -> io::Result<Duration> {
         self.rt.since_1970()
-    }
-}
-
-/// A port of the machine.
-#[derive(Drop)]
-pub struct MachineListener {
-    listener: TcpListener,
-}
-
-impl MachineListener {
-    /// Where it listens.
-    ///
-    /// # Errors
-    /// As the system told it.
-    pub fn local_addr(&self) -> io::Result<SocketAddr> {
-        self.listener.local_addr()
-    }
-}
-
-impl Listener for MachineListener {
-    type ReadHalf = MachineReadHalf;
-
-    type WriteHalf = MachineWriteHalf;
-
-    fn accept_client(&self) -> io::Result<Client<MachineReadHalf, MachineWriteHalf>> {
-        let (stream, _) = self.listener.accept()?;
-        let other = stream.try_clone()?;
-        Ok(Client {
-            read_half: MachineReadHalf { stream },
-            write_half: MachineWriteHalf { stream: other },
-        })
     }
 }
 

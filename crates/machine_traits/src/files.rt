@@ -61,7 +61,7 @@ pub trait Files {
     type Failed: Drop;
 
     /// What the file of this path and its log hold before they are opened.
-    ghost start: { List ℕ → Image };
+    ghost start: { Self → List ℕ → Image };
 
     /// What a stop may leave in them.
     ghost may_leave: { Self.Opened → Image → Type 0 };
@@ -80,11 +80,11 @@ pub trait Files {
     ) -> Result<Connection<Self::Opened>, NotConnected<Self::Failed>>
         // The connection shows what the files hold.
         ensures shows { IfOk result (λ connection. HasCleanDisk (state Self.Opened.Store connection)
-            → ShowsFiles (start file.now) (state Self.Opened.Store connection)) }
+            → ShowsFiles (start self file.now) (state Self.Opened.Store connection)) }
         ensures idle { IfOk result (λ connection. connection.in_transaction ≡ false) }
         // What failed left what the files held.
         ensures stands { IfErr result (λ it. (left : Image) → may_leave_failed it.failed left
-            → ∥ StandsAs (start file.now) left ∥₁) };
+            → ∥ StandsAs (start self file.now) left ∥₁) };
 
     /// Copies the log into the database file. What cannot be copied stays in the log, where the
     /// next opening finds it.

@@ -5,4 +5,4 @@ mod files;
 mod network;
 
 pub use files::{Absent, Closed, ConnectError, Files, LogCopy, NotConnected};
-pub use network::{Client, Listener, Network, ReadHalf, WriteHalf};
+pub use network::{Client, Network, ReadHalf, WriteHalf};

@@ -1,8 +1,9 @@
 //! The network that a register is served on, whoever is on it.
-ghost use Rattle.std.specs.Prelude.{◌≡◌, ℕ, List, Option, None, Bool, true};
+ghost use Rattle.std.specs.Prelude.{◌≡◌, ℕ, List, [], ◌∷◌, Option, None, Bool, true, IfOk, IfErr};
+ghost use Rattle.std.specs.Duration.{as_nanos};
 ghost use Rattle.std.specs.Io.{ReadsAtMost, WritesAtMost};
 ghost use Rattle.std.specs.Io.KnownBytes.{ReadConsumes, WriteAppends};
-ghost use Rattle.machine_traits.specs.Network.{LosesSome};
+ghost use Rattle.machine_traits.specs.Network.{LosesSome, Notes, Visit, Came, Told, Went};
 
 use std::io;
 use std::time::Duration;
@@ -60,26 +61,43 @@ pub struct Client<R, W> {
     pub write_half: W,
 }
 
-/// A port at which clients come.
-pub trait Listener {
+/// What a register is served on: a port of the machine at which clients come, and its clock.
+pub trait Network {
     type ReadHalf: ReadHalf + Drop;
 
     type WriteHalf: WriteHalf + Drop;
 
-    /// Waits for the next client.
-    ///
-    /// # Errors
-    /// As the system told it.
-    fn accept_client(&self) -> io::Result<Client<Self::ReadHalf, Self::WriteHalf>>;
-}
+    /// What it had of clients and of the time, in order, where that is known.
+    ghost visits: { Self → Option (List Visit) } = { λ _. None };
 
-/// What listens at ports.
-pub trait Network {
-    type Listener: Listener + Drop;
-
-    /// A listener at this port of the machine itself, which no other machine reaches.
+    /// Listens at this port of the machine itself, which no other machine reaches.
     ///
     /// # Errors
     /// As the system refused it.
-    fn listen_at_localhost(&self, port: u16) -> io::Result<Self::Listener>;
+    fn listen_at_localhost(&mut self, port: u16) -> io::Result<()>
+        ensures { visits self.new ≡ visits self.old };
+
+    /// Waits for the next client at the port.
+    ///
+    /// # Errors
+    /// As the system told it.
+    fn accept_client(&mut self) -> io::Result<Client<Self::ReadHalf, Self::WriteHalf>>
+        ensures comes { IfOk result (λ client. Notes (visits self.old) (visits self.new)
+            (Came (Self.ReadHalf.remaining client.read_half)
+            (Self.WriteHalf.contents client.write_half) ∷ [])) }
+        ensures fails { IfErr result (λ _. visits self.new ≡ visits self.old) };
+
+    /// The time since 1970.
+    ///
+    /// # Errors
+    /// As the system told it.
+    fn tell_time(&mut self) -> io::Result<Duration>
+        ensures tells { IfOk result (λ time. Notes (visits self.old) (visits self.new)
+            (Told (as_nanos time) ∷ [])) }
+        ensures fails { IfErr result (λ _. visits self.new ≡ visits self.old) };
+
+    /// Closes the connection of a client who was served.
+    fn see_off(&mut self, client: Client<Self::ReadHalf, Self::WriteHalf>)
+        ensures { Notes (visits self.old) (visits self.new)
+            (Went (Self.WriteHalf.contents client.write_half) ∷ []) };
 }

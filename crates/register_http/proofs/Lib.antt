@@ -1,3 +1,4 @@
 mod ActingLemmas
 mod ServingLemmas
+mod ServedOne
 pub mod Served

@@ -1,11 +1,12 @@
 -- Exchanges that were served one after the other.
 use Rattle.std.proofs.Common.{◌≡◌, ◌≢◌, inl, inr, ◌+◌, ◌≤◌, ◌++◌, ℕ, List, [], ◌∷◌, length, Option, None, Some, sym, ap}
-use Rattle.std.proofs.Common.{subst, ◌∙◌, arith, refl, true, false, Bool, length-append, IfSome, Result, Ok, Err}
-use Rattle.std.proofs.lemmas.List.{append-nil, take_all}
-use Rattle.std.proofs.Math.Logic.{∥∥₁_map}
+use Rattle.std.proofs.Common.{subst, subst₂, ◌∙◌, ◌-◌, arith, refl, true, false, suc, flat_map, length-append, take, IfSome}
+use Rattle.std.proofs.Common.{Result, Ok, Err}
+use Rattle.std.proofs.lemmas.List.{append-nil, append_assoc, take_all}
+use Rattle.std.proofs.lemmas.Grind.{flat_map-append}
+use Rattle.std.proofs.Math.Seq.{take-append_seam}
 use Rattle.std.proofs.lemmas.List.Sums.{fold-append}
 use Rattle.std.specs.{Prelude.MatchResult, Prelude.String, declared.alloc.Global.Global}
-use Rattle.sqlite.specs.Recovery.{Image}
 use Rattle.sqlite_trees.specs.declared.store.Store.{Ghosts}
 use Rattle.register_requests.specs.{declared.request.Request.Request, Request.IsRequest}
 use Rattle.register_core.specs.Fold.{history, history_after}
@@ -13,8 +14,7 @@ use Rattle.register_core.proofs.Lawful.{all_more}
 use Rattle.register_desk.specs.declared.end.End.TheVariants.{Memory, Store, Broken, ReadFault, WriteFault, BadHeader}
 use Rattle.register_desk.specs.declared.outcome.Finish.TheVariants.{AtEnd, Ended}
 use Rattle.register_desk.specs.Desk.{GoesOn, IsClean, IsWhole, LeavesEither}
-use Rattle.register_desk.specs.DatabaseFiles.{HoldsOneOf, HoldsRegister}
-use Rattle.register_desk.specs.Lives.{AreInRange, Life, after, life_of}
+use Rattle.register_desk.specs.Lives.{IsLife, LeavesLife, MayApplyOneMore, life_of}
 use Rattle.register_desk.specs.{declared.desk.Desk.Desk, declared.end.End.End, declared.outcome.Finish.Finish}
 use Rattle.register_desk.specs.{declared.outcome.Outcome.Outcome, Register.StandsFor, Run.LeavesDesk}
 use Rattle.register_desk.proofs.Found.{leaves_alone}
@@ -22,10 +22,13 @@ use Rattle.register_desk.proofs.Lived.{goes_then, leaves_going, leaves_stopped, 
 use Rattle.http_messages.specs.{declared.asked.AskFault.AskFault, declared.asked.Asked.Asked}
 use Rattle.http_messages.specs.declared.asked.AskFault.TheVariants as fault
 use Rattle.register_http.specs.Exchange.{EndsAs, Exchanges, ServesAsked}
-use Rattle.register_http.specs.{Action.StopsAsked, OneItem.LeavesOne}
-use Rattle.register_http.specs.ServedExchanges.{EndsServing, ExplainsEnd, LeavesSome, ServesClients}
+use Rattle.register_http.specs.Action.{StopsAsked}
+use Rattle.register_http.specs.ServedExchanges.{AreServed, EndsServing, ExplainsEnd, IsServed, LeavesServed, ServedClient}
+use Rattle.register_http.specs.ServedExchanges.{Attends, LastEnded, count_known, visits_of}
+use Rattle.machine_traits.specs.Network.{Came, Notes, Told, Visit, Went}
 use Rattle.register_http.specs.declared.attendance.Attendance.{Attendance}
-use Rattle.register_http.specs.Within.{StandsForSome, may_serve_on}
+use Rattle.register_http.specs.Within.{StandsForServed, may_serve_on}
+use Rattle.register_http.proofs.ServedOne.{ServesOne}
 
 -- the register may be asked again
 pub not_store : (end : Finish) → may_serve_on end ≡ true → end ≢ Ended Store
@@ -40,84 +43,143 @@ ends_serving (Ended ReadFault) off = absurd (cc)
 ends_serving (Ended WriteFault) off = absurd (cc)
 ends_serving (Ended BadHeader) off = absurd (cc)
 
-one_more : (h : List Request) (items next : List (Option Request)) → history h (items ++ next)
-    ≡ history (history h items) next
-one_more h items next = fold-append history_after h items next
+one_more : (h : List Request) (items : List (Option Request)) (item : Option Request) → history h (items ++ item ∷ [])
+    ≡ history_after (history h items) item
+one_more h items item = fold-append history_after h items (item ∷ [])
 
-none_more : (h : List Request) (items : List (Option Request)) → history h (items ++ []) ≡ history h items
-none_more h items = ap (history h) (append-nil items)
+-- one client after others
+served_on : (h : List Request) (clients : List ServedClient) (items : List (Option Request)) (client : ServedClient)
+    (item : Option Request) → AreServed h clients items → IsServed (history h items) client item
+    → AreServed h (clients ++ client ∷ []) (items ++ item ∷ [])
+served_on h [] [] client item served one = (one, tt)
+served_on h (first ∷ clients) (its ∷ items) client item served one =
+    (served.0, served_on (history_after h its) clients items client item served.1 one)
+served_on h [] (its ∷ items) client item served one = absurd served
+served_on h (first ∷ clients) [] client item served one = absurd served
+
+-- one item of each client
+as_many : (h : List Request) (clients : List ServedClient) (items : List (Option Request)) → AreServed h clients items
+    → length items ≡ length clients
+as_many h [] [] served = refl
+as_many h (client ∷ clients) (item ∷ items) served =
+    ap suc (as_many (history_after h item) clients items served.1)
+as_many h [] (item ∷ items) served = absurd served
+as_many h (client ∷ clients) [] served = absurd served
 
 module _ {S : Type 0} (g : Ghosts S) (h : List Request) where
-  pub served_none : (desk : Desk S g) → StandsFor g desk h → IsWhole desk → StandsForSome g h 0 desk
+  pub served_none : (desk : Desk S g) → StandsFor g desk h → IsWhole desk → StandsForServed g h [] desk
   served_none desk stands whole = record {
     items = [];
-    few = omega arith;
+    served = tt;
     in_range = tt;
     stands = stands;
     whole = whole;
   }
 
-  -- an exchange was served after which the desk is whole
-  pub served_next : (n : ℕ) (kept now : Desk S g) (end : Finish) → StandsForSome g h n kept
-      → ((k : List Request) → StandsFor g kept k → IsWhole kept → IsClean g now → LeavesOne g k now end)
-      → IsClean g now → end ≢ Ended Store → StandsForSome g h (n + 1) now
-  served_next n kept now end so_far leaves clean other =
-      let one = leaves (history h so_far.items) so_far.stands so_far.whole clean in
-      let more = length-append so_far.items (one.item ∷ []) in
-      elim (one.stands other) [
-        | inl same ↦ record {
-          items = so_far.items;
-          few = omega (arith, so_far.few);
-          in_range = so_far.in_range;
-          stands = same;
-          whole = one.whole
-              other;
-        }
-        | inr next ↦ record {
-          items = so_far.items ++ one.item ∷ [];
-          few = omega (arith, more, so_far.few);
-          in_range = all_more (λ item. IfSome item IsRequest) so_far.items one.item so_far.in_range one.in_range;
-          stands = subst (StandsFor g now) (sym (one_more h so_far.items (one.item ∷ []))) next;
-          whole = one.whole other;
-        }
-      ]
-
-  -- no more is served
-  pub served_all : (n most : ℕ) (desk : Desk S g) → StandsForSome g h n desk → n ≤ most → IsClean g desk
-      → LeavesSome g h most desk
-  served_all n most desk so_far within clean = record {
-    items = so_far.items;
-    next = [];
-    one = omega arith;
-    few = omega (arith, ap length (append-nil so_far.items), so_far.few, within);
-    in_range = subst AreInRange (sym (append-nil so_far.items)) so_far.in_range;
-    leaves = subst (λ k. LeavesEither g (history h so_far.items) k desk) (sym (none_more h so_far.items))
-        (leaves_alone g (history h so_far.items) desk so_far.stands so_far.whole clean);
-  }
-
-  -- an exchange was the last one
-  pub served_last : (n most : ℕ) (kept now : Desk S g) (end : Finish) → StandsForSome g h n kept
-      → ((k : List Request) → StandsFor g kept k → IsWhole kept → IsClean g now → LeavesOne g k now end)
-      → n + 1 ≤ most → IsClean g now → LeavesSome g h most now
-  served_last n most kept now end so_far leaves within clean =
-      let one = leaves (history h so_far.items) so_far.stands so_far.whole clean in
+  -- a client was served after whom the desk is whole
+  pub served_next : (clients : List ServedClient) (client : ServedClient) (kept now : Desk S g)
+      → StandsForServed g h clients kept
+      → ((k : List Request) → StandsFor g kept k → IsWhole kept → ServesOne g k client now)
+      → client.outcome.end ≢ Ended Store → StandsForServed g h (clients ++ client ∷ []) now
+  served_next clients client kept now so_far serves other =
+      let one = serves (history h so_far.items) so_far.stands so_far.whole in
       record {
-        items = so_far.items;
-        next = one.item ∷ [];
-        one = omega arith;
-        few = omega (arith, length-append so_far.items (one.item ∷ []), so_far.few, within);
+        items = so_far.items ++ one.item ∷ [];
+        served = served_on h clients so_far.items client one.item so_far.served one.served;
         in_range = all_more (λ item. IfSome item IsRequest) so_far.items one.item so_far.in_range one.in_range;
-        leaves = subst (λ k. LeavesEither g (history h so_far.items) k now)
-            (sym (one_more h so_far.items (one.item ∷ []))) one.leaves;
+        stands = subst (StandsFor g now) (sym (one_more h so_far.items one.item)) (one.stands other);
+        whole = one.whole other;
       }
 
-  -- nothing was served
-  pub served_nothing : (most : ℕ) (desk : Desk S g) → StandsFor g desk h → IsWhole desk → IsClean g desk
-      → LeavesSome g h most desk
-  served_nothing most desk stands whole clean =
-      served_all 0 most desk (served_none desk stands whole) (omega arith) clean
+  -- a stop leaves the register after so many items, or perhaps one more
+  either_life : (items : List (Option Request)) (end : Finish) (n : ℕ) (desk : Desk S g)
+      → IsLife end false (life_of items n false) → IsLife end true (life_of items n true)
+      → LeavesEither g (history h (take (n + 0) items)) (history h (take (n + 1) items)) desk
+      → LeavesLife g h items end n desk
+  either_life items end n desk none one leaves trees may_leave =
+      let (db, holds, is) = leaves trees may_leave in elim holds [
+        | inl first ↦ (false, none, db, first, is)
+        | inr more ↦ (true, one, db, more, is)
+      ]
 
--- ---- the life that was served
+  -- after all of them
+  all_life : (items : List (Option Request)) (end : Finish) (n : ℕ) (desk : Desk S g)
+      → IsLife end false (life_of items n false)
+      → LeavesEither g (history h (take (n + 0) items)) (history h (take (n + 0) items)) desk
+      → LeavesLife g h items end n desk
+  all_life items end n desk none leaves trees may_leave =
+      let (db, holds, is) = leaves trees may_leave in
+      (false, none, db, elim holds [ inl one ↦ one | inr two ↦ two ], is)
+
+  -- no more are served
+  pub served_all : (clients : List ServedClient) (end : Finish) (desk : Desk S g) → MayApplyOneMore end false
+      → count_known end (length clients) ≡ length clients → StandsForServed g h clients desk → IsClean g desk
+      → LeavesServed g h clients end desk
+  served_all clients end desk may known so_far clean =
+      let items = so_far.items in
+      let count = as_many h clients items so_far.served in
+      let n = count_known end (length clients) in
+      let all : take (n + 0) items ≡ items = take_all (n + 0) items (omega (arith, known, count)) in
+      record {
+        items = items;
+        served = so_far.served;
+        in_range = so_far.in_range;
+        leaves = all_life items end n desk
+            (record { in_range = so_far.in_range; one_more_is = may; enough = omega (arith, known, count) })
+            (subst (λ (taken : List (Option Request)). LeavesEither g (history h taken) (history h taken) desk) (sym all)
+            (leaves_alone g (history h items) desk so_far.stands so_far.whole clean));
+      }
+
+  -- nobody was served
+  pub served_nothing : (end : Finish) (desk : Desk S g) → MayApplyOneMore end false → count_known end 0 ≡ 0
+      → StandsFor g desk h → IsWhole desk → IsClean g desk → LeavesServed g h [] end desk
+  served_nothing end desk may known stands whole clean =
+      served_all [] end desk may known (served_none desk stands whole) clean
+
+  -- the database refused the last one
+  pub served_last : (clients : List ServedClient) (client : ServedClient) (kept now : Desk S g)
+      → StandsForServed g h clients kept
+      → ((k : List Request) → StandsFor g kept k → IsWhole kept → ServesOne g k client now)
+      → LeavesServed g h (clients ++ client ∷ []) (Ended Store) now
+  served_last clients client kept now so_far serves =
+      let items = so_far.items in
+      let one = serves (history h items) so_far.stands so_far.whole in
+      let all = items ++ one.item ∷ [] in
+      let in_range = all_more (λ item. IfSome item IsRequest) items one.item so_far.in_range one.in_range in
+      let count = as_many h clients items so_far.served in
+      let more = length-append clients (client ∷ []) in
+      let longer = length-append items (one.item ∷ []) in
+      let n = length (clients ++ client ∷ []) - 1 in
+      let same : n + 0 ≡ length items = omega (arith, count, more) in
+      let first : take (n + 0) all ≡ items =
+      ap (λ (m : ℕ). take m all) same ∙ take-append_seam items (one.item ∷ []) in
+      let both : take (n + 1) all ≡ all = take_all (n + 1) all (omega (arith, count, more, longer)) in
+      record {
+        items = all;
+        served = served_on h clients items client one.item so_far.served one.served;
+        in_range = in_range;
+        leaves = either_life all (Ended Store) n now
+            (record { in_range = in_range; one_more_is = tt; enough = omega (arith, count, more, longer) })
+            (record { in_range = in_range; one_more_is = tt; enough = omega (arith, count, more, longer) })
+            (subst₂ (λ (k m : List Request). LeavesEither g k m now) (ap (history h) (sym first))
+            (sym (ap (history h) both ∙ one_more h items one.item)) one.leaves);
+      }
+
+  -- an exchange was the last one
+  pub served_to_end : (clients : List ServedClient) (client : ServedClient) (kept now : Desk S g) (end : Finish)
+      → client.outcome.end ≡ end → may_serve_on end ≡ false → LeavesDesk kept now end
+      → StandsForServed g h clients kept
+      → ((k : List Request) → StandsFor g kept k → IsWhole kept → ServesOne g k client now)
+      → LeavesServed g h (clients ++ client ∷ []) end now
+  served_to_end clients client kept now (Ended Store) is off leaves so_far serves =
+      served_last clients client kept now so_far serves
+  served_to_end clients client kept now (Ended Broken) is off leaves so_far serves =
+      absurd (let both = sym so_far.whole ∙ leaves.was_broken refl in cc)
+  served_to_end clients client kept now (AtEnd rest) is off leaves so_far serves = absurd (cc)
+  served_to_end clients client kept now (Ended Memory) is off leaves so_far serves = absurd (cc)
+  served_to_end clients client kept now (Ended ReadFault) is off leaves so_far serves = absurd (cc)
+  served_to_end clients client kept now (Ended WriteFault) is off leaves so_far serves = absurd (cc)
+  served_to_end clients client kept now (Ended BadHeader) is off leaves so_far serves = absurd (cc)
 
 -- why an exchange ended it
 pub explains_end : (end : Finish) (exchanges : ℕ) (attendance : Attendance) → may_serve_on end ≡ false
@@ -129,46 +191,6 @@ explains_end (Ended Memory) exchanges attendance ends some = absurd (cc)
 explains_end (Ended ReadFault) exchanges attendance ends some = absurd (cc)
 explains_end (Ended WriteFault) exchanges attendance ends some = absurd (cc)
 explains_end (Ended BadHeader) exchanges attendance ends some = absurd (cc)
-
-first_in_range : (items next : List (Option Request)) → AreInRange (items ++ next) → AreInRange items
-first_in_range [] next all = tt
-first_in_range (item ∷ items) next all = (all.0, first_in_range items next all.1)
-
--- as many items were applied as were answered, or one more, of those that there are
-abbrev pub AppliesWithin : Life → Type 0
-AppliesWithin life =
-    (life.replies ≤ life.applied) × (life.applied ≤ life.replies + 1) × (life.applied ≤ length life.items)
-
-pub applies_within : (items : List (Option Request)) (replies : ℕ) (one_more : Bool)
-    → (life_of items replies one_more).applied ≤ length items → AppliesWithin (life_of items replies one_more)
-applies_within items replies true enough = (omega arith, omega arith, enough)
-applies_within items replies false enough = (omega arith, omega arith, enough)
-
--- a life in which all of some items were applied, and after which the register is left
-pub record ServedAll (h : List Request) (left : Image) (life : Life) : Type 0 where
-  pub in_range : AreInRange life.items
-  pub applied : AppliesWithin life
-  pub holds : HoldsRegister (after h life) left
-
-life_over : (h : List Request) (items : List (Option Request)) → AreInRange items → (left : Image)
-    → HoldsRegister (history h items) left → (life : Life) × ServedAll h left life
-life_over h items in_range left holds = (
-  life_of items (length items) false,
-  record {
-    in_range = in_range;
-    applied = applies_within items (length items) false (omega arith);
-    holds = subst (λ (taken : List (Option Request)). HoldsRegister (history h taken) left)
-        (sym (take_all (length items + 0) items (omega arith))) holds;
-  },
-)
-
--- some items were served, and perhaps the next
-pub served_life : (h : List Request) (items next : List (Option Request)) → AreInRange (items ++ next) → (left : Image)
-    → HoldsOneOf (history h items) (history h (items ++ next)) left → ∥ ((life : Life) × ServedAll h left life) ∥₁
-served_life h items next in_range left holds = ∥∥₁_map holds (λ one. elim one [
-  | inl here ↦ life_over h items (first_in_range items next in_range) left here
-  | inr there ↦ life_over h (items ++ next) in_range left there
-])
 
 -- ---- what is left of the desk
 
@@ -221,17 +243,76 @@ module _ {S : Type 0} (g : Ghosts S) (old new : Desk S g) where
       → Exchanges g moment input old new before after outcome → LeavesDesk old new outcome.end
   left_exchange moment input before after outcome it = left_asked moment it.asked before after outcome it.serves
 
--- no client was accepted any more, or no moment told
-pub served_to_fault : {S : Type 0} (g : Ghosts S) (n exchanges : ℕ) (attendance : Attendance) (old new : Desk S g)
-    → ((h : List Request) → StandsFor g old h → IsWhole old → IsClean g new → StandsForSome g h n new) → n ≤ exchanges
-    → (IsClean g new → IsClean g old) → GoesOn old new → ExplainsEnd exchanges attendance (Ended ReadFault)
-    → ServesClients g exchanges attendance old new (Ended ReadFault)
-served_to_fault g n exchanges attendance old new so_far within clean goes_on cause = record {
-  leaves = λ h stands whole is_clean. served_all g h n exchanges new (so_far h stands whole is_clean) within is_clean;
-  clean = clean;
-  ends = tt;
-  cause = cause;
-  desk = leaves_at_fault g old new goes_on;
+-- ---- whom the network had
+
+pub notes_then : (old mid new : Option (List Visit)) (first later : List Visit) → Notes old mid first
+    → Notes mid new later → Notes old new (first ++ later)
+notes_then None None None first later one two = tt
+notes_then (Some old) (Some mid) (Some new) first later one two =
+    two ∙ ap (λ (had : List Visit). had ++ later) one ∙ append_assoc old first later
+notes_then None None (Some new) first later one two = absurd two
+notes_then None (Some mid) new first later one two = absurd one
+notes_then (Some old) None new first later one two = absurd one
+notes_then (Some old) (Some mid) None first later one two = absurd two
+
+pub notes_none : (old : Option (List Visit)) → Notes old old []
+notes_none None = tt
+notes_none (Some old) = sym (append-nil old)
+
+-- and then nobody else
+pub notes_still : (old mid new : Option (List Visit)) (had : List Visit) → Notes old mid had → new ≡ mid
+    → Notes old new (had ++ [])
+notes_still old mid new had one same =
+    notes_then old mid new had [] one (subst (λ (now : Option (List Visit)). Notes mid now []) (sym same) (notes_none mid))
+
+visits_on : (clients : List ServedClient) (client : ServedClient)
+    → flat_map visits_of clients ++ visits_of client ≡ flat_map visits_of (clients ++ client ∷ [])
+visits_on clients client = sym (flat_map-append visits_of clients (client ∷ []))
+
+-- one client after others
+pub notes_on : (old a b c d : Option (List Visit)) (clients : List ServedClient) (client : ServedClient)
+    → Notes old a (flat_map visits_of clients) → Notes a b (Came client.input client.old ∷ [])
+    → Notes b c (Told client.time ∷ []) → Notes c d (Went client.new ∷ [])
+    → Notes old d (flat_map visits_of (clients ++ client ∷ []))
+notes_on old a b c d clients client had came told went =
+    subst (Notes old d) (visits_on clients client)
+    (notes_then old a d (flat_map visits_of clients) (visits_of client) had
+    (notes_then a b d (Came client.input client.old ∷ []) (Told client.time ∷ Went client.new ∷ []) came
+    (notes_then b c d (Told client.time ∷ []) (Went client.new ∷ []) told went)))
+
+-- ---- what serving came to
+
+pub last_on : (clients : List ServedClient) (client : ServedClient) (end : Finish) → client.outcome.end ≡ end
+    → LastEnded end (clients ++ client ∷ [])
+last_on [] client end is = is
+last_on (first ∷ []) client end is = is
+last_on (first ∷ next ∷ clients) client end is = last_on (next ∷ clients) client end is
+
+-- no client was accepted any more
+pub attends_alone : (old mid new : Option (List Visit)) (clients : List ServedClient) (accepted n : ℕ) (end : Finish)
+    → (end ≡ Ended Store → LastEnded end clients)
+    → Notes old mid (flat_map visits_of clients) → new ≡ mid → length clients ≡ n → accepted ≡ n
+    → Attends old new clients accepted end
+attends_alone old mid new clients accepted n end refused had same served counted = record {
+  turned_away = [];
+  visits = notes_still old mid new (flat_map visits_of clients) had same;
+  counted = omega (arith, served, counted);
+  all = λ other. refl;
+  refused = refused;
+}
+
+-- or no moment told
+pub attends_one_more : (old a b c : Option (List Visit)) (clients : List ServedClient) (accepted n : ℕ)
+    (input out : Option (List ℕ)) (more : List Visit) → Notes old a (flat_map visits_of clients)
+    → Notes a b (Came input out ∷ []) → Notes b c more → length clients ≡ n → accepted ≡ n + 1
+    → Attends old c clients accepted (Ended ReadFault)
+attends_one_more old a b c clients accepted n input out more had came told served counted = record {
+  turned_away = Came input out ∷ more;
+  visits = notes_then old a c (flat_map visits_of clients) (Came input out ∷ more) had
+      (notes_then a b c (Came input out ∷ []) more came told);
+  counted = omega (arith, served, counted);
+  all = λ other. absurd (other refl);
+  refused = λ is. absurd (cc);
 }
 
 -- one exchange after others

@@ -1,12 +1,12 @@
 -- An exchange hands at most one request to the register.
-use Rattle.std.proofs.Common.{◌≡◌, ◌≢◌, inl, inr, ℕ, List, [], ◌∷◌, Option, Some, None, String, Result, Ok, Err, refl}
+use Rattle.std.proofs.Common.{◌≡◌, ◌≢◌, inl, inr, ℕ, List, [], Option, Some, None, String, Result, Ok, Err, refl}
 use Rattle.std.proofs.Common.{sym, subst, ◌∙◌, IfOk, IfSome, ◌⊎◌, ap, ◌≤◌, true, false}
 use Rattle.std.proofs.lemmas.Result.{IfErr-at_err}
 use Rattle.std.specs.{declared.alloc.Global.Global, Io.KnownBytes.Consumes, Prelude.IfErr, Prelude.OnOk}
 use Rattle.sqlite_trees.specs.declared.store.Store.{Ghosts}
 use Rattle.register_requests.specs.{declared.request.Request.Request, Request.IsRequest}
 use Rattle.moment_core.specs.Moment.{IsMoment}
-use Rattle.register_core.specs.Fold.{history}
+use Rattle.register_core.specs.Fold.{history_after}
 use Rattle.register_desk.specs.declared.end.End.TheVariants.{Memory, Store, Broken, ReadFault, WriteFault, BadHeader}
 use Rattle.register_desk.specs.declared.outcome.Finish.TheVariants.{Ended, AtEnd}
 use Rattle.register_desk.specs.Desk.{IsClean, IsWhole, LeavesEither}
@@ -17,30 +17,23 @@ use Rattle.http_messages.specs.declared.asked.AskFault.{AskFault}
 use Rattle.http_messages.specs.declared.asked.Asked.TheVariants.{Reject, ShowKey, ShowUsage, Apply}
 use Rattle.http_messages.specs.{declared.asked.Asked.Asked, CommandBody.IsAskedInRange, Content.HasRead}
 use Rattle.http_messages.specs.declared.asked.AskFault.TheVariants as fault
-use Rattle.register_http.specs.ActionReply.{history_after_asked, request_at}
+use Rattle.register_http.specs.ActionReply.{history_after_asked, item_of}
 use Rattle.register_http.specs.Exchange.{EndsAs, ServesExchange, ServesAsked, LeavesUnasked, LeavesHttpReader}
 use Rattle.register_http.specs.Exchange.{max_exchange_reads}
 use Rattle.register_http.specs.SentReply.{Sends, sent_text}
 use Rattle.register_http.specs.{Action.Acts, Action.StandsForEither, OneItem.LeavesOne}
 use Rattle.streams.specs.{declared.watched.Watched.Watched, Watched.IsFaulted}
 
--- the item that is handed to the register
-abbrev item_of : ℕ → Asked → Option Request
-item_of moment (Reject rejection) = None
-item_of moment (ShowKey key) = None
-item_of moment (ShowUsage key) = None
-item_of moment (Apply sent) = Some (request_at moment sent)
-
-handed : (h : List Request) (moment : ℕ) (asked : Asked)
-    → history_after_asked h moment asked ≡ history h (item_of moment asked ∷ [])
+pub handed : (h : List Request) (moment : ℕ) (asked : Asked)
+    → history_after_asked h moment asked ≡ history_after h (item_of moment (Some asked))
 handed h moment (Reject rejection) = refl
 handed h moment (ShowKey key) = refl
 handed h moment (ShowUsage key) = refl
 handed h moment (Apply sent) = refl
 
 -- it is in its range where what is asked is
-item_in_range : (moment : ℕ) → IsMoment moment → (asked : Asked) → IsAskedInRange asked
-    → IfSome (item_of moment asked) IsRequest
+pub item_in_range : (moment : ℕ) → IsMoment moment → (asked : Asked) → IsAskedInRange asked
+    → IfSome (item_of moment (Some asked)) IsRequest
 item_in_range moment is (Reject rejection) in_range = tt
 item_in_range moment is (ShowKey key) in_range = tt
 item_in_range moment is (ShowUsage key) in_range = tt
@@ -81,7 +74,7 @@ module _ {S : Type 0} (g : Ghosts S) (moment : ℕ) (kept now : Desk S g) (is_mo
       let on = λ (other : outcome.end ≢ Ended Store). went_on asked s.result s.acts h stands whole clean
       (not_store s.result outcome.end outcome.replies s.ends other) in
       record {
-        item = item_of moment asked;
+        item = item_of moment (Some asked);
         in_range = item_in_range moment is_moment asked in_range;
         leaves = subst (λ k. LeavesEither g h k now) (handed h moment asked) (s.acts.leaves h stands whole clean);
         whole = λ other. (on other).0;

@@ -13,6 +13,14 @@ use Rattle.http_messages.specs.{declared.asked.Sent.Sent, Rejection.reply_of, Ht
 abbrev pub request_at : ℕ → Sent → Request
 request_at moment sent = record { moment = moment; caller = sent.caller; number = sent.number; command = sent.command }
 
+-- the item that what was asked hands to the register: its request, or none
+abbrev pub item_of : ℕ → Option Asked → Option Request
+item_of moment None = None
+item_of moment (Some (Reject rejection)) = None
+item_of moment (Some (ShowKey key)) = None
+item_of moment (Some (ShowUsage key)) = None
+item_of moment (Some (Apply sent)) = Some (request_at moment sent)
+
 -- the register is asked
 abbrev pub uses_register : Asked → Bool
 uses_register (Reject rejection) = false

@@ -1,6 +1,6 @@
 -- What one exchange over a whole input reads, writes and leaves.
 use Rattle.std.specs.Prelude.{◌≡◌, ◌⊎◌, ℕ, ◌≤◌, true, false, List, [], Option, None, Some, String, Result, Ok, Err}
-use Rattle.std.specs.Prelude.{IfOk}
+use Rattle.std.specs.Prelude.{IfOk, IfSome}
 use Rattle.std.specs.declared.alloc.Global.{Global}
 use Rattle.sqlite_trees.specs.declared.store.Store.{Ghosts}
 use Rattle.streams.specs.{declared.watched.Watched.Watched, Watched.IsFaulted}
@@ -10,6 +10,7 @@ use Rattle.register_desk.specs.{declared.desk.Desk.Desk, declared.end.End.End, d
 use Rattle.register_desk.specs.Run.{TookBytes, max_idle_turns}
 use Rattle.register_desk.specs.declared.outcome.Outcome.{Outcome}
 use Rattle.http_messages.specs.{declared.asked.AskFault.AskFault, declared.asked.Asked.Asked, Asked.AsksFor}
+use Rattle.http_messages.specs.CommandBody.{IsAskedInRange}
 use Rattle.http_messages.specs.declared.asked.AskFault.TheVariants as fault
 use Rattle.register_http.specs.{Action.Acts, SentReply.Sends, SentReply.end_reply, SentReply.sent_text}
 
@@ -57,6 +58,7 @@ module _ {S : Type 0} (g : Ghosts S) where
       (outcome : Outcome) : Type 0 where
     pub asked : Result (Option Asked) AskFault
     pub asks : (bytes : List ℕ) → input ≡ Some bytes → IfOk asked (AsksFor bytes)
+    pub in_range : IfOk asked (λ it. IfSome it IsAskedInRange)
     pub serves : ServesAsked moment asked kept now old new outcome
 
 -- What it leaves of its reader: each byte that was read is counted, a read that failed is reported, a fault is the

@@ -1,9 +1,10 @@
-//! How many clients came, and whether the network or the clock failed. No contract can see what
-//! these answered, so it is marked here and nowhere else.
-ghost use Rattle.std.specs.Prelude.{◌≡◌, ◌+◌, ◌^◌, ◌<◌, true, false, None, OnSome};
+//! How many clients came, and whether the network failed. No contract can see what it answered, so
+//! that is marked here and nowhere else.
+ghost use Rattle.std.specs.Prelude.{◌≡◌, ◌+◌, ◌^◌, ◌<◌, true, false, [], ◌∷◌, None, IfSome, OnSome};
+ghost use Rattle.machine_traits.specs.Network.{Came, Notes};
+ghost use Rattle.register_http.specs.Within.{Fails, IsToldBy, MayTell};
 
-use crate::serving::Now;
-use machine_traits::{Client, Listener, Network};
+use machine_traits::{Client, Network};
 use moment_core::Moment;
 
 /// What serving is lent: it begins with nobody accepted and no failure.
@@ -38,31 +39,37 @@ impl Attendance {
         self.failed
     }
 
-    /// Listens at this port of the machine itself.
-    pub(crate) fn listen<N: Network>(&mut self, network: &N, port: u16) -> Option<N::Listener>
-        ensures listens { OnSome result (self.new ≡ self.old) }
-        ensures fails { result ≡ None → self.new.failed ≡ true }
+    /// Whether it listens at this port of the machine itself.
+    pub(crate) fn listen<N: Network>(&mut self, network: &mut N, port: u16) -> bool
+        ensures listens { result ≡ true → self.new ≡ self.old }
+        ensures fails { result ≡ false → self.new.failed ≡ true }
+        ensures counts { self.new.accepted ≡ self.old.accepted }
+        ensures visits { N.visits network.new ≡ N.visits network.old }
     {
         match network.listen_at_localhost(port) {
-            Ok(listener) => Some(listener),
+            Ok(()) => true,
             Err(_) => {
                 self.failed = true;
-                None
+                false
             }
         }
     }
 
     /// Waits for the next client.
-    pub(crate) fn accept<L: Listener>(
+    pub(crate) fn accept<N: Network>(
         &mut self,
-        listener: &L,
-    ) -> Option<Client<L::ReadHalf, L::WriteHalf>>
+        network: &mut N,
+    ) -> Option<Client<N::ReadHalf, N::WriteHalf>>
         requires { self.old.accepted + 1 < 2 ^ 32 }
         ensures counts { OnSome result
             (self.new ≡ record self.old { accepted = self.old.accepted + 1 }) }
-        ensures fails { result ≡ None → self.new.failed ≡ true }
+        ensures comes { IfSome result (λ client. Notes (N.visits network.old)
+            (N.visits network.new) (Came (N.ReadHalf.remaining client.read_half)
+            (N.WriteHalf.contents client.write_half) ∷ [])) }
+        ensures fails { result ≡ None → Fails self.old self.new
+            × (N.visits network.new ≡ N.visits network.old) }
     {
-        match listener.accept_client() {
+        match network.accept_client() {
             Ok(client) => {
                 self.accepted += 1;
                 Some(client)
@@ -74,12 +81,18 @@ impl Attendance {
         }
     }
 
-    /// The moment of the next exchange.
-    pub(crate) fn tell_moment<N: Now>(&mut self, moments: &N) -> Option<Moment>
-        ensures tells { OnSome result (self.new ≡ self.old) }
-        ensures fails { result ≡ None → self.new.failed ≡ true }
+    /// The moment of the next exchange, in whole seconds.
+    pub(crate) fn tell_moment<N: Network>(&mut self, network: &mut N) -> Option<Moment>
+        ensures same { OnSome result (self.new ≡ self.old) }
+        ensures tells { IfSome result (IsToldBy (N.visits network.old) (N.visits network.new)) }
+        ensures fails { result ≡ None → Fails self.old self.new
+            × MayTell (N.visits network.old) (N.visits network.new) }
     {
-        let moment = moments.now();
+        let Ok(time) = network.tell_time() else {
+            self.failed = true;
+            return None;
+        };
+        let moment = Moment::new(time.as_secs());
         self.failed = self.failed || moment.is_none();
         moment
     }

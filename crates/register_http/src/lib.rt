@@ -16,6 +16,4 @@ pub use exchanging::exchange;
 pub use http_messages::{
     MAX_BODY_LENGTH, MAX_EXCHANGE_READS, MAX_HEAD_LENGTH, MAX_HEADERS, Routes,
 };
-pub use serving::{
-    Accepted, MachineClock, Means, Now, ServedConnection, serve_at, serve_connection, serve_on,
-};
+pub use serving::{Accepted, ServedConnection, serve_at, serve_connection, serve_on};

@@ -10,57 +10,19 @@ ghost use Rattle.register_http.specs.Within.{may_serve_on};
 use crate::attendance::Attendance;
 use crate::exchanging::exchange;
 use http_messages::Routes;
-use machine_traits::{Client, Listener, Network, ReadHalf, WriteHalf};
+use machine_traits::{Client, Network, ReadHalf, WriteHalf};
 use moment_core::Moment;
 use register_desk::{Desk, End, Finish, Outcome};
 use register_words::Bounds;
 use sqlite::Alter;
 use std::alloc::Global;
 use std::io::{self, ErrorKind, Read, Write};
-use std::time::{Clock, Duration, Instant, SystemTime, UNIX_EPOCH};
+use std::time::{Clock, Duration, Instant};
 use streams::Watched;
 
 /// How many seconds a client may keep its exchange waiting for its bytes, and as many for it to take
 /// the reply. What the register does in between is no time of the client's.
 const MAX_CLIENT_SECONDS: u64 = 10;
-
-/// Tells the moment of an exchange.
-pub trait Now {
-    /// The moment, or `None` where the clock fails or is out of the range of moments.
-    fn now(&self) -> Option<Moment>;
-}
-
-/// The machine's clock, in whole seconds.
-#[derive(Drop)]
-pub struct MachineClock<'a, C: Clock> {
-    clock: &'a C,
-}
-
-impl<'a, C: Clock> MachineClock<'a, C> {
-    /// The clock that the runtime reads.
-    pub fn new(clock: &'a C) -> Self {
-        MachineClock { clock }
-    }
-}
-
-impl<C: Clock> Now for MachineClock<'_, C> {
-    fn now(&self) -> Option<Moment> {
-        let time = SystemTime::now(self.clock).ok()?;
-        let since = time.duration_since(UNIX_EPOCH).ok()?;
-        Moment::new(since.as_secs())
-    }
-}
-
-/// What serving stands on.
-#[derive(Drop)]
-pub struct Means<'a, L: Listener, C: Clock, N: Now> {
-    /// Where clients come.
-    pub listener: &'a L,
-    /// Measures how long a client takes.
-    pub timer: &'a C,
-    /// Tells the moment of each exchange.
-    pub moments: &'a N,
-}
 
 /// A half of a client's connection, for as long as the client may keep it waiting.
 #[derive(Drop)]
@@ -210,40 +172,42 @@ fn may_serve_on(finish: Finish) -> bool
     }
 }
 
-/// Serves so many connections that come to the listener, one after the other, each one exchange at
-/// the moment that is told once it was accepted. A client that is slow keeps the next one waiting
-/// no longer than ten seconds for its bytes and ten for its reply, and a connection is closed after
-/// its reply.
+/// Serves so many connections that come to the network's port, one after the other, each one
+/// exchange at the moment that is told once it was accepted. A client that is slow keeps the next
+/// one waiting no longer than ten seconds for its bytes and ten for its reply, and a connection is
+/// closed after its reply.
 ///
 /// Gives the end of what there is to do after that many, or [`End::Store`] or [`End::Broken`] of
 /// an exchange, or [`End::ReadFault`] where a connection could not be accepted or no moment was
 /// told, as the attendance marks it.
-pub fn serve_on<S: Alter, L: Listener, C: Clock, N: Now>(
+pub fn serve_on<S: Alter, N: Network + Clock>(
     alloc: Global,
     desk: &mut Desk<S>,
-    means: &Means<'_, L, C, N>,
+    network: &mut N,
     exchanges: u32,
     attendance: &mut Attendance,
 ) -> Finish
     requires { attendance.old ≡ nobody }
-    ensures { ServesClients S.Store exchanges attendance.new desk.old desk.new result }
+    ensures { ServesClients S.Store exchanges (N.visits network.old) (N.visits network.new)
+        attendance.new desk.old desk.new result }
 {
     let mut routes = Routes::new();
     let mut served = 0;
     'exchanges: while served < exchanges {
-        let Some(client) = attendance.accept(means.listener) else {
+        let Some(client) = attendance.accept(network) else {
             return Finish::Ended(End::ReadFault);
         };
-        let Some(moment) = attendance.tell_moment(means.moments) else {
+        let Some(moment) = attendance.tell_moment(network) else {
             return Finish::Ended(End::ReadFault);
         };
         let accepted = Accepted {
             client,
-            timer: means.timer,
+            timer: &*network,
             moment,
         };
         let connection = serve_connection(alloc, &mut routes, desk, accepted);
         let finish = connection.outcome.end;
+        network.see_off(connection.client);
         if !may_serve_on(finish) {
             return finish;
         }
@@ -252,26 +216,21 @@ pub fn serve_on<S: Alter, L: Listener, C: Clock, N: Now>(
     Finish::AtEnd { rest: 0 }
 }
 
-/// Serves so many connections that come to the port of the machine itself, as [`serve_on`], by its
-/// clock. It ends by [`End::ReadFault`], too, where the port cannot be listened at.
+/// Serves so many connections that come to the port of the machine itself, as [`serve_on`]. It ends
+/// by [`End::ReadFault`], too, where the port cannot be listened at.
 pub fn serve_at<S: Alter, N: Network + Clock>(
     alloc: Global,
     desk: &mut Desk<S>,
-    network: &N,
+    network: &mut N,
     bounds: &Bounds,
     attendance: &mut Attendance,
 ) -> Finish
     requires { attendance.old ≡ nobody }
-    ensures { ServesClients S.Store bounds.now.exchanges attendance.new desk.old desk.new result }
+    ensures { ServesClients S.Store bounds.now.exchanges (N.visits network.old)
+        (N.visits network.new) attendance.new desk.old desk.new result }
 {
-    let Some(listener) = attendance.listen(network, bounds.port) else {
+    if !attendance.listen(network, bounds.port) {
         return Finish::Ended(End::ReadFault);
-    };
-    let moments = MachineClock::new(network);
-    let means = Means {
-        listener: &listener,
-        timer: network,
-        moments: &moments,
-    };
-    serve_on(alloc, desk, &means, bounds.exchanges, attendance)
+    }
+    serve_on(alloc, desk, network, bounds.exchanges, attendance)
 }

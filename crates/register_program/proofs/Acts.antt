@@ -15,6 +15,7 @@ use Rattle.register_desk.specs.Desk.{IsMarkOf, IsWhole}
 use Rattle.register_desk.specs.declared.outcome.Finish.{Finish}
 use Rattle.register_words.specs.declared.words.Job.{Job}
 use Rattle.register_program.specs.Job.{BreaksSo, EndsSo, Performs, status_after}
+use Rattle.register_program.specs.Traffic.{Traffic}
 use Rattle.register_program.specs.Ends.{EndsRun, BreaksAs, BreaksNone}
 use Rattle.register_program.specs.{Alone.RunsWithoutFile, Alone.end_alone, declared.register_file.FileLife.FileLife}
 use Rattle.register_program.specs.{declared.acting.Done.Done, declared.acting.Inputs.Inputs, Act.ActsOver}
@@ -55,15 +56,14 @@ untouched contents (Err e) old new same = ap contents same
 
 -- a job that was told apart
 pub performs_as : {S U : Type 0} (g : Ghosts S) (may_leave : S → Image → Type 0) (may_stay : U → Image → Type 0)
-    (found : Image) (input old new : Option (List ℕ)) (done : Done S U) (given job : Job) → given ≡ job
-    → Performs g may_leave may_stay found job input old new done
-    → Performs g may_leave may_stay found given input old new done
-performs_as g may_leave may_stay found input old new done given job is performs =
-    subst (λ (it : Job). Performs g may_leave may_stay found it input old new done) (sym is) performs
+    (found : Image) (it : Traffic) (done : Done S U) (given job : Job) → given ≡ job
+    → Performs g may_leave may_stay found job it done → Performs g may_leave may_stay found given it done
+performs_as g may_leave may_stay found it done given job is performs =
+    subst (λ (one : Job). Performs g may_leave may_stay found one it done) (sym is) performs
 
 -- and what it ended by
-pub ends_so : {R W X E : Type 0} (remaining : R → Option (List ℕ)) (contents : W → Option (List ℕ))
-    (inputs inputs_new : Inputs R) (old new : Watched W) (given job : Job) → given ≡ job
+pub ends_so : {R W N X E : Type 0} (remaining : R → Option (List ℕ)) (contents : W → Option (List ℕ))
+    (inputs inputs_new : Inputs R N) (old new : Watched W) (given job : Job) → given ≡ job
     → (outcome : X → Outcome) (came : Result X E)
     → IfOk came (λ it. EndsSo remaining contents job inputs inputs_new old new (outcome it))
     → IfOk came (λ it. EndsSo remaining contents given inputs inputs_new old new (outcome it))

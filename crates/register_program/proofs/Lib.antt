@@ -3,3 +3,4 @@ mod Refusing
 mod Told
 mod Acts
 mod FoundAgain
+mod Answered

@@ -17,7 +17,8 @@ use Rattle.register_program.specs.declared.register_file.FileLife.{FileLife}
 use Rattle.register_program.specs.Closing.{ClosesDesk, OfClosed}
 use Rattle.machine_traits.specs.declared.files.Closed.{Closed}
 use Rattle.register_program.specs.{Within.LeavesAsDesk, declared.refused.Refused.Refused}
-use Rattle.std.proofs.Common.{◌≡◌, ◌∙◌, ◌+◌, ℕ, List, take, Option, Result, Ok, Err, ap, subst, sym}
+use Rattle.std.proofs.Common.{◌≡◌, ◌∙◌, ◌+◌, ℕ, List, [], take, Option, Result, Ok, Err, ap, arith, subst, sym}
+use Rattle.machine_traits.specs.Network.{Visit}
 use Rattle.std.specs.Prelude.{IsErrAnd}
 use Rattle.register_requests.specs.declared.request.Request.{Request}
 use Rattle.register_core.specs.Fold.{IsLawful, history}
@@ -154,7 +155,18 @@ module _ {S U : Type 0} (g : Ghosts S) (may_leave : S → Image → Type 0) (may
   exports_none old new result is = subst (Exports g may_leave may_stay found old new) (sym (err_is refused result is))
       (record { lives = λ h lawful holds. tt; opens = opens_none })
 
-  pub serves_none : (most : ℕ) (result : Result (FileLife S) (Refused S U)) → IsErrAnd result (λ given. given ≡ refused)
-      → ServesExchanges g may_leave may_stay found most result
-  serves_none most result is = subst (ServesExchanges g may_leave may_stay found most) (sym (err_is refused result is))
-      (record { lives = λ h lawful holds. tt; ends = tt; opens = opens_none })
+  pub serves_none : (most : ℕ) (visits visits_new : Option (List Visit)) (accepted : ℕ)
+      (result : Result (FileLife S) (Refused S U)) → visits_new ≡ visits → accepted ≡ 0
+      → IsErrAnd result (λ given. given ≡ refused)
+      → ServesExchanges g may_leave may_stay found most visits visits_new accepted result
+  serves_none most visits visits_new accepted result same none is =
+      subst (ServesExchanges g may_leave may_stay found most visits visits_new accepted)
+      (sym (err_is refused result is)) (record {
+        clients = [];
+        attends = tt;
+        few = omega arith;
+        lives = λ h lawful holds. tt;
+        ends = tt;
+        nobody = (same, none);
+        opens = opens_none;
+      })

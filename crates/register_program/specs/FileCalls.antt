@@ -1,6 +1,6 @@
 -- What each call over the register in files says of what it came to. The files hold `found` before the call; what is
 -- said of files that it left is said of sound ones.
-use Rattle.std.specs.Prelude.{◌≡◌, ℕ, List, [], Option, Some, Result, IfOk, IfErr}
+use Rattle.std.specs.Prelude.{◌≡◌, ◌≤◌, ℕ, List, [], length, Option, Some, Result, IfOk, IfErr}
 use Rattle.sqlite_trees.specs.{declared.store.Store.Ghosts, View.IsClean as IsCleanStore}
 use Rattle.sqlite.specs.{Held.Held, Held.state, Recovery.Image}
 use Rattle.key_rows.specs.Report.{horizon, report_text}
@@ -18,7 +18,8 @@ use Rattle.register_program.specs.Life.{RefusesMaking, ServesInFiles, WritesOut}
 use Rattle.register_program.specs.{declared.refused.Refused.Refused, Closing.OfClosed}
 use Rattle.machine_traits.specs.declared.files.Closed.{Closed}
 use Rattle.register_program.specs.Opening.{OpensRegister}
-use Rattle.register_http.specs.ServedExchanges.{EndsServing}
+use Rattle.machine_traits.specs.Network.{Visit}
+use Rattle.register_http.specs.ServedExchanges.{Attends, EndsServing, ServedClient}
 use Rattle.register_words.specs.declared.values.Terms.{Terms}
 use Rattle.register_report.specs.ImportRows.{BeginsWithHeader, HasRowItems}
 
@@ -119,11 +120,18 @@ module _ {S U : Type 0} (g : Ghosts S) (may_leave : S → Image → Type 0) (may
     pub opens : OpensFirst result
 
   -- What the serving of at most this many exchanges says.
-  pub record ServesExchanges (most : ℕ) (result : Result (FileLife S) (Refused S U)) : Type 0 where
-    -- Where the files held the register of a history, whatever a stop leaves in them holds that of at most one item
-    -- more for each exchange.
+  pub record ServesExchanges (most : ℕ) (before after : Option (List Visit)) (accepted : ℕ)
+      (result : Result (FileLife S) (Refused S U)) : Type 0 where
+    -- who was served
+    pub clients : List ServedClient
+    pub attends : IfOk result (λ life. Attends before after clients accepted life.outcome.end)
+    pub few : length clients ≤ most
+    -- Where the files held the register of a history, whatever a stop leaves in them holds that after the items that the
+    -- clients handed on.
     pub lives : (h : List Request) → IsLawful h → HoldsRegister h found
-        → OnLife result (λ life desk. ServesInFiles h most)
+        → OnLife result (λ life desk. ServesInFiles h clients life.outcome.end)
     -- how it ended
     pub ends : IfOk result (λ life. EndsServing life.outcome.end)
+    -- Nobody was accepted where the register was not opened.
+    pub nobody : IfErr result (λ refused. (after ≡ before) × (accepted ≡ 0))
     pub opens : OpensFirst result

@@ -15,6 +15,7 @@ use Rattle.register_program.specs.{declared.acting.Done.Done, declared.acting.In
 use Rattle.register_program.specs.Faults.{finish_line, refusal_line}
 use Rattle.register_program.specs.Act.{status_of}
 use Rattle.register_http.specs.ServedExchanges.{ExplainsEnd}
+use Rattle.register_program.specs.Traffic.{Traffic}
 
 -- how it ended: at an end of the register, which one that was made has not, or before that
 abbrev pub end_of : {S U : Type 0} → Done S U → Result Finish OpenRefusal
@@ -36,20 +37,25 @@ line_after (Err refusal) = refusal_line refusal
 module _ {S U : Type 0} (g : Ghosts S) (may_leave : S → Image → Type 0) (may_stay : U → Image → Type 0)
     (found : Image) where
   -- A job comes to what the call that it names comes to. Nothing is written where the register is not opened, nor by a
-  -- job that serves connections.
-  abbrev pub Performs : Job → Option (List ℕ) → Option (List ℕ) → Option (List ℕ) → Done S U → Type 0
-  Performs Init input old new (Made came) = MakesFile g may_leave may_stay found came × (new ≡ old)
-  Performs Run input old new (Lived came) =
-      RunsLines g may_leave may_stay found input old new came × OnErr came (new ≡ old)
-  Performs (Import terms) input old new (Lived came) =
-      ImportsRows g may_leave may_stay found terms input old new came × OnErr came (new ≡ old)
-  Performs Export input old new (Lived came) =
-      Exports g may_leave may_stay found old new came × OnErr came (new ≡ old)
-  Performs (Report days) input old new (Lived came) =
-      Reports g may_leave may_stay found days old new came × OnErr came (new ≡ old)
-  Performs (Serve bounds) input old new (Lived came) =
-      ServesExchanges g may_leave may_stay found bounds.exchanges came × (new ≡ old)
-  Performs job input old new done = ⊥
+  -- job that serves connections; no other job has clients.
+  abbrev pub Performs : Job → Traffic → Done S U → Type 0
+  Performs Init it (Made came) =
+      MakesFile g may_leave may_stay found came × (it.new ≡ it.old) × (it.after ≡ it.before)
+  Performs Run it (Lived came) =
+      RunsLines g may_leave may_stay found it.input it.old it.new came × OnErr came (it.new ≡ it.old)
+      × (it.after ≡ it.before)
+  Performs (Import terms) it (Lived came) =
+      ImportsRows g may_leave may_stay found terms it.input it.old it.new came × OnErr came (it.new ≡ it.old)
+      × (it.after ≡ it.before)
+  Performs Export it (Lived came) =
+      Exports g may_leave may_stay found it.old it.new came × OnErr came (it.new ≡ it.old) × (it.after ≡ it.before)
+  Performs (Report days) it (Lived came) =
+      Reports g may_leave may_stay found days it.old it.new came × OnErr came (it.new ≡ it.old)
+      × (it.after ≡ it.before)
+  Performs (Serve bounds) it (Lived came) =
+      ServesExchanges g may_leave may_stay found bounds.exchanges it.before it.after it.accepted came
+      × (it.new ≡ it.old)
+  Performs job it done = ⊥
 
 -- What a life of a register by this job left of its desk: broken or whole.
 abbrev pub BreaksSo : Job → Finish → DeskMark → Type 0
@@ -65,9 +71,9 @@ abbrev pub BreaksFor : {S U : Type 0} → Job → Done S U → Type 0
 BreaksFor job (Made came) = Unit {0}
 BreaksFor job (Lived came) = IfOk came (λ life. BreaksSo job life.outcome.end life.mark)
 
-module _ {R W : Type 0} (remaining : R → Option (List ℕ)) (contents : W → Option (List ℕ)) where
+module _ {R W N : Type 0} (remaining : R → Option (List ℕ)) (contents : W → Option (List ℕ)) where
   -- The end of a life of a register by this job has its cause where the end blames it.
-  abbrev pub EndsSo : Job → Inputs R → Inputs R → Watched W → Watched W → Outcome → Type 0
+  abbrev pub EndsSo : Job → Inputs R N → Inputs R N → Watched W → Watched W → Outcome → Type 0
   EndsSo Init inputs inputs_new old new outcome = ⊥
   EndsSo Run inputs inputs_new old new outcome =
       EndsRun remaining contents inputs.reader inputs_new.reader old new outcome
@@ -79,7 +85,7 @@ module _ {R W : Type 0} (remaining : R → Option (List ℕ)) (contents : W → 
       ExplainsEnd bounds.exchanges inputs_new.attendance outcome.end
 
   -- The end of a job that was done has its cause, if it came to a life.
-  abbrev pub EndsFor : {S U : Type 0} → Job → Inputs R → Inputs R → Watched W → Watched W → Done S U → Type 0
+  abbrev pub EndsFor : {S U : Type 0} → Job → Inputs R N → Inputs R N → Watched W → Watched W → Done S U → Type 0
   EndsFor job inputs inputs_new old new (Made came) = Unit {0}
   EndsFor job inputs inputs_new old new (Lived came) =
       IfOk came (λ life. EndsSo job inputs inputs_new old new life.outcome)

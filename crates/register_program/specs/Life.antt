@@ -1,5 +1,5 @@
 -- A life of a register in files: it is opened, something is done over it, and it may be stopped.
-use Rattle.std.specs.Prelude.{◌≡◌, ◌≢◌, ◌⊎◌, ◌+◌, ◌≤◌, ◌++◌, ℕ, List, [], length, take, Option, IsTrue}
+use Rattle.std.specs.Prelude.{◌≡◌, ◌≢◌, ◌⊎◌, ◌+◌, ℕ, List, [], length, take, Option, IsTrue}
 use Rattle.sqlite_trees.specs.{declared.store.Store.Ghosts, View.IsClean as IsCleanStore}
 use Rattle.sqlite.specs.{Files.AreFoundIn, Files.HoldsDatabase, Held.Held, Held.AreDatabases, Held.state}
 use Rattle.sqlite.specs.{Recovery.Image, State.State, State.HasCleanDisk, Tree.Trees}
@@ -16,7 +16,8 @@ use Rattle.register_desk.specs.OpenRefusal.{IsMadeIn, IsTakenIn, IsReasonOf, Ref
 use Rattle.register_desk.specs.OpenRefusal.{refusal_in}
 use Rattle.register_desk.specs.{declared.desk.Desk.Desk, declared.opening.Unopened.Unopened}
 use Rattle.register_desk.specs.{declared.outcome.Finish.Finish, declared.outcome.Finish.TheVariants.Ended}
-use Rattle.register_desk.specs.{declared.outcome.Outcome.Outcome, Lives.AreInRange, Run.RunsOver}
+use Rattle.register_desk.specs.{declared.outcome.Outcome.Outcome, Run.RunsOver}
+use Rattle.register_http.specs.ServedExchanges.{AreServed, ServedClient, count_known}
 use Rattle.register_program.specs.declared.refused.RefusedFiles.TheVariants.{Failed, Shut}
 use Rattle.register_program.specs.{declared.refused.Refused.Refused, declared.refused.RefusedFiles.RefusedFiles}
 use Rattle.register_report.specs.{Import.EndsWithoutHeader, TextWriter.WritesText}
@@ -199,12 +200,10 @@ pub record WritesOut (h : List Request) (text : List ℕ) (outcome : Outcome) (o
   pub writes : WritesText text outcome.end old new
   pub leaves : LeavesInFiles h h may_leave
 
--- Exchanges were served, and whatever a stop leaves in the files holds the register with some items after its history,
--- or with one more of them: as many as there were exchanges at most.
-pub record ServesInFiles (h : List Request) (most : ℕ) (may_leave : Image → Type 0) : Type 0 where
+-- These clients were served, and whatever a stop leaves in the files holds the register after the items that they handed
+-- on; where the database refused, perhaps without the last one's.
+pub record ServesInFiles (h : List Request) (clients : List ServedClient) (end : Finish) (may_leave : Image → Type 0)
+    : Type 0 where
   pub items : List (Option Request)
-  pub next : List (Option Request)
-  pub one : length next ≤ 1
-  pub few : length (items ++ next) ≤ most
-  pub in_range : AreInRange (items ++ next)
-  pub leaves : LeavesInFiles (history h items) (history h (items ++ next)) may_leave
+  pub served : AreServed h clients items
+  pub leaves : LeavesLifeInFiles h items end (count_known end (length clients)) may_leave

@@ -1,22 +1,27 @@
 -- The sentence that the work serves, of the runs of the program over the files of one register: opening the files again
 -- finds exactly the register of what was accepted, with every request whose reply line was written and at most one more
 -- of each run. A stop within a write is a disk that fails from that write on.
-use Rattle.std.specs.Prelude.{◌≡◌, ◌⊎◌, ℕ, ◌+◌, ◌≤◌, List, [], ◌∷◌, length, take, Option, None, Some, Ok, Err, IfSome}
+use Rattle.std.specs.Prelude.{◌≡◌, ◌⊎◌, ℕ, ◌+◌, ◌≤◌, ◌++◌, Bool, true, false, List, [], ◌∷◌, length, take}
+use Rattle.std.specs.Prelude.{Option, None, Some, Ok, Err, IfSome}
 use Rattle.std.specs.{List.AllByRecursion, Io.KnownBytes.Appends}
 use Rattle.sqlite_trees.specs.{declared.store.Store.Ghosts, View.IsClean as IsCleanStore}
 use Rattle.sqlite.specs.Recovery.{Image}
 use Rattle.register_requests.specs.{declared.request.Request.Request, Request.IsRequest}
-use Rattle.register_core.specs.Fold.{IsLawful, answers}
+use Rattle.register_core.specs.{Fold.IsLawful, Fold.answers, Fold.history_after, Verdict.Accepts, Verdict.verdict}
 use Rattle.register_desk.specs.DatabaseFiles.{HoldsRegister}
 use Rattle.machine_traits.specs.Found.{HoldsNothing}
 use Rattle.register_desk.specs.Lives.{Life, after, after_lives}
 use Rattle.register_desk.specs.Run.{IsPrefixOf, answer_lines}
-use Rattle.register_desk.specs.{declared.outcome.Outcome.Outcome, Input.HasItems}
+use Rattle.register_desk.specs.declared.outcome.Finish.TheVariants.{AtEnd}
+use Rattle.register_desk.specs.{declared.outcome.Finish.Finish, declared.outcome.Outcome.Outcome, Input.HasItems}
 use Rattle.register_program.specs.declared.refused.RefusedFiles.{RefusedFiles}
 use Rattle.register_program.specs.declared.refused.RefusedFiles.TheVariants.{Failed, Shut}
 use Rattle.register_program.specs.declared.acting.Done.TheVariants.{Lived, Made}
 use Rattle.register_program.specs.declared.acting.Done.{Done}
-use Rattle.machine_traits.specs.{declared.files.Closed.Closed, Closing.LeftIn}
+use Rattle.machine_traits.specs.{declared.files.Closed.Closed, Closing.LeftIn, Network.Visit}
+use Rattle.register_http.specs.ServedExchanges.{AreServed, Attends, ServedClient, count_known}
+use Rattle.register_program.specs.declared.acting.Asked.{Asked}
+use Rattle.register_program.specs.{declared.acting.Ran.Ran, Traffic.Traffic}
 use Rattle.register_report.specs.ImportRows.{BeginsWithHeader, HasRowItems}
 use Rattle.register_words.specs.declared.values.Terms.{Terms}
 use Rattle.register_words.specs.declared.words.Job.{Job}
@@ -24,14 +29,12 @@ use Rattle.register_words.specs.declared.words.Job.TheVariants.{Import, Run, Ser
 
 -- ---- a run
 
--- A run of the program over the register's files: what these held; its job; what it read, what had been written before
--- it and was then; its life, where it opened the register; and what it left in the files, or a stop did.
+-- A run of the program over the register's files: what these held; its job; what it read and wrote, and whom it served;
+-- its life, where it opened the register; and what it left in the files, or a stop did.
 pub record ProgramRun : Type 0 where
   pub found : Image
   pub job : Job
-  pub input : Option (List ℕ)
-  pub old : Option (List ℕ)
-  pub new : Option (List ℕ)
+  pub traffic : Traffic
   pub outcome : Option Outcome
   pub left : Image
 
@@ -55,22 +58,30 @@ pub record WroteAnswers (h : List Request) (life : Life) (old new : Option (List
   pub answered : IsPrefixOf (answer_lines (take life.replies (answers h life.items))) text
   pub at_most_applied : IsPrefixOf text (answer_lines (take life.applied (answers h life.items)))
 
+-- Clients were served, one item of each: all whom the network had, but perhaps the last. All items were answered by the
+-- register, but perhaps the last one where the database refused.
+pub record ServedLife (h : List Request) (traffic : Traffic) (end : Finish) (life : Life) : Type 0 where
+  pub clients : List ServedClient
+  pub attends : Attends traffic.before traffic.after clients traffic.accepted end
+  pub served : AreServed h clients life.items
+  pub known : life.replies ≡ count_known end (length clients)
+
 -- How a life fits the job of its run and its end. `Run` and `Import` wrote its answers and counted its replies; the items
--- are those of the input's lines, or of its rows. `Serve` may be any life. Any other job, or one that opened no register,
--- has no items.
-abbrev pub IsLifeOf : List Request → Job → Option Outcome → ProgramRun → Life → Type 0
-IsLifeOf h Run (Some outcome) run life =
-    (life.replies ≡ outcome.replies) × AreItemsOf run.input life.items × WroteAnswers h life run.old run.new
-IsLifeOf h (Import terms) (Some outcome) run life =
-    (life.replies ≡ outcome.replies) × AreRowItemsOf terms run.input life.items × WroteAnswers h life run.old run.new
-IsLifeOf h (Serve bounds) (Some outcome) run life = Unit {0}
-IsLifeOf h job outcome run life = life.items ≡ []
+-- are those of the input's lines, or of its rows. Those of `Serve` are its clients'. Any other job, or one that opened no
+-- register, has no items.
+abbrev pub IsLifeOf : List Request → Job → Option Outcome → Traffic → Life → Type 0
+IsLifeOf h Run (Some outcome) it life =
+    (life.replies ≡ outcome.replies) × AreItemsOf it.input life.items × WroteAnswers h life it.old it.new
+IsLifeOf h (Import terms) (Some outcome) it life =
+    (life.replies ≡ outcome.replies) × AreRowItemsOf terms it.input life.items × WroteAnswers h life it.old it.new
+IsLifeOf h (Serve bounds) (Some outcome) it life = ServedLife h it outcome.end life
+IsLifeOf h job outcome it life = life.items ≡ []
 
 -- The run was this life, from the history h: as many items were applied as were answered, or one more.
 pub record WasLife (h : List Request) (run : ProgramRun) (life : Life) : Type 0 where
   pub in_range : AllByRecursion (λ item. IfSome item IsRequest) life.items
   pub applied : (life.replies ≤ life.applied) × (life.applied ≤ life.replies + 1) × (life.applied ≤ length life.items)
-  pub is : IsLifeOf h run.job run.outcome run life
+  pub is : IsLifeOf h run.job run.outcome run.traffic life
 
 -- The history is empty and the files hold no database or an empty one, or the files hold exactly the register of the
 -- history.
@@ -84,11 +95,6 @@ Leads run =
     → ∥ ((life : Life) × WasLife h run life × HoldsHistory (after h life) run.left) ∥₁
 
 -- ---- runs
-
--- each run finds what the one before left, and leads on from it; this is left in the end
-abbrev pub Follow : Image → List ProgramRun → Image → Type 0
-Follow found [] left = left ≡ found
-Follow found (run ∷ runs) left = (run.found ≡ found) × Leads run × Follow run.left runs left
 
 -- the runs were these lives, one after the other
 abbrev pub Were : List Request → List ProgramRun → List Life → Type 0
@@ -105,12 +111,39 @@ pub record FoundAgain (h : List Request) (runs : List ProgramRun) (left : Image)
   pub lawful : IsLawful (after_lives h lives)
   pub holds : HoldsHistory (after_lives h lives) left
 
--- The sentence: whatever runs there are, each over what the one before left, at its end or at a stop, and the first
--- over files that hold nothing or the register of a history, what they come to is found again.
-abbrev pub AreFoundAgain : Type 0
-AreFoundAgain =
-    (h : List Request) (first left : Image) (runs : List ProgramRun) → IsLawful h → HoldsHistory h first
-    → Follow first runs left → ∥ FoundAgain h runs left ∥₁
+-- Where the runs that were are found again in what the file holds, so are they with those that came since.
+abbrev pub StayFoundAgain : List ProgramRun → Image → List ProgramRun → Image → Type 0
+StayFoundAgain runs now runs_new now_new =
+    (h : List Request) → FoundAgain h runs now → ∥ FoundAgain h runs_new now_new ∥₁
+
+-- The sentence: from a file that holds nothing or the register of a history, and no run yet, the runs that were are found
+-- again in what it holds.
+abbrev pub FindsAgain : List ProgramRun → Image → List ProgramRun → Image → Type 0
+FindsAgain runs now runs_new now_new =
+    (h : List Request) → IsLawful h → HoldsHistory h now → runs ≡ [] → ∥ FoundAgain h runs_new now_new ∥₁
+
+-- A run was, or nobody asks for one.
+abbrev pub RunsUnlessIdle : Bool → Type 0 → Type 0 → List ProgramRun → List ProgramRun → Type 0
+RunsUnlessIdle true IsHonest IsIdle runs runs_new = IsHonest → length runs_new ≡ length runs + 1
+RunsUnlessIdle false IsHonest IsIdle runs runs_new = IsIdle
+
+-- So many runs were, or nobody asks for one.
+abbrev pub RunsAsOften : ℕ → Type 0 → Type 0 → List ProgramRun → List ProgramRun → Type 0
+RunsAsOften most IsHonest IsIdle runs runs_new = IsHonest → IsIdle ⊎ (length runs_new ≡ length runs + most)
+
+-- ---- who was answered
+
+-- the request is one of the history
+abbrev pub IsIn : Request → List Request → Type 0
+IsIn q h = (before later : List Request) × (h ≡ before ++ q ∷ later)
+
+-- A client handed on this request, which the register that served it accepts, and its exchange came to its end: the reply
+-- was sent whole.
+abbrev pub WasAnswered : List Request → List ServedClient → List (Option Request) → Request → Type 0
+WasAnswered h (client ∷ clients) (item ∷ items) q =
+    ((client.outcome.end ≡ AtEnd 0) × (item ≡ Some q) × (verdict h q ≡ Accepts))
+    ⊎ WasAnswered (history_after h item) clients items q
+WasAnswered h clients items q = ⊥
 
 -- ---- what a job leaves in the files
 
@@ -137,14 +170,46 @@ module _ {S U : Type 0} (g : Ghosts S) (may_leave : S → Image → Type 0) (may
   LeftBy (Lived (Err refused)) left = LeftByRefused refused.files left
 
   -- The run of a job that came to this leads on, whatever of what it may have left is found.
-  abbrev pub LeadsFrom : Image → Job → Option (List ℕ) → Option (List ℕ) → Option (List ℕ) → Done S U → Type 0
-  LeadsFrom found job input old new done =
-      (left : Image) → LeftBy done left → Leads (record {
-        found = found;
-        job = job;
-        input = input;
-        old = old;
-        new = new;
-        outcome = outcome_of done;
-        left = left;
-      })
+  abbrev pub LeadsFrom : Image → Job → Traffic → Done S U → Type 0
+  LeadsFrom found job traffic done =
+      (left : Image) → LeftBy done left
+      → Leads (record { found = found; job = job; traffic = traffic; outcome = outcome_of done; left = left })
+
+-- ---- a run that was asked for
+
+-- What a run begins with: its job, what is to come of its input, what had been written before it, and whom the network
+-- had had, where these are known.
+pub record Begun : Type 0 where
+  pub job : Job
+  pub input : Option (List ℕ)
+  pub old : Option (List ℕ)
+  pub before : Option (List Visit)
+
+module _ {R W N : Type 0} (remaining : R → Option (List ℕ)) (contents : W → Option (List ℕ))
+    (visits : N → Option (List Visit)) where
+  -- with what was asked for
+  abbrev pub begun_by : {F E : Type 0} → Asked F N R W E → Begun
+  begun_by asked = record {
+    job = asked.job;
+    input = remaining asked.reader;
+    old = contents asked.outputs.writer.inner;
+    before = visits asked.network;
+  }
+
+-- the run that began so over files that held `found`, gave this back, and left `left`
+abbrev pub run_of : {S U R W N E : Type 0} → (W → Option (List ℕ)) → (N → Option (List Visit)) → Begun → Image
+    → Ran S U N R W E → Image → ProgramRun
+run_of contents visits begun found ran left = record {
+  found = found;
+  job = begun.job;
+  traffic = record {
+    input = begun.input;
+    old = begun.old;
+    new = contents ran.outputs.writer.inner;
+    before = begun.before;
+    after = visits ran.inputs.network;
+    accepted = ran.inputs.attendance.accepted;
+  };
+  outcome = outcome_of ran.acted.done;
+  left = left;
+}

@@ -5,6 +5,7 @@ ghost use Rattle.register_program.specs.Job.{BreaksFor, EndsFor, Performs, end_o
 ghost use Rattle.register_program.specs.Job.{status_after};
 ghost use Rattle.register_program.specs.{Act.ActsInMemory, Faults.Tells, Words.ReadsTask};
 ghost use Rattle.register_program.specs.Sentence.{LeadsFrom};
+ghost use Rattle.register_program.specs.Traffic.{traffic_of, traffic_through};
 ghost use Rattle.register_http.specs.ServedExchanges.{nobody};
 
 use crate::faults::{report_bad_value, report_finish, report_no_command, report_refusal};
@@ -29,10 +30,13 @@ pub struct Outputs<W, E> {
     pub faults: Watched<E>,
 }
 
-/// What comes in: request lines or rows, and clients.
+/// What comes in: request lines or rows, and clients, at moments.
 #[derive(Drop)]
-pub struct Inputs<R> {
+pub struct Inputs<R, N> {
     pub reader: Watched<R>,
+    /// Where clients come, and the clock.
+    pub network: N,
+    /// Who came.
     pub attendance: Attendance,
 }
 
@@ -66,14 +70,24 @@ pub struct Acted<S, U> {
     pub status: u8,
 }
 
-/// What the program is given of the machine for a job, and all that it can reach of it.
+/// A run of the program that somebody asks for, with all that it is given of the machine.
 #[derive(Drop)]
-pub struct Machine<F, N> {
-    pub alloc: Global,
+pub struct Asked<F, N, R, W, E> {
+    pub job: Job,
     /// How files are opened and closed.
     pub files: F,
-    /// What listens at ports, and tells the time.
+    /// Where clients come, and the clock.
     pub network: N,
+    pub reader: R,
+    pub outputs: Outputs<W, E>,
+}
+
+/// A run of the program that was, with what it gives back.
+#[derive(Drop)]
+pub struct Ran<S, U, N, R, W, E> {
+    pub acted: Acted<S, U>,
+    pub inputs: Inputs<R, N>,
+    pub outputs: Outputs<W, E>,
 }
 
 /// The task that was given, where each of its values is one. It is given nothing of the machine, so
@@ -144,30 +158,29 @@ pub fn act_in_memory<R: Read, W: Write, E: Write>(
 }
 
 /// Does the job over the register in the file.
-fn perform<F: Files + Drop, N: Network + Clock + Drop, R: Read, W: Write>(
-    machine: Machine<F, N>,
-    file: &str,
+fn perform<F: Files + Drop, N: Network + Clock, R: Read, W: Write>(
+    alloc: Global,
+    file: RegisterFile<'_, F>,
     job: &Job,
-    inputs: &mut Inputs<R>,
+    inputs: &mut Inputs<R, N>,
     writer: &mut Watched<W>,
 ) -> Done<F::Opened, F::Failed>
     requires reader { inputs.old.reader.failed ≡ false }
     requires attendance { inputs.old.attendance ≡ nobody }
     requires writer { writer.old.failed ≡ false }
-    ensures performs { Performs F.Opened.Store F.may_leave F.may_leave_failed (F.start file.now)
-        job.now (R.remaining inputs.old.reader.inner) (W.contents writer.old.inner)
-        (W.contents writer.new.inner) result }
+    ensures performs { Performs F.Opened.Store F.may_leave F.may_leave_failed
+        (F.start file.entry.files file.entry.path.now) job.now
+        (traffic_of R.remaining W.contents N.visits inputs.old inputs.new writer.old writer.new)
+        result }
     ensures ends { EndsFor R.remaining W.contents job.now inputs.old inputs.new
         writer.old writer.new result }
     ensures desk { BreaksFor job.now result }
 {
-    let Machine {
-        alloc,
-        files,
+    let Inputs {
+        reader,
         network,
-    } = machine;
-    let Inputs { reader, attendance } = inputs;
-    let file = RegisterFile { path: file, files };
+        attendance,
+    } = inputs;
     match *job {
         Job::Init => Done::Made(init_file(alloc, file)),
         Job::Run => Done::Lived(run_file(alloc, file, reader, writer)),
@@ -175,7 +188,7 @@ fn perform<F: Files + Drop, N: Network + Clock + Drop, R: Read, W: Write>(
         Job::Export => Done::Lived(export_file(alloc, file, writer)),
         Job::Report { days } => Done::Lived(report_file(alloc, file, days, writer)),
         Job::Serve { bounds } => {
-            Done::Lived(serve_file(alloc, file, &network, &bounds, attendance))
+            Done::Lived(serve_file(alloc, file, network, &bounds, attendance))
         }
     }
 }
@@ -185,63 +198,128 @@ fn perform<F: Files + Drop, N: Network + Clock + Drop, R: Read, W: Write>(
 /// Gives what came of it, with the exit status: 0 where all went well, 2 where the register could
 /// not be made or opened, 3 after an end of the register, and 4 after a fault of a stream or an
 /// import without its header row.
-pub fn act<F: Files + Drop, N: Network + Clock + Drop, R: Read, W: Write, E: Write>(
-    machine: Machine<F, N>,
-    file: &str,
+pub fn act<F: Files + Drop, N: Network + Clock, R: Read, W: Write, E: Write>(
+    alloc: Global,
+    file: RegisterFile<'_, F>,
     job: &Job,
-    inputs: &mut Inputs<R>,
+    inputs: &mut Inputs<R, N>,
     outputs: &mut Outputs<W, E>,
 ) -> Acted<F::Opened, F::Failed>
     requires reader { inputs.old.reader.failed ≡ false }
     requires attendance { inputs.old.attendance ≡ nobody }
     requires writer { outputs.old.writer.failed ≡ false }
     // It comes to what the call that the job names comes to.
-    ensures performs { Performs F.Opened.Store F.may_leave F.may_leave_failed (F.start file.now)
-        job.now (R.remaining inputs.old.reader.inner) (W.contents outputs.old.writer.inner)
-        (W.contents outputs.new.writer.inner) result.done }
+    ensures performs { Performs F.Opened.Store F.may_leave F.may_leave_failed
+        (F.start file.entry.files file.entry.path.now) job.now
+        (traffic_of R.remaining W.contents N.visits inputs.old inputs.new outputs.old.writer
+        outputs.new.writer) result.done }
     // What a stream or the network is blamed for has its cause there.
     ensures ends { EndsFor R.remaining W.contents job.now inputs.old inputs.new
         outputs.old.writer outputs.new.writer result.done }
     // 31 comes of a call that broke the desk, and 32 of none.
     ensures desk { BreaksFor job.now result.done }
     // Whatever register the file held, it holds that after the life that this was.
-    ensures leads { LeadsFrom F.Opened.Store F.may_leave F.may_leave_failed (F.start file.now)
-        job.now (R.remaining inputs.old.reader.inner) (W.contents outputs.old.writer.inner)
-        (W.contents outputs.new.writer.inner) result.done }
+    ensures leads { LeadsFrom F.Opened.Store F.may_leave F.may_leave_failed
+        (F.start file.entry.files file.entry.path.now) job.now
+        (traffic_of R.remaining W.contents N.visits inputs.old inputs.new outputs.old.writer
+        outputs.new.writer) result.done }
     // What kept it from its end is named on the writer of faults, and nothing else.
     ensures tells { Tells E.contents (line_after (end_of result.done)) outputs.old.faults
         outputs.new.faults }
     ensures status { result.status ≡ status_after (end_of result.done) }
 {
     let Outputs { writer, faults } = outputs;
-    let done = perform(machine, file, job, inputs, writer);
+    let done = perform(alloc, file, job, inputs, writer);
     let status = report(done.end(), faults);
     Acted { done, status }
 }
 
-/// Does what the words ask for: a job over a file, as [`act`], or a run in memory, as
+/// The run that was asked for, over the register in the file at this path, by [`act`].
+pub fn run_asked<F: Files + Drop, N: Network + Clock, R: Read, W: Write, E: Write>(
+    alloc: Global,
+    path: &str,
+    asked: Asked<F, N, R, W, E>,
+) -> Ran<F::Opened, F::Failed, N, R, W, E>
+    requires { asked.outputs.writer.failed ≡ false }
+    ensures leads { LeadsFrom F.Opened.Store F.may_leave F.may_leave_failed
+        (F.start asked.files path.now) asked.job
+        (traffic_through R.remaining W.contents N.visits asked result) result.acted.done }
+    ensures tells { Tells E.contents (line_after (end_of result.acted.done)) asked.outputs.faults
+        result.outputs.faults }
+    ensures status { result.acted.status ≡ status_after (end_of result.acted.done) }
+{
+    let Asked {
+        job,
+        files,
+        network,
+        reader,
+        mut outputs,
+    } = asked;
+    let mut inputs = Inputs {
+        reader: Watched::new(reader),
+        network,
+        attendance: Attendance::new(),
+    };
+    let acted = act(
+        alloc,
+        RegisterFile { path, files },
+        &job,
+        &mut inputs,
+        &mut outputs,
+    );
+    Ran {
+        acted,
+        inputs,
+        outputs,
+    }
+}
+
+/// What the program is given of the machine, and all that it can reach of it.
+#[derive(Drop)]
+pub struct Machine<F, N> {
+    pub alloc: Global,
+    /// How files are opened and closed.
+    pub files: F,
+    /// Where clients come, and the clock.
+    pub network: N,
+}
+
+/// Does what the words ask for: a job over a file, by [`run_asked`], or a run in memory, by
 /// [`act_in_memory`], which is given no files and no network; nothing, where the words are none.
+/// Gives the exit status, and what it wrote to.
 pub fn act_on_words<F: Files + Drop, N: Network + Clock + Drop, R: Read + Drop, W: Write, E: Write>(
     machine: Machine<F, N>,
     words: &[String],
     reader: R,
-    outputs: &mut Outputs<W, E>,
-) -> u8
-    requires { outputs.old.writer.failed ≡ false }
-    ensures acts { length words.now ≤ 1 → ActsInMemory (R.remaining reader) result
-        (W.contents outputs.old.writer.inner) (W.contents outputs.new.writer.inner) }
+    outputs: Outputs<W, E>,
+) -> (u8, Outputs<W, E>)
+    requires { outputs.writer.failed ≡ false }
+    ensures acts { length words.now ≤ 1 → ActsInMemory (R.remaining reader) result.0
+        (W.contents outputs.writer.inner) (W.contents result.1.writer.inner) }
 {
-    let alloc = machine.alloc;
+    let Machine {
+        alloc,
+        files,
+        network,
+    } = machine;
+    let mut outputs = outputs;
     let given = read_words(alloc, words);
     match read_task(alloc, &given, &mut outputs.faults) {
-        Ok(Task::RunInMemory) => act_in_memory(alloc, &mut Watched::new(reader), outputs),
-        Ok(Task::InFile { file, job }) => {
-            let mut inputs = Inputs {
-                reader: Watched::new(reader),
-                attendance: Attendance::new(),
-            };
-            act(machine, file, &job, &mut inputs, outputs).status
+        Ok(Task::RunInMemory) => {
+            let status = act_in_memory(alloc, &mut Watched::new(reader), &mut outputs);
+            (status, outputs)
         }
-        Err(status) => status,
+        Ok(Task::InFile { file, job }) => {
+            let asked = Asked {
+                job,
+                files,
+                network,
+                reader,
+                outputs,
+            };
+            let ran = run_asked(alloc, file, asked);
+            (ran.acted.status, ran.outputs)
+        }
+        Err(status) => (status, outputs),
     }
 }

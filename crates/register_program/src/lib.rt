@@ -7,14 +7,16 @@ mod faults;
 pub mod laws;
 mod refused;
 mod register_file;
+mod world;
 
 pub use acting::{
-    Acted, Done, Inputs, Machine, Outputs, act, act_in_memory, act_on_words, read_task,
+    Acted, Asked, Done, Inputs, Machine, Outputs, Ran, act, act_in_memory, act_on_words, read_task,
+    run_asked,
 };
 pub use faults::{report_bad_value, report_end, report_refusal};
 pub use machine_traits::{
-    Absent, Client, Closed, ConnectError, Files, Listener, LogCopy, Network, NotConnected,
-    ReadHalf, WriteHalf,
+    Absent, Client, Closed, ConnectError, Files, LogCopy, Network, NotConnected, ReadHalf,
+    WriteHalf,
 };
 pub use refused::{Refused, RefusedFiles};
 pub use register_file::{
@@ -22,6 +24,6 @@ pub use register_file::{
     serve_file,
 };
 pub use register_http::{
-    Accepted, Attendance, MachineClock, Means, Now, ServedConnection, serve_at, serve_connection,
-    serve_on,
+    Accepted, Attendance, ServedConnection, serve_at, serve_connection, serve_on,
 };
+pub use world::{World, run_again_and_again, run_next};

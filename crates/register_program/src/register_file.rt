@@ -67,7 +67,7 @@ pub fn init_file<F: Files>(
     file: RegisterFile<'_, F>,
 ) -> Result<Closed<F::Opened>, Refused<F::Opened, F::Failed>>
     ensures { MakesFile F.Opened.Store F.may_leave F.may_leave_failed
-        (F.start file.entry.path.now) result }
+        (F.start file.entry.files file.entry.path.now) result }
 {
     let connection = file.files.connect(file.path, Absent::Made)?;
     let desk = Desk::create(alloc, connection)?;
@@ -85,7 +85,7 @@ pub fn open_file<F: Files + Drop>(
     file: RegisterFile<'_, F>,
 ) -> Result<Desk<F::Opened>, Refused<F::Opened, F::Failed>>
     ensures { OpensFile F.Opened.Store F.may_leave F.may_leave_failed
-        (F.start file.entry.path.now) result }
+        (F.start file.entry.files file.entry.path.now) result }
 {
     let connection = file.files.connect(file.path, Absent::Refused)?;
     let desk = Desk::open(alloc, connection)?;
@@ -105,7 +105,7 @@ pub fn run_file<F: Files + Drop, R: Read, W: Write>(
     requires reader { reader.old.failed ≡ false }
     requires writer { writer.old.failed ≡ false }
     ensures runs { RunsLines F.Opened.Store F.may_leave F.may_leave_failed
-        (F.start file.entry.path.now) (R.remaining reader.old.inner) (W.contents writer.old.inner)
+        (F.start file.entry.files file.entry.path.now) (R.remaining reader.old.inner) (W.contents writer.old.inner)
         (W.contents writer.new.inner) result }
     ensures ends { IfOk result (λ life. EndsRun R.remaining W.contents reader.old reader.new
         writer.old writer.new life.outcome) }
@@ -137,7 +137,7 @@ pub fn import_file<F: Files + Drop, R: Read, W: Write>(
     requires reader { reader.old.failed ≡ false }
     requires writer { writer.old.failed ≡ false }
     ensures imports { ImportsRows F.Opened.Store F.may_leave F.may_leave_failed
-        (F.start file.entry.path.now) terms.now (R.remaining reader.old.inner)
+        (F.start file.entry.files file.entry.path.now) terms.now (R.remaining reader.old.inner)
         (W.contents writer.old.inner) (W.contents writer.new.inner) result }
     ensures ends { IfOk result (λ life. EndsImport R.remaining W.contents reader.old reader.new
         writer.old writer.new life.outcome) }
@@ -173,7 +173,7 @@ pub fn export_file<F: Files + Drop, W: Write>(
 ) -> Result<FileLife<F::Opened>, Refused<F::Opened, F::Failed>>
     requires { writer.old.failed ≡ false }
     ensures exports { Exports F.Opened.Store F.may_leave F.may_leave_failed
-        (F.start file.entry.path.now) (W.contents writer.old.inner) (W.contents writer.new.inner)
+        (F.start file.entry.files file.entry.path.now) (W.contents writer.old.inner) (W.contents writer.new.inner)
         result }
     ensures ends { IfOk result (λ life. EndsWriting W.contents writer.old writer.new life.outcome) }
     ensures desk { IfOk result (λ life. BreaksNone life.outcome.end life.mark) }
@@ -202,7 +202,7 @@ pub fn report_file<F: Files + Drop, W: Write>(
 ) -> Result<FileLife<F::Opened>, Refused<F::Opened, F::Failed>>
     requires { writer.old.failed ≡ false }
     ensures reports { Reports F.Opened.Store F.may_leave F.may_leave_failed
-        (F.start file.entry.path.now) days (W.contents writer.old.inner)
+        (F.start file.entry.files file.entry.path.now) days (W.contents writer.old.inner)
         (W.contents writer.new.inner) result }
     ensures ends { IfOk result (λ life. EndsWriting W.contents writer.old writer.new life.outcome) }
     ensures desk { IfOk result (λ life. BreaksNone life.outcome.end life.mark) }
@@ -225,13 +225,14 @@ pub fn report_file<F: Files + Drop, W: Write>(
 pub fn serve_file<F: Files + Drop, N: Network + Clock>(
     alloc: Global,
     file: RegisterFile<'_, F>,
-    network: &N,
+    network: &mut N,
     bounds: &Bounds,
     attendance: &mut Attendance,
 ) -> Result<FileLife<F::Opened>, Refused<F::Opened, F::Failed>>
     requires { attendance.old ≡ nobody }
     ensures serves { ServesExchanges F.Opened.Store F.may_leave F.may_leave_failed
-        (F.start file.entry.path.now) bounds.now.exchanges result }
+        (F.start file.entry.files file.entry.path.now) bounds.now.exchanges (N.visits network.old)
+        (N.visits network.new) attendance.new.accepted result }
     ensures ends { IfOk result (λ life.
         ExplainsEnd bounds.now.exchanges attendance.new life.outcome.end) }
     ensures desk { IfOk result (λ life. BreaksAs life.outcome.end life.mark) }

@@ -3,10 +3,7 @@
 
 use disk_files::{DiskFiles, MachineNetwork};
 use register_desk::Watched;
-use register_program::{
-    Absent, Attendance, Files, Inputs, Machine, Outputs, act, act_in_memory, read_task,
-};
-use register_words::{Task, read_words};
+use register_program::{Absent, Files, Machine, Outputs, act_on_words};
 use sqlite::{Start, Wary};
 use std::alloc::Global;
 use std::io::{Read, Write};
@@ -32,29 +29,17 @@ fn act_on<S: Start, R: Read + Drop, W: Write + Drop, E: Write + Drop>(
     (output, faults): (W, E),
 ) -> Result<u8, Fail> {
     let words = words_of(rt.alloc(), given)?;
-    let mut outputs = Outputs {
+    let outputs = Outputs {
         writer: Watched::new(output),
         faults: Watched::new(faults),
     };
-    let given = read_words(rt.alloc(), words.as_slice());
-    match read_task(rt.alloc(), &given, &mut outputs.faults) {
-        Ok(Task::RunInMemory) => {
-            Ok(act_in_memory(rt.alloc(), &mut Watched::new(input), &mut outputs))
-        }
-        Ok(Task::InFile { file, job }) => {
-            let mut inputs = Inputs {
-                reader: Watched::new(input),
-                attendance: Attendance::new(),
-            };
-            let machine = Machine {
-                alloc: rt.alloc(),
-                files: DiskFiles::new(rt, start),
-                network: MachineNetwork::new(rt),
-            };
-            Ok(act(machine, file, &job, &mut inputs, &mut outputs).status)
-        }
-        Err(status) => Ok(status),
-    }
+    let machine = Machine {
+        alloc: rt.alloc(),
+        files: DiskFiles::new(rt, start),
+        network: MachineNetwork::new(rt),
+    };
+    let (status, _) = act_on_words(machine, words.as_slice(), input, outputs);
+    Ok(status)
 }
 
 /// What the program did.

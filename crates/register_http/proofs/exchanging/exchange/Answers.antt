@@ -14,6 +14,7 @@ returns-in-Ok-None-clause-exchanges g c = record {
   asked = c.read_asked-asking.result.asked;
   asks = λ bytes known. c.read_asked-asking.ensures.asks bytes
       (ap (λ (r : Watched g.row.R.Denot). g.R.Read.remaining r.inner) c.reset_turn_counts.ensures ∙ known);
+  in_range = c.read_asked-asking.ensures.in_range;
   serves = rw (c.with_read.ensures) (
       served_after g.S.Store c.args.moment c.args.desk.now c.args.desk.now c.read_asked-asking.result.asked _
       (g.W.Write.contents c.args.writer.now.inner) _ _ c.read_asked-asking.result.read
@@ -55,6 +56,7 @@ returns-in-Err-ReadFault-clause-exchanges g c = record {
   asked = c.read_asked-asking.result.asked;
   asks = λ bytes known. c.read_asked-asking.ensures.asks bytes
       (ap (λ (r : Watched g.row.R.Denot). g.R.Read.remaining r.inner) c.reset_turn_counts.ensures ∙ known);
+  in_range = c.read_asked-asking.ensures.in_range;
   serves = rw (c.with_read-in-Err-ReadFault.ensures) (
       served_after g.S.Store c.args.moment c.args.desk.now c.args.desk.now c.read_asked-asking.result.asked _
       (g.W.Write.contents c.args.writer.now.inner) _ _ c.read_asked-asking.result.read
@@ -99,6 +101,7 @@ returns-clause-exchanges g c = record {
   asked = c.read_asked-asking.result.asked;
   asks = λ bytes known. c.read_asked-asking.ensures.asks bytes
       (ap (λ (r : Watched g.row.R.Denot). g.R.Read.remaining r.inner) c.reset_turn_counts.ensures ∙ known);
+  in_range = c.read_asked-asking.ensures.in_range;
   serves = rw (ap (λ (n : ℕ). record c.send_reply.result { read = n }) c.send_reply.ensures.read) (
       served_after g.S.Store c.args.moment c.args.desk.now c.match-asking.desk c.read_asked-asking.result.asked _
       (g.W.Write.contents c.args.writer.now.inner) _ _ c.read_asked-asking.result.read

@@ -5,7 +5,7 @@ use Rattle.register_program.proofs.acting.act_on_words.Goals as goal
 pub returns-in-Ok-RunInMemory : goal.returns-in-Ok-RunInMemory
 returns-in-Ok-RunInMemory g c = record {
   acts = λ none bytes items rest known cut.
-      (rw (c.new.ensures) at c.act_in_memory.ensures.acts) bytes items rest known cut;
+      (rw (c.new.ensures) at c.act_in_memory-status.ensures.acts) bytes items rest known cut;
 }
 
 -- where there are no words there is a task
