@@ -62,6 +62,7 @@ GATE = (
     Part("program/killed.py --runs 20 --migrations 16", 180),
     Part("sqlite/copied_while_served.py --seconds 15", 90),
     Part("program/connections.py", 90),
+    Part("program/turns.py", 90),
     Part("desk/in_browser.py --least", 180),
     Part("sqlite/by_sqlite3.py", 180),
     Part("sources/linted.py", 120),

@@ -23,8 +23,7 @@ from script import not_none, options, verdict
 
 # The function whose contract is the theorem: its file, and its name.
 ROOT = ("crates/register_program/src/world.rt", "run_again_and_again")
-# The contracts that tie it to the code, which THEOREM shows as they stand: those of its step, and that of an opening.
-STEP = (("crates/register_program/src/acting.rt", "act"),)
+# The contracts that tie it to an opening, which THEOREM shows as they stand.
 OPENING = (("crates/register_program/src/register_file.rt", "open_file"),
            ("crates/register_program/src/laws.rt", "openings_find_lives"))
 # What it presumes of the outside.
@@ -136,12 +135,11 @@ def kit_table() -> str:
 
 
 def theorem_page() -> str:
-    """The sentence of README, the contracts that tie the theorem to the code, and the theorem."""
-    step, opening = ("\n\n".join("\n".join(definitions.law(*place).text) for place in places)
-                     for places in (STEP, OPENING))
+    """The sentence of README, what the theorem presumes, the contracts that tie it to an opening, and the theorem."""
+    opening = "\n\n".join("\n".join(definitions.law(*place).text) for place in OPENING)
     number, lines, _ = count(theorem()[1])
     return words_of("theorem").format(
-        says=not_none(re.search(r"(?:^> .*\n)+", read("README.md"), re.M))[0].rstrip(), step=step, opening=opening,
+        says=not_none(re.search(r"(?:^> .*\n)+", read("README.md"), re.M))[0].rstrip(), opening=opening,
         world="\n".join(definitions.definition(WORLD).text),
         law="\n".join(theorem()[0].text), number=f"{number:,}", lines=f"{lines:,}",
         statement="\n".join(definitions.definition(STATEMENT).text))
