@@ -212,7 +212,7 @@ fn serve(
 
 /// What comes of two clients who send *advanced* at 100, where the call of this kind with so many
 /// before it fails.
-fn served(alloc: Global, call: Call, before: u64) -> Result<Served, Fail> {
+fn serve_failing(alloc: Global, call: Call, before: u64) -> Result<Served, Fail> {
     let calls = Calls {
         call,
         before,
@@ -227,7 +227,7 @@ fn served(alloc: Global, call: Call, before: u64) -> Result<Served, Fail> {
 }
 
 /// What comes of *advanced* and the request that follows it, at these times, where no call fails.
-fn served_at(alloc: Global, times: &'static [u64]) -> Result<Served, Fail> {
+fn serve_two_at(alloc: Global, times: &'static [u64]) -> Result<Served, Fail> {
     let calls = Calls {
         call: Call::Listen,
         before: 1,
@@ -244,7 +244,7 @@ const READ_FAULT: Finish = Finish::Ended(End::ReadFault);
 /// client is served, and so is the end.
 fn is_passed_over(alloc: Global, call: Call) -> Result<bool, Fail> {
     for before in 0..1000 {
-        let served = served(alloc, call, before)?;
+        let served = serve_failing(alloc, call, before)?;
         if served.made <= before {
             return Ok(before > 0);
         }
@@ -257,7 +257,7 @@ fn is_passed_over(alloc: Global, call: Call) -> Result<bool, Fail> {
 
 #[test]
 fn a_port_that_is_taken_is_told(rt: HostRuntime) -> Result<(), Fail> {
-    let served = served(rt.alloc(), Call::Listen, 0)?;
+    let served = serve_failing(rt.alloc(), Call::Listen, 0)?;
     assert!(rt; served.finish == READ_FAULT && served.latest == 0);
     Ok(())
 }
@@ -266,8 +266,8 @@ fn a_port_that_is_taken_is_told(rt: HostRuntime) -> Result<(), Fail> {
 #[test]
 fn no_client_and_no_moment_are_told(rt: HostRuntime) -> Result<(), Fail> {
     for call in [Call::Accept, Call::Moment] {
-        let first = served(rt.alloc(), call, 0)?;
-        let second = served(rt.alloc(), call, 1)?;
+        let first = serve_failing(rt.alloc(), call, 0)?;
+        let second = serve_failing(rt.alloc(), call, 1)?;
         assert!(rt; first.finish == READ_FAULT && first.latest == 0);
         assert!(rt; second.finish == READ_FAULT && second.latest == 100);
     }
@@ -285,7 +285,7 @@ fn a_failed_client_is_passed_over(rt: HostRuntime) -> Result<(), Fail> {
 /// The moment is that of the time once the client came, in whole seconds, whatever was before.
 #[test]
 fn a_moment_is_told_once_its_client_came(rt: HostRuntime) -> Result<(), Fail> {
-    let moved = served_at(rt.alloc(), &[99_000, 100_999, 200_000])?;
+    let moved = serve_two_at(rt.alloc(), &[99_000, 100_999, 200_000])?;
     assert!(rt; moved.finish == AT_END && moved.latest == 200);
     assert!(rt;
         moved
@@ -293,7 +293,7 @@ fn a_moment_is_told_once_its_client_came(rt: HostRuntime) -> Result<(), Fail> {
             .first()
             .is_some_and(|sent| sent.as_slice() == ADVANCED.as_bytes())
     );
-    let set_back = served_at(rt.alloc(), &[0, 100_000, 99_999])?;
+    let set_back = serve_two_at(rt.alloc(), &[0, 100_000, 99_999])?;
     assert!(rt; set_back.finish == AT_END && set_back.latest == 100);
     assert!(rt;
         set_back
@@ -306,9 +306,9 @@ fn a_moment_is_told_once_its_client_came(rt: HostRuntime) -> Result<(), Fail> {
 
 #[test]
 fn moments_are_those_of_the_range(rt: HostRuntime) -> Result<(), Fail> {
-    let last = served_at(rt.alloc(), &[0, 0, 253_402_300_799_999])?;
+    let last = serve_two_at(rt.alloc(), &[0, 0, 253_402_300_799_999])?;
     assert!(rt; last.finish == AT_END && last.latest == 253_402_300_799);
-    let past = served_at(rt.alloc(), &[0, 0, 253_402_300_800_000])?;
+    let past = serve_two_at(rt.alloc(), &[0, 0, 253_402_300_800_000])?;
     assert!(rt; past.finish == READ_FAULT && past.latest == 0);
     Ok(())
 }
