@@ -73,6 +73,7 @@ GATE = (
     Part("office/advance_tried.py", 60),
     Part("office/audit_views.py", 60),
     Part("office/users_tried.py", 60),
+    Part("office/due_tried.py", 60),
     Part("program/worked.py", 60),
     Part("program/tables.py", 60),
     Part("program/every_command.py", 30),
@@ -118,7 +119,8 @@ MORE_COMMANDS = {
     "pdftotext": "poppler-utils", "readelf": "binutils", "systemd-nspawn": "systemd-container systemd",
     "tmux": "tmux", "zsh": "zsh",
 }
-MODULES = {"jsonschema": "python3-jsonschema", "selenium": "python3-selenium", "yaml": "python3-yaml"}
+MODULES = {"jsonschema": "python3-jsonschema", "selenium": "python3-selenium", "vobject": "python3-vobject",
+           "yaml": "python3-yaml"}
 # Debian's modules belong to its own interpreter.
 INTERPRETERS = (sys.executable, "/usr/bin/python3")
 

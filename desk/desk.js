@@ -1,7 +1,7 @@
 // The desk: which page is shown, what is sent, and what is said of it. The modules of pages that are not the first come
 // when they are wanted.
 import {el, fillForms, formsIn, hush, keepingForms, name, plain, replace} from "./dom.js";
-import {findPage, tellNewer, waitsPage} from "./find.js";
+import {countsFor, findPage, tellNewer, waitsPage} from "./find.js";
 import {isComing, latest, learnKey, learnMoment, learnPeriod, learnRequest, list, load} from "./list.js";
 import {
   AnotherUser, StoreFull, Unanswered, events, giveUp, isSignedOut, kept, keyOf, now, resumed, send, sendNow, whoAmI,
@@ -11,6 +11,7 @@ import {away, commandText, refusalText, state, textFault, utcText} from "./words
 const PAGES = [
   ["find", "Find keys"],
   ["waits", "Waiting for you"],
+  ["due", "Due"],
   ["register", "Register a key"],
   ["table", "Take in a table"],
   ["periods", "Periods"],
@@ -277,6 +278,9 @@ async function render(main, {word, number, given}, {isCurrent, put}) {
   } else if (word === "register" || word === "periods") {
     const {periodsPage, registerPage} = await part("./pages.js");
     if (isCurrent()) put(() => (word === "register" ? registerPage : periodsPage)(main, desk));
+  } else if (word === "due") {
+    const {duePage} = await part("./due.js");
+    if (isCurrent()) duePage(main, desk);
   } else if (word === "waits") waitsPage(main, desk);
   else findPage(main, given);
 }
@@ -285,14 +289,27 @@ const sayLacking = (main) => replace(main, el("h1", {}, "Register of keys"),
   el("p", {class: "note", role: "alert"}, "A part of this page did not come. ",
     el("button", {type: "button", onclick: () => location.reload()}, "Load the page anew")));
 
+// The links of the pages, with how much waits for the reader behind two of them. A link that stands keeps the focus.
+function showPages(current) {
+  const counts = countsFor(desk.me);
+  if (!place("pages").firstChild) {
+    replace(place("pages"), PAGES.map(([word]) => el("li", {}, el("a", {href: `#${word}`}))));
+  }
+  PAGES.forEach(([word, title], at) => {
+    const link = place("pages").children[at].firstChild;
+    link.textContent = counts[word] ? `${title} (${counts[word]})` : title;
+    if (word === current) link.setAttribute("aria-current", "page");
+    else link.removeAttribute("aria-current");
+  });
+}
+
 // Shows the page of the address. Where it stands already, what was typed into its forms stays, but of the kind `sent`.
 async function show({sent = null, asks = true} = {}) {
   const mine = ++turn, to = pageOf(), main = place("main");
   const page = to.word === "key" ? `key/${to.number}` : to.word, isSame = main.dataset.page === page;
   const put = (fill) => (isSame ? keepingForms(main, fill, sent) : fill());
   delete main.dataset.page;
-  replace(place("pages"), PAGES.map(([word, title]) =>
-    el("li", {}, el("a", {href: `#${word}`, "aria-current": word === to.word ? "page" : null}, title))));
+  showPages(to.word);
   const isCurrent = () => mine === turn;
   if (asks && !await isReader()) return;
   if (!isCurrent()) return;
@@ -338,7 +355,8 @@ async function loadList() {
 // foretells follows from it.
 async function follow() {
   const {word} = pageOf(), main = place("main"), isAtHand = Boolean(document.activeElement?.closest("main > *"));
-  if (word === "waits" || (word === "table" && !isTaking())) {
+  showPages(word);
+  if (["waits", "due"].includes(word) || (word === "table" && !isTaking())) {
     tellNewer(main, async () => {
       await show();
       main.focus();
@@ -409,7 +427,7 @@ let isTaking = () => false;
 // The modules of the other pages, once the first one stands: they are there when they are wanted.
 async function fetchOthers() {
   ({isTaking} = await part("./table.js"));
-  await Promise.all(["./key.js", "./pages.js"].map(part));
+  await Promise.all(["./due.js", "./key.js", "./pages.js"].map(part));
 }
 
 function listen() {

@@ -1,11 +1,13 @@
 // Keys that are found, and what waits for the reader.
 import {announce, byParts, cards, el, field, freshId, name, replace, select, shown} from "./dom.js";
-import {allNames, isComing, keyAt, known, list, matching, waiting} from "./list.js";
+import {allNames, dueWithin, isComing, keyAt, known, list, matching, waiting} from "./list.js";
 import {now} from "./register.js";
 import {PERIODS, STATES, isOverdue} from "./rules.js";
 import {away, counted, state, utcText} from "./words.js";
 
-const SHOWN = 50;
+export const SHOWN = 50;
+// Within so many days a key is due, for the page of that name.
+export const DUE_DAYS = 30;
 
 // ---- rows of keys
 
@@ -21,7 +23,7 @@ function row(number, at) {
     key.type, stop, approvals, shown(key.purpose)];
 }
 
-const keyTable = (numbers, at, caption) =>
+export const keyTable = (numbers, at, caption) =>
   el("div", {class: "wide"}, cards(HEADS, numbers.map((number) => row(number, at)), {}, caption));
 
 // ---- finding
@@ -73,7 +75,7 @@ function lacking() {
   return "";
 }
 
-const lackingNote = () => (lacking() ? el("p", {class: "note"}, lacking()) : null);
+export const lackingNote = () => (lacking() ? el("p", {class: "note"}, lacking()) : null);
 
 // A number of days that is none is said, and filters nothing.
 function lookAtDays(input, hint) {
@@ -137,6 +139,16 @@ export function waitsPage(place, desk) {
     return el("section", {class: sort}, el("h2", {}, head), el("p", {class: "hint"}, hint), results);
   });
   replace(place, el("h1", {}, "What waits for you"), lackingNote(), el("div", {id: "newer", role: "status"}), parts);
+}
+
+// How much waits for a name, by the pages that tell it; nothing where there is no list.
+export function countsFor(me) {
+  if (!list.hasKeys) return {};
+  const at = now(), {begun, destroyable} = waiting(me, at);
+  return {
+    waits: begun.length + destroyable.length,
+    due: dueWithin(DUE_DAYS, at).filter((number) => keyAt(number, at).owner === me).length,
+  };
 }
 
 // Says on a page that has room for it that a newer list is there.

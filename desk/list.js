@@ -281,6 +281,10 @@ export function matching(filter, moment) {
   return filter.days === null ? numbers : byProtectStop(numbers);
 }
 
+// The numbers of the keys that are due within so many days, in order of their Protect Stop Dates.
+export const dueWithin = (days, moment) =>
+  matching({text: "", owner: "", type: "", state: "", days, waits: false}, moment);
+
 function byProtectStop(numbers) {
   const stop = new Map(numbers.map((number) =>
     [number, ownKey(number)?.protect_stop ?? columns.protect_stop[number - 1]]));

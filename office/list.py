@@ -157,7 +157,7 @@ def pieces_of(members: dict[str, Any], keys: Optional[Mapping[str, bytes]]) -> I
     yield b"}}" if keys else b"null}"
 
 
-def put(path: str, pieces: Iterable[bytes]) -> int:
+def put(path: str, pieces: Iterable[bytes], mode: int = 0o640) -> int:
     """Moves a file of these bytes into the place, whole; how many there are."""
     handle, other = tempfile.mkstemp(prefix=".list-", dir=os.path.dirname(os.path.abspath(path)))
     try:
@@ -165,7 +165,7 @@ def put(path: str, pieces: Iterable[bytes]) -> int:
             size = sum(map(file.write, pieces))
             file.flush()
             os.fsync(handle)
-        os.chmod(other, 0o640)
+        os.chmod(other, mode)
         os.replace(other, path)
     finally:
         # It is there still where it could not be moved.

@@ -7,6 +7,7 @@ a request will be answered. A moment is in seconds, and a date that is not set i
 import calendar
 import re
 import time
+import unicodedata
 from datetime import date, datetime, timedelta
 from typing import Any, Iterable, MutableMapping, NamedTuple, Optional, Sequence, TypedDict
 
@@ -343,6 +344,17 @@ def request_of(text: str) -> Request:
     if len(text.encode()) > LONGEST_LINE or moment == "-":
         raise ValueError(text)
     return Request(field_of("date", moment), field_of("name", caller), field_of("number", number), command_of(command))
+
+
+# ---- texts
+
+def shown(text: str) -> str:
+    """A text of a key for people: what would not be seen, would move other text or is no character stands by its
+    number."""
+    if text.isascii() and text.isprintable():
+        return text
+    return "".join(f"\\u{ord(mark):04x}" if unicodedata.category(mark) in ("Cc", "Cf", "Cs", "Zl", "Zp") else mark
+                   for mark in text)
 
 
 # ---- the register

@@ -26,12 +26,11 @@ import json
 import pathlib
 import sys
 import time
-import unicodedata
 from datetime import datetime, timedelta
 from html import escape
 from typing import Any, Iterable, Iterator, Sequence
 
-from register_rules import EPOCH, STATES as NAMES, moment_of, state_at, text_of
+from register_rules import EPOCH, STATES as NAMES, moment_of, shown, state_at, text_of
 
 # The columns that are drawn: the dates, and all.
 DATES = ("initial", "activation", "protect_stop", "deactivation", "occurrence", "compromised", "destroyed")
@@ -47,14 +46,6 @@ STATES = {
     "Destroyed-Compromised": '<path d="M0 2h8M0 6h8M4 0v8" stroke="{0}" stroke-width="1.4"/>',
 }
 STYLE, SCRIPT = (pathlib.Path(__file__).with_suffix(end).read_text(encoding="utf-8") for end in (".css", ".js"))
-
-
-def shown(text: str) -> str:
-    """A text of a key for the page: what would not be seen, or would move other text, stands by its number."""
-    if text.isascii() and text.isprintable():
-        return text
-    return "".join(f"\\u{ord(mark):04x}" if unicodedata.category(mark) in ("Cc", "Cf", "Zl", "Zp") else mark
-                   for mark in text)
 
 
 def keys_of(text: str) -> Iterator[dict[str, Any]]:

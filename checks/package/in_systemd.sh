@@ -193,6 +193,7 @@ holds "an instance's folder is the office's alone" mode_is /var/lib/keyreg/payro
 typed several-registers 1
 holds "a list of an instance, by OPERATING" systemctl start keyreg-list-payroll
 holds "it is nginx's alone" mode_is /var/lib/keyreg-list-payroll/list.json "keyreg 640"
+holds "what is due of an instance" systemctl start keyreg-due-payroll
 # Its desk, by the words there: another port, the register's and the list's, and nothing that stands once.
 sed -e '/# once$/d' -e 's/443/8443/; s/8420/8431/; s#/var/lib/keyreg-list;#/var/lib/keyreg-list-payroll;#' \
     /etc/nginx/conf.d/keyreg.conf >/etc/nginx/conf.d/payroll.conf
@@ -204,8 +205,8 @@ lists() {
 holds "it serves the list of the instance" until_holds 10 lists
 rm /etc/nginx/conf.d/payroll.conf
 systemctl reload nginx
-systemctl disable --now keyreg-list-payroll.timer
-rm /etc/systemd/system/keyreg-list-payroll.*
+systemctl disable --now keyreg-{list,due}-payroll.timer 2>/tmp/told
+rm /etc/systemd/system/keyreg-{list,due}-payroll.*
 systemctl daemon-reload
 
 # ---- advance and the nightly look
@@ -387,6 +388,39 @@ cd /tmp || exit
 fi
 [[ $parts == *" units "* ]] || exit 0
 
+# ---- what is due is told, and what failed
+told=/var/spool/told
+install -d -o keyreg $told
+cat >/usr/sbin/sendmail <<END
+#!/bin/sh
+echo "\$*" >>$told/words
+cat >>$told/mails
+END
+chmod 755 /usr/sbin/sendmail
+due="\"activation\":$(date +%s -d '9 days ago'),\"protect_stop\":$(date +%s -d '5 days'),\"deactivation\":null"
+post ann 900 "{\"kind\":\"register\",\"type\":\"master\",\"owner\":\"bob\",\"purpose\":\"due; \$(id)\",$due}"
+typed be-told 2 "s#key-office,keys@#bob,bob@#"
+holds "due: the calendars are there" grep -q '^SUMMARY:.* of bob is due' /var/lib/keyreg-due/owners/bob.ics
+holds "due: they are the office's alone" mode_is /var/lib/keyreg-due "keyreg 750"
+holds "due: the table is the office's alone" mode_is /etc/keyreg/addresses.csv "root 640"
+holds "due: a mail goes" systemctl start keyreg-mail
+holds "due: to whom the table names" grep -qx -e '-i -- bob@office.example' $told/words
+for timer in due mail; do holds "due: keyreg-$timer.timer goes on" state_is keyreg-$timer.timer active; done
+typed watch-it 1
+mkdir -p /run/systemd/system/keyreg-list.service.d
+printf '[Service]\nExecStart=\nExecStart=/bin/sh -c "echo so; exit 7"\n' >/run/systemd/system/keyreg-list.service.d/ends.conf
+systemctl daemon-reload
+fails systemctl start keyreg-list 2>/tmp/told
+holds "a unit that fails is told" until_holds 20 grep -q '^Subject: keyreg-list.service has failed' $told/mails
+holds "to whom the line names" grep -qx -e '-i -- watch@office.example' $told/words
+holds "with its last lines" grep -q ' so$' $told/mails
+fails systemctl start keyreg-list 2>/tmp/told
+sleep 3
+holds "and once in six hours" [ "$(grep -c '^Subject: keyreg-list' $told/mails)" = 1 ]
+rm -r /run/systemd/system/keyreg-list.service.d
+systemctl daemon-reload
+systemctl reset-failed
+begins keyreg-list
 # ---- upgrade and removal, by OPERATING
 systemctl stop 'keyreg*'
 holds "all are stopped" sh -c '! systemctl list-units --no-legend --state=active "keyreg*" | grep -v slice'
@@ -398,7 +432,7 @@ holds "its timers go on after it" state_is keyreg-nightly.timer active
 is_loaded() { [ "$(systemctl show -p NeedDaemonReload --value keyreg)" = no ]; }
 holds "systemd has the units of the package" is_loaded
 systemctl enable keyreg-list.timer keyreg-follow.timer 2>/tmp/told
-sed -i '1s/$/ keyreg-follow.timer keyreg@payroll keyreg@site-b/' /blocks/packages/remove.sh
+sed -i '1s/$/ keyreg-{follow,due,mail}.timer keyreg@payroll keyreg@site-b/' /blocks/packages/remove.sh
 holds "a removal, by OPERATING" bash -e /blocks/packages/remove.sh
 holds "no unit is left" sh -c '! systemctl list-units --all --no-legend --type=service,timer "keyreg*" | grep .'
 holds "no link is left" sh -c '! find /etc/systemd -name "keyreg*" | grep .'
