@@ -74,6 +74,7 @@ GATE = (
     Part("office/audit_views.py", 60),
     Part("office/users_tried.py", 60),
     Part("office/due_tried.py", 60),
+    Part("office/why_tried.py", 60),
     Part("program/worked.py", 60),
     Part("program/tables.py", 60),
     Part("program/every_command.py", 30),
@@ -96,6 +97,7 @@ REST = (
     Part("package/same_bytes.py", 900, commands=("readelf",)),
     Part("package/completion.py", 300, commands=("tmux", "zsh", "fish")),
     Part("office/client_tried.py", 900),
+    Part("office/metrics_tried.py", 120, commands=("prometheus-node-exporter",)),
     Part("office/follow_tried.py", 900),
     Part("sqlite/restored.py", 900),
     Part("office/replay_tried.py", 900),
@@ -116,8 +118,8 @@ COMMANDS = {
 # What parts of REST call besides.
 MORE_COMMANDS = {
     "debootstrap": "debootstrap", "firefox-esr": "firefox-esr", "fish": "fish", "lintian": "lintian",
-    "pdftotext": "poppler-utils", "readelf": "binutils", "systemd-nspawn": "systemd-container systemd",
-    "tmux": "tmux", "zsh": "zsh",
+    "pdftotext": "poppler-utils", "prometheus-node-exporter": "prometheus-node-exporter", "readelf": "binutils",
+    "systemd-nspawn": "systemd-container systemd", "tmux": "tmux", "zsh": "zsh",
 }
 MODULES = {"jsonschema": "python3-jsonschema", "selenium": "python3-selenium", "vobject": "python3-vobject",
            "yaml": "python3-yaml"}

@@ -1,10 +1,11 @@
 // The desk: which page is shown, what is sent, and what is said of it. The modules of pages that are not the first come
 // when they are wanted.
-import {el, fillForms, formsIn, hush, keepingForms, name, plain, replace} from "./dom.js";
+import {el, fillForms, formsIn, hush, keepingForms, name, plain, replace, shown} from "./dom.js";
 import {countsFor, findPage, tellNewer, waitsPage} from "./find.js";
 import {isComing, latest, learnKey, learnMoment, learnPeriod, learnRequest, list, load} from "./list.js";
 import {
-  AnotherUser, StoreFull, Unanswered, events, giveUp, isSignedOut, kept, keyOf, now, resumed, send, sendNow, whoAmI,
+  AnotherUser, StoreFull, Unanswered, events, giveUp, isSignedOut, kept, keyOf, now, registerName, resumed, send,
+  sendNow, whoAmI,
 } from "./register.js";
 import {away, commandText, refusalText, state, textFault, utcText} from "./words.js";
 
@@ -15,6 +16,7 @@ const PAGES = [
   ["register", "Register a key"],
   ["table", "Take in a table"],
   ["periods", "Periods"],
+  ["help", "Help"],
 ];
 // Milliseconds between two looks for a newer list, and for how many the first page waits for one.
 const RELOAD = 60000, FIRST = 1000;
@@ -22,7 +24,7 @@ const place = (id) => document.getElementById(id);
 const pause = (milliseconds) => new Promise((go) => setTimeout(go, milliseconds));
 
 // What the pages have of the desk.
-const desk = {me: null, send: sendAndSay, sendRow, sayStoreFull, sayUnasked};
+const desk = {me: null, pages: PAGES, send: sendAndSay, sendRow, sayStoreFull, sayUnasked};
 let isBusy = false, isOther = false, turn = 0;
 
 // ---- what is said
@@ -281,6 +283,9 @@ async function render(main, {word, number, given}, {isCurrent, put}) {
   } else if (word === "due") {
     const {duePage} = await part("./due.js");
     if (isCurrent()) duePage(main, desk);
+  } else if (word === "help") {
+    const {helpPage} = await part("./help.js");
+    if (isCurrent()) helpPage(main, desk);
   } else if (word === "waits") waitsPage(main, desk);
   else findPage(main, given);
 }
@@ -322,7 +327,7 @@ async function show({sent = null, asks = true} = {}) {
   if (!isCurrent()) return;
   if (!isSame) fillForms(main, drafts.get(entry) ?? []);
   main.dataset.page = page;
-  document.title = `${main.querySelector("h1").textContent} - keys`;
+  document.title = `${main.querySelector("h1").textContent} - ${plain(registerName())}`;
   showBusy();
   tellTimes();
 }
@@ -409,6 +414,7 @@ async function resume() {
 }
 
 function showReader() {
+  replace(document.querySelector("header .title"), "Register of keys ", shown(registerName(), {class: "text which"}));
   replace(place("who"), "You: ", el("strong", {}, plain(desk.me)), " ",
     el("a", {href: `/sign-out?user=${desk.me}`, class: "onscreen"}, "Sign out"));
 }
@@ -427,7 +433,7 @@ let isTaking = () => false;
 // The modules of the other pages, once the first one stands: they are there when they are wanted.
 async function fetchOthers() {
   ({isTaking} = await part("./table.js"));
-  await Promise.all(["./due.js", "./key.js", "./pages.js"].map(part));
+  await Promise.all(["./due.js", "./help.js", "./key.js", "./pages.js"].map(part));
 }
 
 function listen() {

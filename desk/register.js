@@ -39,10 +39,19 @@ export class AnotherUser extends Error {}
 export class StoreFull extends Error {}
 
 // The user whom the page shows, whether the browser sends as another one by now, and whether nginx takes no password of
-// it, so that nothing reaches the register.
-let reader = null, isOther = false, isOut = false;
+// it, so that nothing reaches the register; and the name that nginx-keyreg.conf gives the register, if any.
+let reader = null, isOther = false, isOut = false, given = "";
 
 export const isSignedOut = () => isOut;
+
+// What tells this register from others of its machine.
+export const registerName = () => given || location.host;
+
+// A field of an answer's head, whose bytes a browser gives as letters.
+function headText(response, name) {
+  const bytes = Uint8Array.from(response.headers.get(name) ?? "", (letter) => letter.charCodeAt(0));
+  return new TextDecoder().decode(bytes);
+}
 
 function lookAtStatus(status) {
   if (isOut === (status === NO_USER)) return;
@@ -60,16 +69,17 @@ function leave() {
 }
 
 async function asked(path, how = {}) {
-  const given = {
+  const usual = {
     cache: "no-store",
     credentials: "same-origin",
     redirect: "error",
     signal: AbortSignal.timeout(PATIENCE),
   };
   try {
-    const response = await (firstAnswer(path) ?? fetch(location.origin + path, {...given, ...how}));
+    const response = await (firstAnswer(path) ?? fetch(location.origin + path, {...usual, ...how}));
     look(response);
     lookAtStatus(response.status);
+    given = headText(response, "Register-Name") || given;
     return {status: response.status, text: await response.text()};
   } catch (fault) {
     throw new Unanswered(fault.message);

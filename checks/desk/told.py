@@ -1,15 +1,21 @@
 """What the desk tells by itself: how much waits for the reader and is due, behind its links and on the page of what is
-due."""
+due; which register it is, in title and head; and Help."""
+import re
 import time
+import types
 from typing import Any, Callable, Mapping
 
 from answers import request_object
 from client import Client
 from day import day, register
-from parts import Reader
-from register_rules import ACTIVE, STILL, Key, Register, command_of, is_long, request_of
+from nginx import HOST, Guard
+from parts import PASSWORDS, Reader
+from places import read
+from register_rules import ACTIVE, COMMANDS, STATES, STILL, Key, Register, command_of, is_long, request_of
 from script import expect, not_none
 
+# A name with what would be markup, and with letters of two and three bytes.
+NAME = "Zahlungen <b>&amp; Schlüssel</b> €"
 DAYS = 30
 
 
@@ -73,9 +79,43 @@ def posted(reader: Reader, caller: str, command: str) -> int:
         return office.ask(**request_object(command_of(command))).key
 
 
+def which_register(here: Any, reader: Reader) -> None:
+    """Two desks of one host say which register theirs is: one by its name, the other by its host and port. Without a
+    list nothing is counted."""
+    port = reader.desk.line.server_port
+    expect(reader.open("find").driver.title == f"Find keys - {HOST}:{port}", reader.driver.title)
+    expect(reader.text("header .title") == f"Register of keys {HOST}:{port}", reader.text("header .title"))
+    with Guard(here.desk.port, PASSWORDS, name=NAME) as guard:
+        there: Any = types.SimpleNamespace(line=types.SimpleNamespace(server_port=guard.port))
+        other = Reader(there, "ann")
+        try:
+            for page, head in (("find", "Find keys"), ("help", "Help")):
+                expect(other.open(page).driver.title == f"{head} - {NAME}", other.driver.title)
+            expect(other.text("header .title") == f"Register of keys {NAME}", other.text("header .title"))
+            expect(NAME in other.text(".about"), other.text(".about"))
+            links(other, "Waiting for you", "Due")
+        finally:
+            other.driver.quit()
+
+
+def helped(reader: Reader) -> None:
+    """Help has the version, each page, each command and each state."""
+    version = not_none(re.search(r"(?m)^## ([0-9.-]+)$", read("CHANGES.md")))[1]
+    reader.open("help").says(f"of keyreg {version}.")
+    pages = [link.text.split(" (")[0] for link in reader.find("nav a")]
+    words = [term.text for term in reader.find("main dt")]
+    expect({*pages} - {"Help", "Mine"} <= {*words} and all(any(state in word for word in words) for state in STATES[1:]),
+           f"Help has {words}, and there are {pages}")
+    rows = len(reader.find("main table tbody tr"))
+    # A revocation for a compromise has a row of its own.
+    expect(rows == len(COMMANDS) + 1, f"Help has {rows} commands, of {len(COMMANDS) + 1}")
+
+
 def all_told(here: Any) -> str:
     """All of it."""
     ann, bob = here.reader("ann"), here.reader("bob")
     due = counted(ann, bob)
+    which_register(here, ann)
+    helped(bob)
     here.closes(ann, bob)
-    return f"{due} keys are due, and counted for whom they wait"
+    return f"{due} keys are due, and counted for whom they wait; two desks of one host say which is which"

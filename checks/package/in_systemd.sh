@@ -194,6 +194,8 @@ typed several-registers 1
 holds "a list of an instance, by OPERATING" systemctl start keyreg-list-payroll
 holds "it is nginx's alone" mode_is /var/lib/keyreg-list-payroll/list.json "keyreg 640"
 holds "what is due of an instance" systemctl start keyreg-due-payroll
+holds "metrics of an instance" systemctl start keyreg-metrics-payroll
+holds "they are its own" grep -q 'keyreg/payroll/office.keyreg' /var/lib/keyreg-metrics-payroll/keyreg.prom
 # Its desk, by the words there: another port, the register's and the list's, and nothing that stands once.
 sed -e '/# once$/d' -e 's/443/8443/; s/8420/8431/; s#/var/lib/keyreg-list;#/var/lib/keyreg-list-payroll;#' \
     /etc/nginx/conf.d/keyreg.conf >/etc/nginx/conf.d/payroll.conf
@@ -205,8 +207,8 @@ lists() {
 holds "it serves the list of the instance" until_holds 10 lists
 rm /etc/nginx/conf.d/payroll.conf
 systemctl reload nginx
-systemctl disable --now keyreg-{list,due}-payroll.timer 2>/tmp/told
-rm /etc/systemd/system/keyreg-{list,due}-payroll.*
+systemctl disable --now keyreg-{list,due,mail,metrics}-payroll.timer 2>/tmp/told
+rm /etc/systemd/system/keyreg-{list,due,mail,metrics}-payroll.*
 systemctl daemon-reload
 
 # ---- advance and the nightly look
@@ -388,7 +390,7 @@ cd /tmp || exit
 fi
 [[ $parts == *" units "* ]] || exit 0
 
-# ---- what is due is told, and what failed
+# ---- what is due is told, and what failed; a monitor looks
 told=/var/spool/told
 install -d -o keyreg $told
 cat >/usr/sbin/sendmail <<END
@@ -398,6 +400,7 @@ cat >>$told/mails
 END
 chmod 755 /usr/sbin/sendmail
 due="\"activation\":$(date +%s -d '9 days ago'),\"protect_stop\":$(date +%s -d '5 days'),\"deactivation\":null"
+until_holds 60 gets 8420 200
 post ann 900 "{\"kind\":\"register\",\"type\":\"master\",\"owner\":\"bob\",\"purpose\":\"due; \$(id)\",$due}"
 typed be-told 2 "s#key-office,keys@#bob,bob@#"
 holds "due: the calendars are there" grep -q '^SUMMARY:.* of bob is due' /var/lib/keyreg-due/owners/bob.ics
@@ -420,7 +423,22 @@ holds "and once in six hours" [ "$(grep -c '^Subject: keyreg-list' $told/mails)"
 rm -r /run/systemd/system/keyreg-list.service.d
 systemctl daemon-reload
 systemctl reset-failed
-begins keyreg-list
+systemctl start keyreg-list
+mkdir -p /var/lib/prometheus/node-exporter
+typed watch-it 3
+looks() {
+    su nobody -s /bin/sh -c 'python3 /usr/share/keyreg/metrics.py look /var/lib/prometheus/node-exporter/keyreg.prom \
+        --address http://127.0.0.1:8420' | tee /dev/stderr | grep -q "^KEYREG OK .* due=1 overdue=0"
+}
+night >/tmp/told
+systemctl start keyreg-metrics
+holds "a monitor finds all well" looks
+systemctl stop keyreg
+holds "it finds that the service is away" fails looks
+systemctl start keyreg
+says_why() { python3 /usr/share/keyreg/why.py $file --user keyreg | grep -q "another program has it: process"; }
+holds "why.py says that the service has the file" until_holds 20 says_why
+
 # ---- upgrade and removal, by OPERATING
 systemctl stop 'keyreg*'
 holds "all are stopped" sh -c '! systemctl list-units --no-legend --state=active "keyreg*" | grep -v slice'
@@ -432,7 +450,7 @@ holds "its timers go on after it" state_is keyreg-nightly.timer active
 is_loaded() { [ "$(systemctl show -p NeedDaemonReload --value keyreg)" = no ]; }
 holds "systemd has the units of the package" is_loaded
 systemctl enable keyreg-list.timer keyreg-follow.timer 2>/tmp/told
-sed -i '1s/$/ keyreg-{follow,due,mail}.timer keyreg@payroll keyreg@site-b/' /blocks/packages/remove.sh
+sed -i '1s/$/ keyreg-{follow,due,mail,metrics}.timer keyreg@payroll keyreg@site-b/' /blocks/packages/remove.sh
 holds "a removal, by OPERATING" bash -e /blocks/packages/remove.sh
 holds "no unit is left" sh -c '! systemctl list-units --all --no-legend --type=service,timer "keyreg*" | grep .'
 holds "no link is left" sh -c '! find /etc/systemd -name "keyreg*" | grep .'

@@ -43,10 +43,11 @@ def by_tls(text: str, folder: pathlib.Path) -> str:
 
 class Guard:
     """nginx with the example's file, on ports of its own, that of what is asked without TLS too. The desk's list is
-    handed out of the folder's `list`. Wrong passwords are answered at this rate, which is not the file's."""
+    handed out of the folder's `list`. Wrong passwords are answered at this rate, which is not the file's. The register
+    has this name."""
 
     def __init__(self, register_port: int, words: Optional[Mapping[str, str]] = None, tls: bool = False,
-                 rate: str = "1000r/s") -> None:
+                 rate: str = "1000r/s", name: str = "") -> None:
         self.port, self.plain_port, refused_port = free_ports(3)
         self.held, self.tls = tempfile.TemporaryDirectory(), tls
         self.folder = folder = pathlib.Path(self.held.name)
@@ -57,6 +58,7 @@ class Guard:
         text, changes = CONF.read_text(encoding="ascii"), {
             "127.0.0.1:8420": f"127.0.0.1:{register_port}", "127.0.0.1:8422": f"127.0.0.1:{refused_port}",
             "/etc/nginx/keyreg.users": f"{folder}/users", "rate=1r/s": f"rate={rate}",
+            'set $register_name "";': f'set $register_name "{name}";',
             "/usr/local/share/keyreg/desk": str(DESK), "/var/lib/keyreg-list": self.list_folder}
         if tls:
             text = by_tls(text, folder)

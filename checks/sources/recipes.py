@@ -85,7 +85,9 @@ KINDS = (
                                         "checks/program/rules_tried.py checks/program/tables.py",
         "who the office is": "checks/office/behind_nginx.py",
         "what they look at beside the day": "checks/program/large_office.py checks/program/exchanges_by_curl.py "
-                                            "checks/desk/lists.py checks/office/due_tried.py",
+                                            "checks/desk/lists.py checks/office/due_tried.py "
+                                            "checks/office/metrics_tried.py",
+        "the words of Help": "desk/help.js",
         "it stands for its shape": "*/Within/Fields.antt crates/http_messages/src/command_value.rt",
         "what comes of one that is left out": "docs/OPERATING.md",
         "what version 1 has not": "checks/office/rebuild_tried.py",
@@ -94,7 +96,8 @@ KINDS = (
     Kind("Add a command of the program", r"Task::Report|\breport_file\b|keyreg report|\[\"report\"|\"report\":|"
                                          r"\n +report\)|from report'", {
         "they ask for a report": "checks/office/audit_views.py checks/office/due_tried.py "
-                                 "office/due.py checks/sqlite/copied_while_served.py "
+                                 "checks/office/metrics_tried.py checks/office/why_tried.py office/due.py "
+                                 "office/metrics.py checks/sqlite/copied_while_served.py "
                                  "checks/package/in_systemd.sh checks/program/full_register.py "
                                  "checks/office/replay_tried.py docs/CHECKS.md office/units/keyreg.service "
                                  "bench/tables.py",
