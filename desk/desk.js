@@ -16,6 +16,7 @@ const PAGES = [
   ["register", "Register a key"],
   ["table", "Take in a table"],
   ["periods", "Periods"],
+  ["leaver", "Who leaves"],
   ["help", "Help"],
 ];
 // Milliseconds between two looks for a newer list, and for how many the first page waits for one.
@@ -24,7 +25,7 @@ const place = (id) => document.getElementById(id);
 const pause = (milliseconds) => new Promise((go) => setTimeout(go, milliseconds));
 
 // What the pages have of the desk.
-const desk = {me: null, pages: PAGES, send: sendAndSay, sendRow, sayStoreFull, sayUnasked};
+const desk = {me: null, pages: PAGES, send: sendAndSay, sendRow, learn, sayStoreFull, sayUnasked};
 let isBusy = false, isOther = false, turn = 0;
 
 // ---- what is said
@@ -48,7 +49,7 @@ function sayStoreFull() {
 }
 
 function sayUnasked() {
-  sayRefused("Not sent", "The register does not answer, so that no row was sent.");
+  sayRefused("Not sent", "The register does not answer, so that nothing more was sent.");
 }
 
 function sayAnswer(answer, command) {
@@ -283,6 +284,9 @@ async function render(main, {word, number, given}, {isCurrent, put}) {
   } else if (word === "due") {
     const {duePage} = await part("./due.js");
     if (isCurrent()) duePage(main, desk);
+  } else if (word === "leaver") {
+    const {leaverPage} = await part("./leaver.js");
+    if (isCurrent()) leaverPage(main, desk, given);
   } else if (word === "help") {
     const {helpPage} = await part("./help.js");
     if (isCurrent()) helpPage(main, desk);
@@ -361,7 +365,7 @@ async function loadList() {
 async function follow() {
   const {word} = pageOf(), main = place("main"), isAtHand = Boolean(document.activeElement?.closest("main > *"));
   showPages(word);
-  if (["waits", "due"].includes(word) || (word === "table" && !isTaking())) {
+  if (["waits", "due", "leaver"].includes(word) || (word === "table" && !isTaking())) {
     tellNewer(main, async () => {
       await show();
       main.focus();
@@ -433,7 +437,7 @@ let isTaking = () => false;
 // The modules of the other pages, once the first one stands: they are there when they are wanted.
 async function fetchOthers() {
   ({isTaking} = await part("./table.js"));
-  await Promise.all(["./due.js", "./help.js", "./key.js", "./pages.js"].map(part));
+  await Promise.all(["./due.js", "./help.js", "./key.js", "./leaver.js", "./pages.js"].map(part));
 }
 
 function listen() {

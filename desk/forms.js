@@ -97,7 +97,7 @@ function text(member, label, given = {}) {
 
 // A name that somebody has, or another one, which is told and has to be confirmed: what is given to a name that nobody
 // has is not to be had back. Without a list nobody knows.
-function person(member, label, me) {
+export function person(member, label, me) {
   const names = allNames().add(me), id = freshId("names");
   const entry = text(member, label, {list: id});
   const options = el("datalist", {id}, [...names].sort().slice(0, 2000).map((value) => el("option", {value})));

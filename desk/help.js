@@ -14,6 +14,7 @@ const PAGES = {
   register: "One new key.",
   table: "Many new keys, by a file of CSV. Each row is judged before it is sent.",
   periods: "For how many months keys of each type protect data, and process it after.",
+  leaver: "What a name owns and guards. Who owns keys gives them to another owner here, one after the other.",
 };
 
 const MEANS = {

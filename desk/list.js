@@ -310,6 +310,17 @@ export function waiting(caller, moment) {
   return {begun, guarded, destroyable};
 }
 
+// What a name has a part in: the keys that it owns, and those of which it is a custodian.
+export function partsOf(name) {
+  const at = names.indexOf(name), owns = [], guards = [];
+  hay.forEach((_, place) => {
+    const own = ownKey(place + 1);
+    if (own ? own.owner === name : columns.owner[place] === at) owns.push(place + 1);
+    if (own ? own.custodians.includes(name) : columns.custodians[place].includes(at)) guards.push(place + 1);
+  });
+  return {owns, guards};
+}
+
 // ---- the keys that a row may have made
 
 const wordsOf = ({type, owner, purpose}) => `${type}\n${owner}\n${purpose}`;

@@ -35,7 +35,7 @@ LEFT = """{0} is no user any more. In the register
 - keys that {0} owns wait: {0} alone assigns them, so set a password once more and assign them by that
 - approvals of {0} stand until each key's owner removes {0} as a custodian
 - requests of {0} stay for good: give the name to nobody else
-A copy of the register lists these keys: docs/AUDIT.md, the view `part`."""
+The desk lists these keys, under *Who leaves*, and a copy of the register: docs/AUDIT.md, the view `part`."""
 # Of a new file: its owner writes it and its group reads it.
 MODE = 0o640
 

@@ -154,7 +154,7 @@ def all_pages(ann: Reader, bob: Reader, cat: Reader, folder: pathlib.Path) -> st
            "authentication,ann,2027-01-01T00:00:00Z,2026-01-01T00:00:00Z,,in another order",
            "Master,ann,,,,no such type")
     parts = 0
-    for page in ("find", f"key/{key}", "waits", "due", "register", "table", "periods", "help"):
+    for page in ("find", f"key/{key}", "waits", "due", "register", "table", "periods", "leaver", "help"):
         ann.anew(page)
         if page.startswith("key/"):
             ann.says("As the register told it")
@@ -174,7 +174,7 @@ def all_pages(ann: Reader, bob: Reader, cat: Reader, folder: pathlib.Path) -> st
     ann.desk.line.todo = []
     ann.execute("document.querySelector('#kept button')?.click()")
     ann.accepted(f"set-quorum {key} 3")
-    return f"{parts} parts of eleven pages have their names and roles, at {len(WIDTHS)} widths, light, dark and printed"
+    return f"{parts} parts of twelve pages have their names and roles, at {len(WIDTHS)} widths, light, dark and printed"
 
 
 # ---- many keys
