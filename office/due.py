@@ -74,9 +74,10 @@ class Pending(NamedTuple):
 
 
 class Due(NamedTuple):
-    """What is due in a register, which the mark tells apart from others, and what waits, at its latest moment."""
+    """What is due in a register, which its first request tells apart from others, and what waits, at its latest
+    moment."""
     latest: int
-    mark: str
+    first: str
     keys: list[Key]
     pending: list[Pending]
 
@@ -93,18 +94,18 @@ def viewed(path: str, days: int) -> Iterator[sqlite3.Connection]:
 def due_of(path: str, days: int) -> Due:
     with viewed(path, days) as connection:
         latest = connection.execute("SELECT now FROM question").fetchone()[0]
-        first = connection.execute("SELECT caller, number, command, moment FROM request ORDER BY rowid LIMIT 1")
+        request = connection.execute("SELECT caller, number, command, moment FROM request ORDER BY rowid LIMIT 1")
+        first = hashlib.sha256(repr(request.fetchone()).encode()).hexdigest()[:16]
         keys = [Key(*row) for row in connection.execute(
             "SELECT number, protect_stop, mark, type, owner, purpose FROM marked WHERE mark IS NOT NULL "
             "ORDER BY protect_stop, number")]
         pending = [Pending((others or "").split(), *row) for others, *row in connection.execute(
             "SELECT others, key, pending.owner, have, need, purpose FROM pending JOIN main.keys ON number = key "
             "WHERE pending.state <> 'Active' ORDER BY key")]
-        mark = hashlib.sha256(repr(first.fetchone()).encode()).hexdigest()[:16]
     for owner in {key.owner for key in keys}:
         if not NAME.fullmatch(owner):
             raise Unreadable(f"an owner is {owner!r}")
-    return Due(latest, mark, keys, pending)
+    return Due(latest, first, keys, pending)
 
 
 # ---- calendars
@@ -132,7 +133,7 @@ def stamp(moment: int) -> str:
 
 def event_lines(key: Key, due: Due, alarms: Iterable[int]) -> Iterator[str]:
     title = f"Key {key.number} of {key.owner} {MARKS[key.mark]}: "
-    yield from ("BEGIN:VEVENT", f"UID:key-{key.number}-{due.mark}@keyreg", f"DTSTAMP:{stamp(due.latest)}",
+    yield from ("BEGIN:VEVENT", f"UID:key-{key.number}-{due.first}@keyreg", f"DTSTAMP:{stamp(due.latest)}",
                 f"DTSTART:{stamp(key.stop)}", f"SUMMARY:{escaped(title + key.purpose)}",
                 f"DESCRIPTION:{escaped(f'{key.kind}. As of {text_of(due.latest)}.')}", f"CATEGORIES:{key.mark}",
                 "TRANSP:TRANSPARENT")

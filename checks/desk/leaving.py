@@ -26,13 +26,14 @@ def furnished(reader: Reader) -> tuple[list[int], list[int]]:
     return owned, guarded
 
 
-def listed(reader: Reader, owned: list[int], guarded: list[int]) -> None:
-    """The page has what the name owns and guards, and which approval stands."""
+def listed(reader: Reader, owned: list[int], guarded: list[int]) -> set[int]:
+    """The page has what the name owns and guards, and which approval stands; all that it has as owned."""
     found = {int(cell.text) for cell in reader.find("section.owns td[data-head='Key']")}
     expect({*owned} <= found and not found & {*guarded}, f"{reader.user} is shown as owned {sorted(found)}")
     rows = {int(row.text.split()[0]): row.text for row in reader.find("section.guards tbody tr")}
     stands = {number: " stands " in f" {rows.get(number, '')} " for number in guarded}
     expect(stands == {guarded[0]: True, guarded[1]: False}, f"what is guarded is shown as {rows}")
+    return found
 
 
 def begins(reader: Reader, count: int) -> None:
@@ -56,6 +57,8 @@ def goes_until(reader: Reader, count: int) -> None:
 def ended(reader: Reader, count: int) -> None:
     reader.wait(lambda: f"{count} of {count} keys given to {HEIR}" in reader.text("section.owns .count"),
                 f"not {count} keys: {reader.text('section.owns')[:300]}", 60)
+    said = reader.execute("return document.getElementById('heard').textContent")
+    expect(f"{count} of {count} keys given" in said, f"in the end is heard {said!r}")
     reader.press("Done")
 
 
@@ -64,22 +67,19 @@ def all_leaving(here: Any) -> str:
     first, other, line = here.reader(LEAVER), here.reader("cat"), here.desk.line
     owned, guarded = furnished(first)
     posts, numbers = len(line.posts), [number for _, number, _, _ in here.desk.requests()]
-    listed(first.with_list("leaver"), owned, guarded)
+    keys = listed(first.with_list("leaver"), owned, guarded) - {owned[-1]}
     listed(other.with_list(f"leaver?name={LEAVER}"), owned, guarded)
     other.says(f"Only {LEAVER} gives these away", "section.owns")
     expect(not other.find("section.owns :is(input, button.send)"), "another may give them away")
     # One is left out by hand, and given in the end.
     first.seen(f"input[aria-label='give key {owned[3]}']").click()
     line.delay = 0.15
-    begins(first, KEYS - 1)
+    begins(first, len(keys) - 1)
     goes_until(first, 5)
     line.todo = ["cut", "503"]
     goes_until(first, 12)
-    # A page that is left in the midst asks first.
-    first.execute("window.onbeforeunload = null")
-    first.driver.execute_cdp_cmd("Page.enable", {})
     first.reload()
-    first.says(f"of {KEYS - 1} keys given to {HEIR}", "section.owns")
+    first.says(f"of {len(keys) - 1} keys given to {HEIR}", "section.owns")
     first.wait(lambda: not first.text("#kept"), "a request waits still")
     first.press("Go on")
     goes_until(first, 20)
@@ -89,14 +89,14 @@ def all_leaving(here: Any) -> str:
     there = len(assigned(other))
     # Another browser, with the list of before: the register is asked of each key.
     second = here.reader(LEAVER).open("leaver")
-    begins(second, KEYS)
-    ended(second, KEYS)
+    begins(second, len(keys))
+    ended(second, len(keys))
     line.delay = 0.0
     counts = assigned(second)
-    expect(counts == {f"assign {number} {HEIR}": 1 for number in owned[:-1]}, f"given were {counts}")
+    expect(counts == {f"assign {number} {HEIR}": 1 for number in keys}, f"given were {counts}")
     sent = set(map(int, line.posts[posts:])) - {*numbers}
-    expect(len(sent) == KEYS, f"{KEYS} keys were given by {len(sent)} requests")
+    expect(len(sent) == len(keys) >= KEYS, f"{len(keys)} keys were given by {len(sent)} requests")
     second.said += [(LEAVER, None, command) for command in counts]
     listed(second.with_list("leaver"), owned[-1:], guarded)
     here.closes(other, second)
-    return f"{KEYS} keys of a leaver have another owner, {there} by a browser that was killed: one request each"
+    return f"{len(keys)} keys of a leaver have another owner, {there} by a browser that was killed: one request each"

@@ -2,7 +2,7 @@
 """What is due, by office/due.py and office/tell.py, over a register with hostile purposes and names: the calendars,
 read by Debian's vobject, have the keys and the moments of `keyreg report`, under UIDs that stay; the mails, read by
 Python's email with its default policy, go to whom the office's table names, and say what is due and what waits. A
-sendmail gets each once, and no other program is started.
+sendmail gets each once, and no other program is started. Each unit names the one that tells that it failed.
 
     checks/office/due_tried.py
 
@@ -23,6 +23,7 @@ sys.path.insert(1, str(pathlib.Path(__file__).resolve().parents[1] / "shared"))
 # Debian's package is of the system's Python; another one finds it here.
 sys.path.append("/usr/lib/python3/dist-packages")
 from vobject.base import readOne
+from places import UNITS
 from registers import File, copy_files, keyreg, new_register, run_program
 from script import expect, fresh_folder, output_of, verdict
 from tools import run_tool, words_of
@@ -255,6 +256,9 @@ def sent(folder: pathlib.Path) -> None:
 
 
 def main() -> None:
+    for unit in UNITS.glob("*.service"):
+        names_it = "\nOnFailure=keyreg-failed@%N.service\n" in unit.read_text("ascii")
+        expect(names_it != (unit.name == "keyreg-failed@.service"), f"{unit.name} tells nobody that it failed")
     with fresh_folder() as folder:
         file = folder / "office.keyreg"
         keys = days_pass(folder, file, registered(file))
