@@ -2,8 +2,8 @@
 import assert from "node:assert/strict";
 import {beforeEach, test} from "node:test";
 import {
-  judgement, keyAt, known, latest, learnKey, learnMoment, learnRegistered, matching, registeredKeys, requestsOf, take,
-  waiting,
+  dueWithin, judgement, keyAt, known, latest, learnKey, learnMoment, learnRegistered, matching, partsOf, registeredKeys,
+  requestsOf, take, waiting,
 } from "../list.js";
 import {Store, listOf} from "./shared.js";
 
@@ -30,6 +30,23 @@ test("all keys are found where nothing is asked, also where others are not known
   assert.equal(known(), 3);
   take(listOf([KEY, KEY], {made: NOW + 60}));
   assert.equal(known(), 2);
+});
+
+test("what a name owns and guards is the list's, and over it what was learnt since", () => {
+  take(listOf([{...KEY, owner: "ann", custodians: ["bob"]}, {...KEY, owner: "bob"}, {...KEY, owner: "ann"}]));
+  assert.deepEqual(partsOf("ann"), {owns: [1, 3], guards: []});
+  assert.deepEqual(partsOf("bob"), {owns: [2], guards: [1]});
+  assert.deepEqual(partsOf("an"), {owns: [], guards: []});
+  learnKey({key: {...KEY, number: 1, owner: "bob", custodians: ["zoe"], approvals: [], need: 2}, usage: {}, at: NOW});
+  assert.deepEqual([partsOf("ann").owns, partsOf("bob"), partsOf("zoe").guards], [[3], {owns: [1, 2], guards: []}, [1]]);
+});
+
+test("due are Active keys, by their Protect Stop Dates", () => {
+  const active = {activation: NOW - 9 * DAY, deactivation: NOW + 99 * DAY};
+  take(listOf([{...KEY, ...active, protect_stop: NOW + 30 * DAY}, {...KEY, ...active, protect_stop: NOW + 30 * DAY + 1},
+    {...KEY, ...active, protect_stop: NOW - DAY}, {...KEY, ...active, protect_stop: NOW - DAY, deactivation: NOW - 1},
+    {...KEY, activation: NOW + 1, protect_stop: NOW + DAY}], {made: NOW + 60}));
+  assert.deepEqual(dueWithin(30, NOW), [3, 1]);
 });
 
 test("the latest moment falls where a register was set right", (context) => {
