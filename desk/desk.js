@@ -2,7 +2,7 @@
 // when they are wanted.
 import {el, fillForms, formsIn, hush, keepingForms, name, plain, replace, shown} from "./dom.js";
 import {countsFor, findPage, tellNewer, waitsPage} from "./find.js";
-import {isComing, latest, learnKey, learnMoment, learnPeriod, learnRequest, list, load} from "./list.js";
+import {isComing, latest, learnKey, learnMoment, learnPeriod, learnRequest, list, load, requestOf} from "./list.js";
 import {
   AnotherUser, StoreFull, Unanswered, events, giveUp, isSignedOut, kept, keyOf, now, registerName, resumed, send,
   sendNow, whoAmI,
@@ -13,6 +13,7 @@ const PAGES = [
   ["find", "Find keys"],
   ["waits", "Waiting for you"],
   ["due", "Due"],
+  ["mine", "Mine"],
   ["register", "Register a key"],
   ["table", "Take in a table"],
   ["periods", "Periods"],
@@ -104,26 +105,12 @@ async function isReader() {
 
 // ---- what is sent
 
-const dateText = (value) => (value === null ? "-" : value === "keep" ? "=" : String(value));
-
-// A command's text as the list has it, without its key.
-function textOf(command) {
-  const {kind} = command;
-  if (kind === "register") return "register";
-  if (kind === "set") {
-    return ["set", ...["activation", "protect_stop", "deactivation"].map((member) => dateText(command[member]))]
-      .join(" ");
-  }
-  if (kind === "revoke") return `revoke ${command.reason} ${dateText(command.occurrence)}`;
-  return [kind, command.owner ?? command.name ?? command.need].filter((part) => part !== undefined).join(" ");
-}
-
 // Puts what an answer tells over the list.
 async function learn(answer, command) {
   const at = now();
   if (answer.accepted) {
     learnMoment(answer.moment);
-    if (answer.key) learnRequest(answer.key, {moment: answer.moment, caller: desk.me, text: textOf(command)});
+    if (command.kind !== "advance") learnRequest(requestOf(answer, command, desk.me));
     if (command.kind === "set-period") learnPeriod(command.type, [command.originator, command.recipient], at);
   } else if (answer.refused === 3) learnMoment(answer.latest, true);
   const number = answer.key || command.key;
@@ -150,8 +137,8 @@ async function settle(answer, command) {
   sayAnswer(answer, command);
 }
 
-// Sends what no form sends by itself, and says why where it is not sent.
-async function sendAndSay(command) {
+// Sends what no form sends by itself, under a number that is drawn or given, and says why where it is not sent.
+async function sendAndSay(command, given) {
   if (isOther || isBusy || waiting().length) {
     sayRefused("Not sent", isOther ? "This browser sends as another user by now: load the page anew."
       : "A request waits for its answer. Nothing else is sent until it came.");
@@ -160,7 +147,7 @@ async function sendAndSay(command) {
   isBusy = true;
   showBusy();
   try {
-    const answer = await send(command);
+    const answer = await send(command, given);
     if (answer) await settle(answer, command);
   } catch (fault) {
     if (fault instanceof StoreFull) sayStoreFull();
@@ -275,6 +262,9 @@ async function render(main, {word, number, given}, {isCurrent, put}) {
   if (word === "key") {
     const {keyPage} = await part("./key.js");
     if (isCurrent()) await keyPage(main, number, desk, {isCurrent, put});
+  } else if (word === "mine") {
+    const {minePage} = await part("./history.js");
+    if (isCurrent()) await minePage(main, desk, isCurrent);
   } else if (word === "table") {
     const {tablePage} = await part("./table.js");
     if (isCurrent()) tablePage(main, desk);
@@ -365,7 +355,7 @@ async function loadList() {
 async function follow() {
   const {word} = pageOf(), main = place("main"), isAtHand = Boolean(document.activeElement?.closest("main > *"));
   showPages(word);
-  if (["waits", "due", "leaver"].includes(word) || (word === "table" && !isTaking())) {
+  if (["waits", "due", "mine", "leaver"].includes(word) || (word === "table" && !isTaking())) {
     tellNewer(main, async () => {
       await show();
       main.focus();

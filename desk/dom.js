@@ -146,18 +146,19 @@ export function cards(heads, rows, given, caption) {
 }
 
 // What a list shows at first, and more of it at each press of its button. The focus goes to the first row that came.
-export function byParts(rows, size, show, place) {
-  let most = size;
+// Where there are more rows than these, `grow` adds some, and tells whether there may be more still.
+export function byParts(rows, size, show, place, grow = null) {
+  let most = size, isWhole = !grow;
   const look = (first) => {
     const rest = rows.length - most;
-    const more = () => {
+    const more = async () => {
       const before = most;
       most += size;
+      while (!isWhole && rows.length <= most) isWhole = !await grow();
       look(before);
     };
-    replace(place, show(rows.slice(0, most)),
-      rest > 0 ? el("button", {type: "button", class: "more", onclick: more}, `Show ${Math.min(rest, size)} more`)
-        : null);
+    replace(place, show(rows.slice(0, most)), rest > 0
+      ? el("button", {type: "button", class: "more", onclick: more}, `Show ${Math.min(rest, size)} more`) : null);
     if (first === undefined) return;
     const row = place.querySelectorAll("tbody tr")[first];
     const goal = row?.querySelector("a, input:not(:disabled)") ?? row;

@@ -1,4 +1,5 @@
 // Forms for commands. Each shows the JSON that it sends and what the page knows of its answer before it is sent.
+import {LABELS, becomes} from "./changes.js";
 import {announce, el, field, freshId, hush, plain, replace, select, shown} from "./dom.js";
 import {allNames, judgement, list, periodOf} from "./list.js";
 import {now} from "./register.js";
@@ -154,8 +155,6 @@ function reasons(isOwners) {
   return choice("reason", "Reason", options.map(([number, name]) => [number, `${number} ${name}`]), {take: Number});
 }
 
-const LABELS = {activation: "Activation", protect_stop: "Protect Stop", deactivation: "Deactivation"};
-
 // The fields of a command about a key, or about none. `isOwners` is whether the owner's reasons may be taken.
 function fieldsOf(kind, {key, isOwners, desk}) {
   const fields = {
@@ -174,35 +173,6 @@ function fieldsOf(kind, {key, isOwners, desk}) {
 }
 
 // ---- what is told before it is sent
-
-function datesAfter(command, before, after) {
-  return Object.entries(LABELS).filter(([member]) => after[member] !== (before?.[member] ?? null))
-    .map(([member, label]) => {
-      const given = command[member];
-      const isOwn = given === after[member] || command.kind === "revoke"
-        || (command.kind === "activate" && member === "activation");
-      const text = after[member] === null ? "none" : `${utcText(after[member])}, ${localText(after[member])}`;
-      return `${label}: ${text}${isOwn ? "" : " (by the period of the type)"}`;
-    });
-}
-
-const namesText = (names) => (names.length ? names.map(plain).join(", ") : "none");
-
-// What else of a key changes: each with its words, and how a value is said.
-const OTHERS = [
-  ["owner", "Owner", plain],
-  ["need", "Approvals needed", String],
-  ["custodians", "Custodians", namesText],
-  ["approvals", "Approvals", namesText],
-];
-
-// What a command changes in a key; nothing where the key is known and stays as it is.
-function becomes(command, before, after) {
-  const others = !before ? [] : OTHERS.filter(([member]) => String(before[member]) !== String(after[member]));
-  return [...datesAfter(command, before, after),
-    ...(after.state !== before?.state ? [`State: ${after.state}`] : []),
-    ...others.map(([member, label, say]) => `${label}: ${say(after[member])} (it was ${say(before[member])})`)];
-}
 
 function periodAfter({type, originator, recipient}) {
   const [first, second] = periodOf(type);

@@ -1,10 +1,11 @@
 // One key, whole: its dates as a line, what it may be used for and as of when, and what the reader may do with it.
 import {cards, el, keepingForms, name, replace, shown, svg} from "./dom.js";
 import {commandForm} from "./forms.js";
+import {followHistory, historyPart} from "./history.js";
 import {keyAt, latest, learnKey, learntOf, list, periodOf, requestsOf} from "./list.js";
 import {AnotherUser, Unanswered, keyOf, now} from "./register.js";
 import {COMMANDS, RANGES, SETTABLE, barred, isLong, isOverdue, spansOf, stateAt, usageAt} from "./rules.js";
-import {WORDS, away, moment, refusalText, requestText, state, utcText} from "./words.js";
+import {WORDS, moment, refusalText, state, utcText} from "./words.js";
 
 // Each date with its words and its letter.
 const DATES = [
@@ -155,17 +156,6 @@ function facts(key, at) {
   ].map(([head, content]) => [el("dt", {}, head), el("dd", {}, content)]));
 }
 
-function history(number, at) {
-  const requests = requestsOf(number);
-  const source = list.isThere ? "Of this page's own and of the list: the last few alone."
-    : "Of this page's own alone: the list is not there.";
-  const lines = requests.map(({moment: when, caller, text}) =>
-    el("li", {}, el("span", {class: "when"}, `${utcText(when)} (${away(when, at)}) `), name(caller), " ",
-      requestText(text)));
-  return el("section", {"aria-labelledby": "history"}, el("h2", {id: "history"}, "Last requests"),
-    el("p", {class: "hint"}, source), requests.length ? el("ol", {class: "history"}, lines) : null);
-}
-
 const LEGEND = [["protect", "may protect data"], ["process", "may only process what is protected"],
   ["wait", "waits for its Activation"]];
 
@@ -197,7 +187,7 @@ function show(place, number, desk, note) {
     note ? el("p", {class: "note", role: "alert"}, note) : null,
     isPast ? el("p", {class: "note"}, "Its dates go past the period that the office set since.") : null,
     el("p", {class: "hint source", "data-seen": seen(number, note)}, sourceText(number)), facts(key, at),
-    picture(key, at), usage(key, heard, at, desk), heard ? acts(key, desk, at) : null, history(number, at));
+    picture(key, at), usage(key, heard, at, desk), heard ? acts(key, desk, at) : null, historyPart(number));
 }
 
 // So many milliseconds a register may take that answers others first, and nothing is said of it.
@@ -213,8 +203,10 @@ export async function keyPage(place, number, desk, {isCurrent, put}) {
   }
   const look = (note, by = (fill) => keepingForms(place, fill)) => {
     const source = place.querySelector(".source");
-    if (source?.dataset.seen === seen(number, note)) replace(source, sourceText(number));
-    else by(() => show(place, number, desk, note));
+    if (source?.dataset.seen === seen(number, note)) {
+      replace(source, sourceText(number));
+      followHistory(place.querySelector("section.history"), number);
+    } else by(() => show(place, number, desk, note));
   };
   // A page that stands waits for what the register says, where the list alone is newer: its forms stay.
   const stands = place.querySelector(".source")?.dataset.seen.startsWith(`[${number},`);

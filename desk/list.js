@@ -1,11 +1,11 @@
 // The keys that the desk knows: those of the list, and over them what it learnt from the register since the list was
 // made.
 import {listed, now} from "./register.js";
-import {DAY, NEAR, PERIODS, isLong, judged, mayHaveMade, stateAt} from "./rules.js";
+import {DAY, NEAR, PERIODS, isLong, judged, mayHaveMade, stateAt, textOf} from "./rules.js";
 
 const LEARNT = "keyreg.learnt";
 const DATES = ["activation", "protect_stop", "deactivation", "destroyed", "compromised", "occurrence"];
-const COLUMNS = ["type", "owner", "purpose", "initial", ...DATES, "need", "custodians", "approvals", "requests"];
+const COLUMNS = ["type", "owner", "purpose", "initial", ...DATES, "need", "custodians", "approvals"];
 const noColumns = () => Object.fromEntries(COLUMNS.map((name) => [name, []]));
 
 function stored(part, otherwise) {
@@ -16,16 +16,20 @@ function stored(part, otherwise) {
   }
 }
 
-// `made` and `latest` are of the list; 0 where there is none.
-export const list = {made: 0, latest: 0, count: 0, isThere: false, hasKeys: false, periods: {}};
-// What the register told since: of each key {key, usage, at}; of each type whose period was set {months, at}; the
-// requests that were accepted, {number of the key: [{moment, caller, text}]}; its latest moment, {moment, at}.
+// `made` and `latest` are of the list; 0 where there is none. `history` is the folder of its history, or null.
+export const list = {made: 0, latest: 0, count: 0, isThere: false, hasKeys: false, periods: {}, history: null};
+// What the register told since: of each key {key, usage, at}; of each type whose period was set {months, at}; its
+// latest moment, {moment, at}. And the last requests of this window that were accepted, the oldest first, as
+// `requestOf` gives them, with `at`.
 const learnt = {
   keys: stored("keys", {}),
   periods: stored("periods", {}),
-  requests: stored("requests", {}),
+  sent: stored("sent", []),
   last: stored("last", {moment: 0, at: 0}),
 };
+const MOST_SENT = 300;
+// So many seconds a browser's clock may be beside that of the register's machine.
+const CLOCKS = 5;
 // The keys behind the list: of which a row of a table was accepted, as they were foretold, and those that were asked
 // for since, {number: {key, caller}}, with a caller where it is known. The table is kept, and they follow from it after
 // a reload.
@@ -89,10 +93,22 @@ export function learnPeriod(type, months, at) {
   save("periods");
 }
 
-export function learnRequest(number, request) {
-  (learnt.requests[number] ??= []).push(request);
-  save("requests");
+// An accepted request, as a row of the history has it.
+export const requestOf = ({number, key, moment, state}, command, caller) =>
+  ({caller, number, key, moment, state, text: textOf(command)});
+
+export const isSame = (one) => (other) => other.number === one.number && other.caller === one.caller;
+
+export function learnRequest(request) {
+  const isIt = isSame(request);
+  learnt.sent = [...learnt.sent.filter((one) => !isIt(one)), {...request, at: now()}].slice(-MOST_SENT);
+  save("sent");
 }
+
+// The requests of this window that the list may not have, and those that it has, unless the register was set right.
+const mayLack = ({at}) => at >= list.made - CLOCKS && isPast(at);
+export const sentSince = () => learnt.sent.filter(mayLack);
+export const sentBefore = () => learnt.sent.filter((one) => !mayLack(one));
 
 // The periods that are set, as far as the page knows.
 export function periods() {
@@ -119,12 +135,6 @@ function forget(made) {
     for (const [name, {at}] of Object.entries(learnt[part])) if (!isLater(at)) delete learnt[part][name];
     save(part);
   }
-  for (const [number, requests] of Object.entries(learnt.requests)) {
-    const later = requests.filter(({moment}) => isLater(moment));
-    if (later.length) learnt.requests[number] = later;
-    else delete learnt.requests[number];
-  }
-  save("requests");
   registered = new Map([...registered].filter(([number, {key}]) =>
     number > columns.type.length && isLater(key.initial)));
 }
@@ -133,7 +143,7 @@ function forget(made) {
 export function take(made) {
   list.isThere = true;
   list.hasKeys = made.keys !== null;
-  for (const name of ["made", "latest", "count", "periods"]) list[name] = made[name];
+  for (const name of ["made", "latest", "count", "periods", "history"]) list[name] = made[name];
   ({names, types} = made);
   columns = made.keys ?? noColumns();
   const lower = names.map((name) => name.toLowerCase());
@@ -188,17 +198,12 @@ export function keyAt(number, moment) {
 // What the register told of a key since the list was made, if anything.
 export const learntOf = (number) => learnt.keys[number];
 
-// The last requests of a key that are known, the oldest first.
+// The requests of a key that this window knows and the list may not have, the oldest first. Of a row of a table no
+// number is known.
 export function requestsOf(number) {
-  const cells = columns.requests[number - 1] ?? [], requests = [];
-  for (let place = 0; place < cells.length; place += 3) {
-    requests.push({moment: cells[place], caller: names[cells[place + 1]], text: cells[place + 2]});
-  }
-  const {key, caller} = registered.get(number) ?? {};
-  if (caller && !requests.length) requests.push({moment: key.initial, caller, text: "register"});
-  const isThere = (request) => requests.some(({moment, caller: other, text}) =>
-    moment === request.moment && other === request.caller && text === request.text);
-  return [...requests, ...(learnt.requests[number] ?? []).filter((request) => !isThere(request))];
+  const {key, caller} = registered.get(number) ?? {}, command = {kind: "register", ...key};
+  return [...(caller ? [requestOf({key: number, moment: key.initial, state: key.state}, command, caller)] : []),
+    ...sentSince().filter((one) => one.key === number)];
 }
 
 // How many keys are known, and the greatest of their numbers.

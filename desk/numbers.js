@@ -3,7 +3,7 @@
 // office/check_table.py has the same rule.
 //
 // A browser gives its own SHA-256 to pages by TLS alone, so here is another (FIPS 180-4).
-import {LEAST_OF_TABLES, SETTABLE} from "./rules.js";
+import {LEAST_OF_TABLES, textOf} from "./rules.js";
 
 // ---- SHA-256
 
@@ -62,10 +62,6 @@ export function digest(text) {
 }
 
 // ---- numbers
-
-// A registration as a request line has it, behind the caller and the number.
-const textOf = (command) =>
-  ["register", command.type, command.owner, ...SETTABLE.map((name) => command[name] ?? "-"), command.purpose].join(" ");
 
 // The number of the user's row that stands in a table for so manieth time: the first 52 bits of what it says.
 export function rowNumber(caller, time, command) {

@@ -151,6 +151,14 @@ export async function* keysFrom(first, last) {
   }
 }
 
+// A file of the history beside the list; null where it is not there any more.
+export async function historyFile(path) {
+  const {status, text} = await asked(`/history/${path}`, {cache: "no-cache"});
+  if (status === 404) return null;
+  if (status !== 200) throw unanswered(status);
+  return valueOf(text);
+}
+
 // A signal for what is waited for: it comes where `wait` was not called for long.
 function patience() {
   const control = new AbortController();
@@ -180,7 +188,7 @@ export async function listed() {
     if (mark && mark === tag) return null;
     const parts = new TransformStream({transform: (part, to) => (wait(), to.enqueue(part))});
     const list = await new Response(response.body.pipeThrough(parts, {signal})).json();
-    if (list.form !== 1) throw new Unanswered("the list is of another form");
+    if (list.form !== 2) throw new Unanswered("the list is of another form");
     tag = mark;
     return list;
   } finally {

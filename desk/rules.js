@@ -126,6 +126,26 @@ export function wrongMembers(command) {
   return wrong;
 }
 
+// ---- the text of a command, as a request line and the register have it
+
+export function textOf(command) {
+  const words = Object.entries(COMMANDS[command.kind].members).map(([name, what]) => {
+    const value = command[name] ?? null;
+    return value === null ? "-" : what === "edit" && value === "keep" ? "=" : String(value);
+  });
+  return [command.kind, ...words].join(" ");
+}
+
+export function commandOfText(text) {
+  const [kind, ...words] = text.split(" "), members = Object.entries(COMMANDS[kind]?.members ?? {});
+  const value = (what, place) => {
+    if (what === "purpose") return words.slice(place).join(" ");
+    if (what === "type" || what === "name") return words[place];
+    return words[place] === "-" ? null : words[place] === "=" ? "keep" : Number(words[place]);
+  };
+  return {kind, ...Object.fromEntries(members.map(([name, what], place) => [name, value(what, place)]))};
+}
+
 // ---- moments, periods and states
 
 // The same day so many months later, or that month's last; null past the range of moments.

@@ -154,6 +154,8 @@ export const WORDS = {
 };
 
 const edited = (value) => (value === "keep" ? "kept" : value === null ? "cleared" : utcText(value));
+const editsText = (command) => `Activation ${edited(command.activation)}, `
+  + `Protect Stop ${edited(command.protect_stop)}, Deactivation ${edited(command.deactivation)}`;
 
 // What a command says, in a line.
 export function commandText(command) {
@@ -162,10 +164,7 @@ export function commandText(command) {
   if (kind === "register") {
     return `Register a key of type ${command.type} for ${plain(command.owner)}: ${plain(command.purpose)}`;
   }
-  if (kind === "set") {
-    return `Set dates of${of}: Activation ${edited(command.activation)}, Protect Stop ${edited(command.protect_stop)}, `
-      + `Deactivation ${edited(command.deactivation)}`;
-  }
+  if (kind === "set") return `Set dates of${of}: ${editsText(command)}`;
   if (kind === "revoke") return `Revoke${of}: ${REASONS[command.reason]}`;
   if (kind === "assign") return `Give${of} to ${plain(command.owner)}`;
   if (kind === "add-custodian") return `Add ${plain(command.name)} as a custodian of${of}`;
@@ -180,22 +179,16 @@ export function commandText(command) {
   return kind === "advance" ? WORDS.advance.title : `${WORDS[kind].title}:${of}`;
 }
 
-const dateOf = (text) => (/^\d+$/.test(text) ? utcText(Number(text)) : text === "=" ? "kept" : "none");
-
-// A kept request's text, without its key, in words.
-export function requestText(text) {
-  const [word, ...rest] = text.split(" ");
-  const did = WORDS[word]?.did ?? word;
-  if (word === "register") return did;
-  if (word === "set") {
-    const [activation, stop, end] = rest.map(dateOf);
-    return `${did}: Activation ${activation}, Protect Stop ${stop}, Deactivation ${end}`;
+// What a request that the register kept did, in words.
+export function didText({kind, ...command}) {
+  const {did} = WORDS[kind];
+  if (kind === "set") return `${did}: ${editsText(command)}`;
+  if (kind === "revoke") {
+    const when = command.occurrence === null ? "" : `, compromised ${utcText(command.occurrence)}`;
+    return `${did}: ${REASONS[command.reason]}${when}`;
   }
-  if (word === "revoke") {
-    const when = rest[1] === "-" ? "" : `, compromised ${dateOf(rest[1])}`;
-    return `${did}: ${REASONS[rest[0]]}${when}`;
-  }
-  return [did, ...rest].join(" ");
+  const given = kind === "register" ? null : command.owner ?? command.name ?? command.need;
+  return given === undefined || given === null ? did : `${did} ${plain(String(given))}`;
 }
 
 // ---- values

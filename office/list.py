@@ -1,7 +1,7 @@
 #!/usr/bin/env python3
-"""Makes the list that the desk in the browser finds keys by: what a page cannot ask keyreg.
+"""Makes what a page of the desk in the browser cannot ask keyreg: the list that it finds keys by, and their history.
 
-    office/list.py REGISTER LIST [--most KEYS] [--requests COUNT]
+    office/list.py REGISTER LIST [--most KEYS] [--rows COUNT]
 
 REGISTER is a register's file with its log REGISTER-wal beside it, and may be served meanwhile: a copy of both is taken
 and read, again where the log went into the database in between. Neither is written to. LIST is a file of JSON, which is
@@ -12,37 +12,45 @@ stays.
 
 The list has these members:
 
-    form      1
+    form      2
     made      the clock's second before the copy was begun
     latest    the latest accepted moment
     count     how many keys there are
     periods   of each type whose period was set, its originator and its recipient months
     names     the names of owners, custodians and callers; others have them by their places here, from 0
     types     the seven types; keys have them by their places here
-    keys      a column for each member of a key that `GET /keys/<key>` has, but `number` and `state`, and `requests`.
-              The n-th cell of each is key n's. `requests` has of each key its last requests, the oldest first: three
-              cells for each, its moment, its caller and its command's text without the key and, of a registration,
-              without the rest
+    keys      a column for each member of a key that `GET /keys/<key>` has, but `number` and `state`. The n-th cell of
+              each is key n's
+    history   the name of a folder below `history` beside LIST
 
-A register of more keys than --most, which is 100,000, has null as its `keys`: a page that is to hold more takes long.
-The columns are made as bytes, row by row, so that little more than the list itself is held.
+A register of more keys than --most, which is 100,000, has null as its `keys` and its `history`: a page that is to hold
+more takes long. The columns are made as bytes, row by row, so that little more than the list itself is held.
+
+The folder has each accepted request but advances, in files of at most --rows of them, which is 500: `keys-0.json` and
+so on those that name a key, by the numbers of the keys, and `callers-0.json` and so on all, by the names of the
+callers; those of one stand as they were accepted. Each is a row: its place among all requests, its key or 0, its
+caller, its number, its moment, the state's code that its reply has or 0, and its command's text. `index.json` has the
+key and the caller of the first row of each file as `keys` and `callers`, and as `periods` of each period that was set
+its place, its type and its months. Nothing in it changes: where a request comes, the next call makes another folder,
+and leaves this one until the call after.
 """
 import argparse
-import collections
 import contextlib
 import itertools
 import json
 import operator
 import os
+import pathlib
+import shutil
 import sqlite3
 import sys
 import tempfile
 import time
-from typing import Any, Callable, Iterable, Iterator, Mapping, Optional
+from typing import Any, Iterable, Iterator, Mapping, Optional
 
 # What is read from beside this file leaves none there.
 sys.dont_write_bytecode = True
-from register_rules import TYPES, UNSET, text_of
+from register_rules import TYPES, UNSET, command_of, text_of
 from replay import Unreadable, columns_of, opened, row_place
 
 # How often a copy is begun anew of a register that is written to meanwhile.
@@ -50,7 +58,7 @@ TRIES = 50
 DATES = ("activation", "protect_stop", "deactivation", "destroyed", "compromised", "occurrence")
 # After each key.
 END = (float("inf"), ())
-COLUMNS = ("type", "owner", "purpose", "initial", *DATES, "need", "custodians", "approvals", "requests")
+COLUMNS = ("type", "owner", "purpose", "initial", *DATES, "need", "custodians", "approvals")
 
 
 json_text = json.JSONEncoder(ensure_ascii=False).encode
@@ -73,42 +81,27 @@ def has_table(connection: sqlite3.Connection, name: str) -> bool:
     return bool(connection.execute(asked, [name]).fetchone()[0])
 
 
-def without_key(command: str) -> str:
-    """A command's text without the key that it names; of a registration the word alone, since the key has the rest."""
-    word, _, rest = command.partition(" ")
-    rest = rest.partition(" ")[2]
-    return f"{word} {rest}" if rest and word != "register" else word
-
-
 class Beside:
-    """What rows that begin with the number of a key give beside it, in the order of these numbers, so that one alone is
-    held; of each key that of so many rows at most, the last ones."""
+    """The names that a table has of each key, by the numbers of the keys, so that those of one alone are held."""
 
-    def __init__(self, connection: sqlite3.Connection, asked: str, cell: Callable[..., str],
-                 most: Optional[int] = None) -> None:
-        self.groups = itertools.groupby(connection.execute(asked), operator.itemgetter(0))
-        self.cell, self.most, self.ahead = cell, most, next(self.groups, END)
+    def __init__(self, connection: sqlite3.Connection, table: str, names: Names) -> None:
+        self.groups = itertools.groupby(connection.execute(
+            f"SELECT key_no, name FROM {table} WHERE typeof(key_no) = 'integer' "
+            "ORDER BY key_no, name COLLATE BINARY"), operator.itemgetter(0))
+        self.names, self.ahead = names, next(self.groups, END)
 
     def of(self, number: int) -> str:
-        """The cells of this key, which comes after those that were asked for before it."""
+        """The places of the names of this key, which comes after those that were asked for before it."""
         while self.ahead[0] < number:
             self.ahead = next(self.groups, END)
-        rows = collections.deque(self.ahead[1], self.most) if self.ahead[0] == number else ()
-        return f"[{','.join(itertools.starmap(self.cell, rows))}]"
+        rows = self.ahead[1] if self.ahead[0] == number else ()
+        return f"[{','.join(str(self.names[name]) for _, name in rows)}]"
 
 
-def rows_of(connection: sqlite3.Connection, names: Names, requests: int) -> Iterator[tuple[str, ...]]:
+def rows_of(connection: sqlite3.Connection, names: Names) -> Iterator[tuple[str, ...]]:
     """Each key's cells as JSON."""
-    custodians, approvals = (
-        Beside(connection, f"SELECT key_no, name FROM {table} WHERE typeof(key_no) = 'integer' "
-                           "ORDER BY key_no, name COLLATE BINARY", lambda _, name: str(names[name]))
-        for table in ("custodian", "approval"))
+    custodians, approvals = (Beside(connection, table, names) for table in ("custodian", "approval"))
     needs = dict(connection.execute("SELECT key_no, need FROM quorum")) if has_table(connection, "quorum") else {}
-    rowid = row_place(columns_of(connection, "request"))
-    last = Beside(connection, "SELECT key_no, moment, caller, command FROM request NOT INDEXED "
-                              f"WHERE typeof(key_no) = 'integer' AND key_no > 0 ORDER BY key_no, {rowid}",
-                  lambda _, moment, caller, command: f"{moment},{names[caller]},{json_text(without_key(command))}",
-                  requests)
     asked = ("SELECT number, kind, owner, purpose, initial, activation, protect_stop, deactivation, destroyed, "
              "compromised, occurrence FROM keys ORDER BY number")
     for place, (number, kind, owner, purpose, initial, *dates) in enumerate(connection.execute(asked), 1):
@@ -116,20 +109,75 @@ def rows_of(connection: sqlite3.Connection, names: Names, requests: int) -> Iter
             raise Unreadable(f"key {number} of type {kind} stands at place {place}")
         yield (str(kind - 1), str(names[owner]), json_text(purpose), str(initial),
                *("null" if date == UNSET else str(date) for date in dates), str(needs.get(number, 2)),
-               custodians.of(number), approvals.of(number), last.of(number))
+               custodians.of(number), approvals.of(number))
 
 
-def columns(connection: sqlite3.Connection, names: Names, requests: int) -> dict[str, bytearray]:
+def columns(connection: sqlite3.Connection, names: Names) -> dict[str, bytearray]:
     """The columns of the keys as JSON, in bytes, by their names."""
-    made, rows = {name: bytearray() for name in COLUMNS}, rows_of(connection, names, requests)
+    made, rows = {name: bytearray() for name in COLUMNS}, rows_of(connection, names)
     while some := list(itertools.islice(rows, 1000)):
         for name, cells in zip(COLUMNS, zip(*some)):
             made[name] += (b"," if made[name] else b"") + as_bytes(",".join(cells))
     return made
 
 
-def list_of(path: str, most: int, requests: int) -> tuple[dict[str, Any], Optional[dict[str, bytearray]]]:
-    """The list of a register: its members before `keys`, and the columns of the keys, where there are not too many."""
+# ---- the history
+
+class History:
+    """The files of a register's accepted requests but advances, in a folder that is named by the last of them."""
+
+    def __init__(self, connection: sqlite3.Connection, folder: pathlib.Path) -> None:
+        self.connection, self.place = connection, row_place(columns_of(connection, "request"))
+        self.rows = "FROM request NOT INDEXED WHERE command <> 'advance'"
+        last = connection.execute(f"SELECT {self.place}, moment {self.rows} ORDER BY 1 DESC LIMIT 1").fetchone()
+        self.folder = folder / "-".join(map(str, last or (0, 0)))
+
+    def put(self, count: int) -> None:
+        """Makes the folder, with files of so many rows, where it is not there yet."""
+        if self.folder.exists():
+            return
+        made = self.folder.with_name(f".{self.folder.name}")
+        shutil.rmtree(made, ignore_errors=True)
+        made.mkdir(parents=True)
+        # A million texts go from the database to the files as they are.
+        self.connection.text_factory = bytes
+        index = {"keys": list(self.files(made / "keys", "key_no", "typeof(key_no) = 'integer' AND key_no > 0", count)),
+                 "callers": list(self.files(made / "callers", "caller", "1", count)), "periods": self.periods()}
+        (made / "index.json").write_bytes(as_bytes(json.dumps(index)))
+        # All of it at once, before anybody finds it.
+        os.sync()
+        made.rename(self.folder)
+
+    def files(self, path: pathlib.Path, column: str, where: str, count: int) -> Iterator[Any]:
+        """Writes the files of the requests by the value of a column, and gives that of the first row of each."""
+        rows = self.connection.execute(
+            f"SELECT {column}, json_array({self.place}, key_no, caller, number, moment, state, command) {self.rows} "
+            f"AND {where} ORDER BY {column} COLLATE BINARY, {self.place}")
+        for turn in itertools.count():
+            if not (some := rows.fetchmany(count)):
+                return
+            text = b"[%b]" % b",".join([row for _, row in some])
+            path.with_name(f"{path.name}-{turn}.json").write_bytes(as_bytes(text.decode(errors="surrogateescape")))
+            first = some[0][0]
+            yield first.decode() if isinstance(first, bytes) else first
+
+    def periods(self) -> list[list[Any]]:
+        asked = f"SELECT {self.place}, command {self.rows} AND command GLOB 'set-period *' ORDER BY 1"
+        return [[place, *command_of(command.decode())[1:]] for place, command in self.connection.execute(asked)]
+
+    def leave(self) -> None:
+        """Takes away all but this folder and the one before it, which pages with the list before ask for still."""
+        others = sorted(self.folder.parent.glob("[0-9]*"), key=os.path.getmtime)
+        for path in [*self.folder.parent.glob(".*"), *[path for path in others if path != self.folder][:-1]]:
+            shutil.rmtree(path, ignore_errors=True)
+
+
+# ---- the list
+
+def list_of(path: str, most: int, rows: int, folder: pathlib.Path
+            ) -> tuple[dict[str, Any], Optional[dict[str, bytearray]], Optional[History]]:
+    """The list of a register: its members before `keys`, and the columns of the keys with their history, where there
+    are not too many."""
     made = int(time.time())
     with opened(path, TRIES) as connection:
         # Reads the same texts without a call of Python for each: of 100,000 keys there are a million.
@@ -138,13 +186,18 @@ def list_of(path: str, most: int, requests: int) -> tuple[dict[str, Any], Option
         version, latest, count = connection.execute(asked).fetchone() or (0, 0, 0)
         if version not in (1, 2):
             raise Unreadable(f"its version is {version}")
-        periods, names = {}, Names()
+        periods, names, keys, history = {}, Names(), None, None
         if has_table(connection, "period"):
             periods = {TYPES[kind - 1]: months for kind, *months in
                        connection.execute("SELECT kind, originator, recipient FROM period ORDER BY kind")}
-        keys = columns(connection, names, requests) if count <= most else None
-    return {"form": 1, "made": made, "latest": latest, "count": count, "periods": periods, "names": list(names),
-            "types": TYPES}, keys
+        if count <= most:
+            keys, history = columns(connection, names), History(connection, folder)
+        for caller, in connection.execute("SELECT DISTINCT caller FROM request"):
+            names[caller]
+        if history:
+            history.put(rows)
+    return {"form": 2, "made": made, "latest": latest, "count": count, "periods": periods, "names": list(names),
+            "types": TYPES, "history": history and history.folder.name}, keys, history
 
 
 def pieces_of(members: dict[str, Any], keys: Optional[Mapping[str, bytes]]) -> Iterator[bytes]:
@@ -175,15 +228,20 @@ def put(path: str, pieces: Iterable[bytes], mode: int = 0o640) -> int:
 
 
 def main() -> int:
-    parser = argparse.ArgumentParser(description="Makes the list that the desk in the browser finds keys by.")
+    parser = argparse.ArgumentParser(description="Makes the list that the desk finds keys by, and their history.")
     parser.add_argument("register")
     parser.add_argument("list")
     parser.add_argument("--most", type=int, default=100_000, metavar="KEYS")
-    parser.add_argument("--requests", type=int, default=5, metavar="COUNT")
+    parser.add_argument("--rows", type=int, default=500, metavar="COUNT")
     words = parser.parse_args()
+    # What is made here the owner and the group may read.
+    os.umask(0o027)
     try:
-        members, keys = list_of(words.register, words.most, words.requests)
+        members, keys, history = list_of(words.register, words.most, words.rows,
+                                         pathlib.Path(words.list).absolute().with_name("history"))
         size = put(words.list, pieces_of(members, keys))
+        if history:
+            history.leave()
     except (Unreadable, sqlite3.Error, ValueError) as fault:
         print(f"{words.register} cannot be read as a register: {fault}", file=sys.stderr)
         return 2

@@ -122,10 +122,10 @@ class Desk:
     def start(self) -> None:
         self.served = Served(file=self.file, port=self.port)
 
-    def make_list(self, file: Optional[File] = None) -> None:
-        """The list of the register, or of another one in its place."""
+    def make_list(self, file: Optional[File] = None, rows: int = 7) -> None:
+        """The list of the register, or of another one in its place, with a history in files of so many rows."""
         place = os.path.join(self.guard.list_folder, "list.json")
-        output_of([sys.executable, "-B", OFFICE / "list.py", file or self.file, place])
+        output_of([sys.executable, "-B", OFFICE / "list.py", file or self.file, place, "--rows", str(rows)])
 
     def copy(self) -> str:
         """A copy of the register and its log, while nothing is sent."""

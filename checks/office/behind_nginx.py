@@ -128,27 +128,30 @@ def by_document(guard: Guard, path: str, status: int, user: Any = None, word: An
 
 
 def desk(guard: Guard, file: File) -> None:
-    """The desk, the user's name and the list: each for users alone, with the content policy, and by TLS with the word
-    that browsers keep to it."""
+    """The desk, the user's name, the list and the history: each for users alone, with the content policy, and by TLS
+    with the word that browsers keep to it."""
     by_document(guard, "/list.json", 404, "office")
     made = run_tool("list", file, pathlib.Path(guard.list_folder, "list.json"), text=True)
     expect(made.returncode == 0, f"the list: {made}")
-    for path in ("/", "/desk.js", "/me", "/list.json"):
+    folder = f"/history/{got(guard, '/list.json', 'office').value['history']}"
+    of_list = ("/list.json", *(f"{folder}/{name}.json" for name in ("index", "keys-0", "callers-0")))
+    for path in ("/", "/desk.js", "/me", *of_list):
         for user, word in STRANGERS:
             answer = got(guard, path, user, word)
             expect(answer.status == 401 and b"office" not in answer.body, f"{path} for {user} with {word}: {answer}")
         answer = got(guard, path, "office")
-        is_held = (path == "/list.json" or POLICY in answer.lines) and "nosniff" in answer.lines
+        is_held = (path in of_list or POLICY in answer.lines) and "nosniff" in answer.lines
         expect(answer.status == 200 and answer.body and is_held and "unsafe" not in answer.lines, f"{path}: {answer}")
         for answer in (answer, got(guard, path)):
             keeps = answer.fields.get("strict-transport-security")
             expect(keeps == ("max-age=31536000" if guard.tls else None), f"{path}, kept to TLS: {answer}")
-    for path in ("/me", "/list.json"):
+    by_document(guard, f"{folder}/keys-1.json", 404, "office")
+    for path in ("/me", *of_list):
         by_document(guard, path, 401, "office", "another")
         by_document(guard, path, 200, "office")
     expect(got(guard, "/me", "alice.meyer").body == b"alice.meyer", "the name of the user")
-    for path in ("/../list/list.json", "/nginx.conf", "/%2e%2e/users"):
-        expect(got(guard, path, "office").status in (400, 404), f"{path} is handed out")
+    for path in ("/../list/list.json", "/nginx.conf", "/%2e%2e/users", "/history/", f"{folder}/"):
+        expect(got(guard, path, "office").status in (400, 403, 404), f"{path} is handed out")
 
 
 def led_to_tls(guard: Guard) -> None:

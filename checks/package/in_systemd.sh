@@ -57,7 +57,10 @@ asks() {
 answers() { [ "$(asks "$1" "$2" "$3")" = "$4" ] || { cat /tmp/answer /tmp/desk_typed; return 1; }; }
 holds "set up: the desk serves" until_holds 10 answers alice.meyer wonder-land / 200
 holds "set up: it serves the list" answers alice.meyer wonder-land /list.json 200
-holds "set up: which is one" grep -q '"form":1' /tmp/answer
+holds "set up: which is one" grep -q '"form":2' /tmp/answer
+history=/history/$(sed 's/.*"history":"\([^"]*\)".*/\1/' /tmp/answer)/index.json
+holds "set up: it serves the history" answers alice.meyer wonder-land "$history" 200
+holds "set up: to users alone" answers alice.meyer another "$history" 401
 holds "set up: another password is refused" answers alice.meyer another /list.json 401
 set_to() { echo "$2" | /usr/share/keyreg/users.py set "$1"; }
 holds "a password is changed" set_to alice.meyer other
@@ -298,6 +301,7 @@ holds "the list, by its timer" until_holds 30 test -s /var/lib/keyreg-list/list.
 holds "its folder is nginx's to enter" mode_is /var/lib/keyreg-list "keyreg 2750"
 holds "it is nginx's to read" su www-data -s /bin/sh -c 'grep -q form /var/lib/keyreg-list/list.json'
 holds "it is nobody else's" fails su nobody -s /bin/sh -c 'cat /var/lib/keyreg-list/list.json'
+holds "so is the history" su www-data -s /bin/sh -c 'grep -q callers /var/lib/keyreg-list/history/*/index.json'
 systemctl enable --now keyreg-advance.timer keyreg-nightly.timer keyreg-follow.timer
 rm -f /tmp/ann.numbers*
 printf '%s\n%s\n' "$key" "$key" | client 60 >/tmp/told

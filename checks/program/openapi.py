@@ -75,7 +75,9 @@ def unmet(method: str, target: str, reply: bytes) -> Optional[str]:
 
 def unmet_by_nginx(target: str, status: int, fields: dict[str, str], body: str) -> Optional[str]:
     """What of an answer to a GET of a path that is nginx's own is not as the document says, or None."""
-    response = resolved(DOCUMENT["paths"][target]["get"]["responses"].get(str(status), {}))
+    paths = DOCUMENT["paths"]
+    item = next(paths[path] for path in paths if re.fullmatch(re.sub("{.*?}", "[^/]+", path), target))
+    response = resolved(item["get"]["responses"].get(str(status), {}))
     for name, header in response.get("headers", {}).items():
         if fault := fault_of(header["schema"], fields.get(name.lower())):
             return f"the header {name}: {fault}"

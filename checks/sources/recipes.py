@@ -85,8 +85,8 @@ KINDS = (
                                         "checks/program/rules_tried.py checks/program/tables.py",
         "who the office is": "checks/office/behind_nginx.py",
         "what they look at beside the day": "checks/program/large_office.py checks/program/exchanges_by_curl.py "
-                                            "checks/desk/lists.py checks/office/due_tried.py "
-                                            "checks/office/metrics_tried.py",
+                                            "checks/desk/lists.py checks/desk/histories.py desk/tests/history.test.js "
+                                            "checks/office/due_tried.py checks/office/metrics_tried.py",
         "the words of Help": "desk/help.js",
         "it stands for its shape": "*/Within/Fields.antt crates/http_messages/src/command_value.rt",
         "what comes of one that is left out": "docs/OPERATING.md",

@@ -113,7 +113,8 @@ test("a key that a row registered is known until the list has it", () => {
     compromised: null, custodians: [], approvals: [], need: 2};
   learnRegistered(key, "ann");
   assert.equal(keyAt(2, NOW).state, "Pre-Active");
-  assert.deepEqual(requestsOf(2), [{moment: KEY.initial, caller: "ann", text: "register"}]);
+  assert.deepEqual(requestsOf(2), [{caller: "ann", number: undefined, key: 2, moment: KEY.initial, state: undefined,
+    text: "register master Ann.Meyer - - - root"}]);
   assert.deepEqual(found({}), [1, 2]);
   take(listOf([KEY, {...KEY, owner: "bob"}], {made: NOW + 60}));
   assert.equal(keyAt(2, NOW).owner, "bob");

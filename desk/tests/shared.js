@@ -20,13 +20,14 @@ export function listOf(keys, {made = 1_780_000_000, periods = {}} = {}) {
   const placeOf = (name) => names.indexOf(name), column = (cell) => keys.map(cell);
   const dateOf = (date) => (typeof date === "string" && date !== "" ? momentOf(date) : date || null);
   return {
-    form: 1,
+    form: 2,
     made,
     latest: made - 60,
     count: keys.length,
     periods,
     names,
     types: TYPES,
+    history: null,
     keys: {
       type: column(({type}) => TYPES.indexOf(type)),
       owner: column(({owner}) => placeOf(owner)),
@@ -35,7 +36,6 @@ export function listOf(keys, {made = 1_780_000_000, periods = {}} = {}) {
       need: column(({need = 2}) => need),
       custodians: column(({custodians = []}) => custodians.map(placeOf)),
       approvals: column(({approvals = []}) => approvals.map(placeOf)),
-      requests: column(() => []),
     },
   };
 }
