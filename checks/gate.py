@@ -87,7 +87,7 @@ GATE = (
 # What --all runs besides: what takes longer, and what wants root or packages of its own.
 ROOT_OF_DEBIAN = ("debootstrap", "systemd-nspawn")
 REST = (
-    Part("desk/in_browser.py", 3600, cores=2),
+    Part("desk/in_browser.py", 3600, cores=2, commands=("pdftotext",)),
     Part("desk/in_firefox.py", 300, commands=("firefox-esr",)),
     Part("office/timeline_tried.py", 900, cores=2, commands=("pdftotext",)),
     # These two make packages/ anew, so neither runs beside the other.

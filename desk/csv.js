@@ -1,5 +1,7 @@
 // Tables of keys as files of CSV: how they are read, and written.
 import {plain} from "./dom.js";
+import {SETTABLE} from "./rules.js";
+import {momentText} from "./words.js";
 
 export const COLUMNS = ["type", "owner", "activation", "protect_stop", "deactivation", "purpose"];
 // A column behind the others, which a table has that was given back.
@@ -43,6 +45,21 @@ export function csvOf(rows, reasons) {
     [...row, ...Array(Math.max(0, COLUMNS.length - row.length)).fill(""), reasons[place]]);
   return [[...COLUMNS, REASON], ...lines].map((row) => row.map(quoted).join(",")).join("\n") + "\n";
 }
+
+// The columns of an export, of which these are dates.
+const DATED = ["initial", "destroyed", "compromised", "occurrence"];
+const EXPORTED = ["number", "type", "owner", ...SETTABLE, "state", ...DATED, "purpose"];
+const DATES = new Set([...SETTABLE, ...DATED]);
+
+// Keys as `keyreg export` writes them.
+export function exportOf(keys) {
+  const text = (key, name) => (!DATES.has(name) ? String(key[name]) : key[name] === null ? "" : momentText(key[name]));
+  const rows = keys.map((key) => EXPORTED.map((name) => quoted(text(key, name))));
+  return [EXPORTED, ...rows].map((row) => row.join(",")).join("\n") + "\n";
+}
+
+// Whether a spreadsheet that opens a text without asking takes it for a formula.
+export const isFormula = (text) => /^[=+@-]/.test(text);
 
 // The rows of a file's bytes, or why it is no table. Spreadsheets write a byte order mark before it, and some a
 // semicolon in the place of the comma; both are read.

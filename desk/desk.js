@@ -1,6 +1,8 @@
 // The desk: which page is shown, what is sent, and what is said of it. The modules of pages that are not the first come
 // when they are wanted.
-import {el, fillForms, formsIn, hush, keepingForms, name, plain, replace, shown} from "./dom.js";
+import {
+  Lacking, el, fillForms, formsIn, hush, keepingForms, name, part, plain, replace, shown,
+} from "./dom.js";
 import {countsFor, findPage, tellNewer, waitsPage} from "./find.js";
 import {isComing, latest, learnKey, learnMoment, learnPeriod, learnRequest, list, load, requestOf} from "./list.js";
 import {
@@ -246,17 +248,6 @@ function entryOf() {
   return history.state.entry;
 }
 
-// A module did not come.
-class Lacking extends Error {}
-
-async function part(file) {
-  try {
-    return await import(file);
-  } catch (fault) {
-    throw new Lacking(`${file}: ${fault.message}`);
-  }
-}
-
 // Puts the page of an address in its place, once its module is there.
 async function render(main, {word, number, given}, {isCurrent, put}) {
   if (word === "key") {
@@ -281,7 +272,7 @@ async function render(main, {word, number, given}, {isCurrent, put}) {
     const {helpPage} = await part("./help.js");
     if (isCurrent()) helpPage(main, desk);
   } else if (word === "waits") waitsPage(main, desk);
-  else findPage(main, given);
+  else findPage(main, given, desk);
 }
 
 const sayLacking = (main) => replace(main, el("h1", {}, "Register of keys"),

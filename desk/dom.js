@@ -28,6 +28,18 @@ export function replace(place, ...children) {
   place.replaceChildren(...present(children));
 }
 
+// A module did not come.
+export class Lacking extends Error {}
+
+// A module that comes when it is wanted.
+export async function part(file) {
+  try {
+    return await import(file);
+  } catch (fault) {
+    throw new Lacking(`${file}: ${fault.message}`);
+  }
+}
+
 // Characters that turn the direction of a line round, end it, or are not seen: the register takes them in a purpose.
 const SORTS = "\\p{Cc}\\p{Cf}\\p{Zl}\\p{Zp}\\p{Co}\\p{Cn}\\p{Cs}";
 const SPACES = "\\u00a0\\u1680\\u2000-\\u200a\\u202f\\u205f\\u3000\\u115f\\u1160\\u3164\\uffa0";
@@ -134,23 +146,38 @@ export function keepingForms(place, show, sent = null) {
 }
 
 // A table with these heads and rows of cells, shown as cards where the page is narrow. It keeps its roles then, which
-// a style would take from it.
-export function cards(heads, rows, given, caption) {
+// a style would take from it. `sorts` says of a head that the rows go by it: "ascending" or "descending".
+export function cards(heads, rows, given, caption, sorts = {}) {
   const cell = (content, place) =>
     el("td", {role: "cell", "data-head": heads[place], class: content === "" ? "empty" : null}, content);
   return el("table", {role: "table", ...given, class: "cards"},
     caption ? el("caption", {}, caption) : null,
     el("thead", {role: "rowgroup"},
-      el("tr", {role: "row"}, heads.map((head) => el("th", {scope: "col", role: "columnheader"}, head)))),
+      el("tr", {role: "row"}, heads.map((head) =>
+        el("th", {scope: "col", role: "columnheader", "aria-sort": sorts[head]}, head)))),
     el("tbody", {role: "rowgroup"}, rows.map((cells) => el("tr", {role: "row"}, cells.map(cell)))));
 }
 
+// ---- lists by parts
+
+// What is put in whole before it is printed, and put back after it, by its place.
+const whole = new WeakMap();
+
+function printed(does) {
+  for (const place of document.querySelectorAll(".results")) whole.get(place)?.[does]();
+}
+
+globalThis.addEventListener?.("beforeprint", () => printed("put"));
+globalThis.addEventListener?.("afterprint", () => printed("back"));
+
 // What a list shows at first, and more of it at each press of its button. The focus goes to the first row that came.
-// Where there are more rows than these, `grow` adds some, and tells whether there may be more still.
+// Where there are more rows than these, `grow` adds some, and tells whether there may be more still. Printed, all that
+// are there stand there.
 export function byParts(rows, size, show, place, grow = null) {
   let most = size, isWhole = !grow;
   const look = (first) => {
     const rest = rows.length - most;
+    whole.set(place, rest > 0 && {put: () => replace(place, show(rows)), back: look});
     const more = async () => {
       const before = most;
       most += size;

@@ -183,7 +183,8 @@ const ownRow = ({moment, number, key, text}, at) =>
 // restored or set right.
 function lostPart(lost, desk, at) {
   const again = ({number, text}) => el("button", {type: "button", class: "send",
-    "aria-label": `Send again: request ${number}`, onclick: () => desk.send(commandOfText(text), number)}, "Send again");
+    "aria-label": `Send again: request ${number}`, onclick: () => desk.send(commandOfText(text), number)},
+  "Send again");
   const rows = lost.map((one) => [when(one.moment, at), String(one.number), shown(commandText(commandOfText(one.text))),
     again(one)]);
   return lost.length ? el("section", {class: "lost", "aria-labelledby": "lost"},

@@ -1,7 +1,7 @@
 // The keys that the desk knows: those of the list, and over them what it learnt from the register since the list was
 // made.
 import {listed, now} from "./register.js";
-import {DAY, NEAR, PERIODS, isLong, judged, mayHaveMade, stateAt, textOf} from "./rules.js";
+import {DAY, NEAR, PERIODS, STATES, isLong, judged, mayHaveMade, stateAt, textOf} from "./rules.js";
 
 const LEARNT = "keyreg.learnt";
 const DATES = ["activation", "protect_stop", "deactivation", "destroyed", "compromised", "occurrence"];
@@ -243,10 +243,14 @@ function isDue(key, days, moment) {
 const waits = (key, moment) =>
   key.custodians.length > 0 && key.approvals.length < key.need && AT_REST.includes(stateAt(key, moment));
 
-// Whether a filter lets a key through. An owner is looked for in whatever case, and by a part of the name.
+// Whether a filter lets a key through. An owner and a custodian are looked for in whatever case, and by a part of the
+// name; `mine` is the name of an owner.
 function suits(key, filter, moment) {
+  const isNamed = (part) => (name) => name.toLowerCase().includes(part.toLowerCase());
   return (!filter.type || key.type === filter.type)
-    && (!filter.owner || key.owner.toLowerCase().includes(filter.owner.toLowerCase()))
+    && (!filter.owner || isNamed(filter.owner)(key.owner))
+    && (!filter.custodian || key.custodians.some(isNamed(filter.custodian)))
+    && (!filter.mine || key.owner === filter.mine)
     && (!filter.state || stateAt(key, moment) === filter.state)
     && (filter.days === null || isDue(key, filter.days, moment))
     && (!filter.waits || waits(key, moment));
@@ -254,12 +258,16 @@ function suits(key, filter, moment) {
 
 // Whether a listed key can suit by its columns alone: most are told apart without the whole key.
 function columnsSuit(filter, moment) {
-  const {type, owner, state, days} = filter, set = periods();
-  const typeAt = types.indexOf(type), part = owner.toLowerCase();
-  const owners = new Set(names.flatMap((name, at) => (name.toLowerCase().includes(part) ? [at] : [])));
+  const {type, owner, custodian, mine, state, days} = filter, set = periods();
+  const typeAt = types.indexOf(type), mineAt = names.indexOf(mine);
+  const placesOf = (part) =>
+    new Set(names.flatMap((name, at) => (name.toLowerCase().includes(part.toLowerCase()) ? [at] : [])));
+  const owners = placesOf(owner), keepers = placesOf(custodian);
   return (place) => {
     if (type && columns.type[place] !== typeAt) return false;
     if (owner && !owners.has(columns.owner[place])) return false;
+    if (mine && columns.owner[place] !== mineAt) return false;
+    if (custodian && !columns.custodians[place].some((at) => keepers.has(at))) return false;
     if (filter.waits && columns.custodians[place].length === 0) return false;
     if (!state && days === null) return true;
     const dates = datesAt(place), now = stateAt(dates, moment);
@@ -270,11 +278,13 @@ function columnsSuit(filter, moment) {
   };
 }
 
-// The numbers of the keys that a filter lets through, in order of their numbers or of their Protect Stop Dates. Words
-// are looked for in the number, the owner, the type and the purpose.
+// The numbers of the keys that a filter lets through, in its order; where it has none, in that of their Protect Stop
+// Dates if days are asked for, or of their numbers. Words are looked for in the number, the owner, the type and the
+// purpose.
 export function matching(filter, moment) {
   const words = filter.text.toLowerCase().split(/\s+/).filter(Boolean), numbers = [];
-  const isPlain = !filter.type && !filter.owner && !filter.state && filter.days === null && !filter.waits;
+  const isPlain = filter.days === null
+    && ["type", "owner", "custodian", "mine", "state", "waits"].every((member) => !filter[member]);
   const mayBe = isPlain ? () => true : columnsSuit(filter, moment);
   hay.forEach((text, place) => {
     if (!words.every((word) => text.includes(word))) return;
@@ -283,17 +293,34 @@ export function matching(filter, moment) {
       numbers.push(place + 1);
     }
   });
-  return filter.days === null ? numbers : byProtectStop(numbers);
+  const sort = filter.sort || (filter.days === null ? "number" : "protect_stop");
+  return sort === "number" && !filter.isDown ? numbers : sorted(numbers, sort, filter.isDown, moment);
 }
 
 // The numbers of the keys that are due within so many days, in order of their Protect Stop Dates.
 export const dueWithin = (days, moment) =>
   matching({text: "", owner: "", type: "", state: "", days, waits: false}, moment);
 
-function byProtectStop(numbers) {
-  const stop = new Map(numbers.map((number) =>
-    [number, ownKey(number)?.protect_stop ?? columns.protect_stop[number - 1]]));
-  return numbers.sort((one, other) => stop.get(one) - stop.get(other) || one - other);
+// By what keys are sorted. One that lacks it comes last.
+export const SORTS = {
+  number: ({number}) => number,
+  state: (key, moment) => STATES.indexOf(stateAt(key, moment)),
+  owner: ({owner}) => owner.toLowerCase(),
+  type: ({type}) => type,
+  protect_stop: (key) => key.protect_stop,
+  approvals: ({custodians, approvals}) => (custodians.length ? approvals.length : null),
+  purpose: ({purpose}) => purpose.toLowerCase(),
+};
+
+function sorted(numbers, sort, isDown, moment) {
+  const of = SORTS[sort], turn = isDown ? -1 : 1;
+  const pairs = numbers.map((number) => ({number, value: of(ownKey(number) ?? listedKey(number), moment)}));
+  pairs.sort(({value: one, number}, {value: other, number: next}) => {
+    if (one === other) return number - next;
+    if (one === null || other === null) return one === null ? 1 : -1;
+    return one < other ? -turn : turn;
+  });
+  return pairs.map(({number}) => number);
 }
 
 // The keys that wait for somebody: those of whose destruction an approval stands and the caller's lacks, those that the

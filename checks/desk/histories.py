@@ -112,8 +112,8 @@ def gone(reader: Reader, other: Reader, key: int) -> None:
 
 
 def restored(reader: Reader, key: int) -> None:
-    """A register is restored: the page says which of its requests are not there any more, and sends each again under its
-    own number."""
+    """A register is restored: the page says which of the reader's requests are not there any more, and sends each again
+    under its own number."""
     copy, before = reader.desk.copy(), len(reader.said)
     reader.key(key)
     for command, label, value in (("add-custodian", "Custodian", "cat"), ("set-quorum", "Approvals needed", "5")):

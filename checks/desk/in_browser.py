@@ -7,18 +7,19 @@ said.
 keyreg is served behind nginx with office/units/nginx-keyreg.conf, and a browser for each user goes through a day by
 forms and lists (day.py), what breaks (breaks.py), what is typed (typed.py) and tables (tables.py), also after a crash
 and from two windows, by two people at one window (windows.py), without a list, with an older and a newer one and over a
-slow line (lists.py). The histories of keys and of readers are the register's, also after a restore (histories.py). What
-waits and is due is counted (told.py), and a leaver's keys are given away (leaving.py). What is heard of forms and of
-sendings is asked of Chromium's accessibility tree (heard.py). Each page is looked at by that and by axe, for contrast,
-by Tab, at several widths, light, dark and printed, and by the seconds that a list of 100,000 keys takes (looks.py).
+slow line (lists.py). What is found is sorted, given away as a file and printed whole (found.py). The histories of keys
+and of readers are the register's, also after a restore (histories.py). What waits and is due is counted (told.py), and
+a leaver's keys are given away (leaving.py). What is heard of forms and of sendings is asked of Chromium's accessibility
+tree (heard.py). Each page is looked at by that and by axe, for contrast, by Tab, at several widths, light, dark and
+printed, and by the seconds that a list of 100,000 keys takes (looks.py).
 
 After it each request of which a page said that it was accepted is in the register under the number that the page
 showed, and no other is; and by office/replay.py all else in the register follows from them. The console has nothing but
 what Chromium writes of refusals and of connections that were cut on purpose.
 
-The parts are day, breaks, typed, tables, windows, lists, history, told, leaving, heard, looks and many, all where none
-is named. --least does the smallest form alone, as the gate has it. It needs Debian's chromium, chromium-driver, nodejs,
-python3-selenium and nginx-light, and Linux.
+The parts are day, breaks, typed, tables, windows, lists, found, history, told, leaving, heard, looks and many, all where
+none is named. --least does the smallest form alone, as the gate has it. It needs Debian's chromium, chromium-driver,
+nodejs, python3-selenium, nginx-light and poppler-utils, and Linux.
 """
 import collections
 import contextlib
@@ -31,6 +32,7 @@ sys.path.insert(1, str(pathlib.Path(__file__).resolve().parents[1] / "shared"))
 from places import OFFICE
 import breaks
 import day
+import found
 import heard
 import histories
 import leaving
@@ -48,7 +50,8 @@ from script import expect, fresh_folder, options, output_of, verdict
 BY_STATUS = re.compile(
     r"\S+/(requests|keys/\d+(/usage)?|list\.json|history/\S+|favicon\.ico|me|sign-out\?user=\w+|chromewebdata/) - "
     r"Failed to load resource: (the server responded with a status of (40[0149]|412|50[023]) .*|net::ERR_[A-Z_]+)")
-PARTS = ("day", "breaks", "typed", "tables", "windows", "lists", "history", "told", "leaving", "heard", "looks", "many")
+PARTS = ("day", "breaks", "typed", "tables", "windows", "lists", "found", "history", "told", "leaving", "heard", "looks",
+         "many")
 
 
 class Office:
@@ -124,6 +127,8 @@ def whole(here: Office, folder: pathlib.Path, parts: Sequence[str], rows: int) -
         print(windows.all_windows(here, folder, rows))
     if "lists" in parts:
         print(lists.all_lists(here, folder))
+    if "found" in parts:
+        print(found.all_found(ann, bob, folder))
     if "history" in parts:
         print(histories.all_histories(ann, bob, office))
     if "told" in parts:

@@ -209,15 +209,15 @@ def large_list(desk: Desk, file: pathlib.Path, count: int) -> None:
     write_register(file, begun, count, custodian=custodians, approval=custodians[::2], keys=(
         (n, 1, f"team-{n % 200}", f"volume {n} of hall {n % 97}, {'disks' if n % 10 else 'tapes'}", 2, begun, begun,
          begun + n % 700 * 86400, begun + (n % 700 + 400) * 86400, UNSET, UNSET, UNSET) for n in numbers),
-        request=((f"team-{n % 200}", n * 5 + m, f"set {n} = = {begun + (n % 700 + 400 - m) * 86400}" if m else
-                  f"register data-encryption team-{n % 200} {begun} {begun + n % 700 * 86400} - volume {n}", n, 2, begun)
-                 for n in numbers for m in range(5)))
+        request=((f"team-{n % 200}", n * 5 + m, f"set {n} = = {begun + (n % 700 + 400 - m) * 86400}" if m
+                  else f"register data-encryption team-{n % 200} {begun} {begun + n % 700 * 86400} - volume {n}",
+                  n, 2, begun) for n in numbers for m in range(5)))
     desk.make_list(file, rows=500)
 
 
 def delays(reader: Reader, key: int, count: int) -> dict[str, float]:
-    """The milliseconds until the first view of so many keys stands, those of the slowest of four letters, and those of a
-    key's history. The best of three pages counts: other work of the machine takes its time too."""
+    """The milliseconds until the first view of so many keys stands, those of the slowest of four letters, and those of
+    a key's history. The best of three pages counts: other work of the machine takes its time too."""
     views, letters, histories = list[float](), list[float](), list[float]()
     for _ in range(3):
         reader.anew("find").reload(forgets=True)

@@ -75,6 +75,7 @@ KINDS = (
     }, ("Add a version of the tables",)),
     Kind("Add a column", r"\boccurrence (INTEGER|= \?)|compromised\W+occurrence\b|\bcompromise_occurrence\b", {
         "the date, which commands set": "crates/*_core/*",
+        "rows of an export": "desk/csv.js desk/tests/rows.test.js",
         "tables of version 1": "*/contents.rt",
     }, ("Add a column to the export",)),
     Kind("Add a column to the export",

@@ -9,7 +9,8 @@ import {Store, listOf} from "./shared.js";
 
 const NOW = 1_780_000_000, DAY = 86400;
 const KEY = {type: "master", owner: "Ann.Meyer", purpose: "root", initial: NOW - 900 * DAY};
-const ALL = {text: "", owner: "", type: "", state: "", days: null, waits: false};
+const ALL = {text: "", owner: "", custodian: "", mine: "", type: "", state: "", days: null, waits: false, sort: "",
+  isDown: false};
 const found = (filter) => matching({...ALL, ...filter}, NOW);
 
 beforeEach(() => {
@@ -93,6 +94,32 @@ test("what is due comes in order of the Protect Stop Dates", () => {
     deactivation: NOW + 400 * DAY});
   take(listOf([dated(50), dated(-5), dated(90), KEY]));
   assert.deepEqual(found({days: 60}), [2, 1]);
+});
+
+test("keys are found by a custodian, or as somebody's own", () => {
+  take(listOf([{...KEY, custodians: ["bob", "Cat"]}, {...KEY, owner: "bob"}, {...KEY, custodians: ["cathy"]}]));
+  assert.deepEqual(found({custodian: "cat"}), [1, 3]);
+  assert.deepEqual(found({custodian: "bob"}), [1]);
+  assert.deepEqual(found({mine: "bob"}), [2]);
+  assert.deepEqual(found({mine: "bo"}), []);
+});
+
+test("keys are sorted by each column, and those that lack it come last", () => {
+  const dated = (activation, stop) => ({...KEY, activation, protect_stop: stop, deactivation: NOW + 9 * DAY});
+  take(listOf([
+    {...dated(NOW - DAY, NOW + 5 * DAY), owner: "bob", purpose: "Zebra"},
+    {...KEY, owner: "Ann", type: "authentication", purpose: "apple"},
+    {...dated(NOW + DAY, NOW + 2 * DAY), owner: "ann", custodians: ["x", "y"], approvals: ["x"], purpose: "=b"},
+    {...KEY, owner: "cat", custodians: ["x"], purpose: "Apple"},
+  ]));
+  const by = {number: [1, 2, 3, 4], state: [2, 3, 4, 1], owner: [2, 3, 1, 4], type: [2, 1, 3, 4],
+    protect_stop: [3, 1, 2, 4], approvals: [4, 3, 1, 2], purpose: [3, 2, 4, 1]};
+  const down = {number: [4, 3, 2, 1], state: [1, 2, 3, 4], owner: [4, 1, 2, 3], type: [1, 3, 4, 2],
+    protect_stop: [1, 3, 2, 4], approvals: [3, 4, 1, 2], purpose: [1, 2, 4, 3]};
+  for (const [sort, numbers] of Object.entries(by)) {
+    assert.deepEqual(found({sort}), numbers, sort);
+    assert.deepEqual(found({sort, isDown: true}), down[sort], `${sort}, the last first`);
+  }
 });
 
 test("a destruction that was begun comes apart from keys that one guards", () => {

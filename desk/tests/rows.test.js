@@ -1,7 +1,7 @@
 // How a table is read, and its rows are judged.
 import assert from "node:assert/strict";
 import {beforeEach, test} from "node:test";
-import {csvOf, records, tableOf} from "../csv.js";
+import {csvOf, exportOf, isFormula, records, tableOf} from "../csv.js";
 import {learnRegistered, take} from "../list.js";
 import {judgedRows} from "../rows.js";
 import {Store, listOf, madeCases} from "./shared.js";
@@ -32,6 +32,18 @@ test("what is no table is told", () => {
   assert.match(tableOf(new Uint8Array([255, 254, 65, 0])).fault, /no UTF-8/);
   assert.match(tableOf(bytes("a,b\n")).fault, /header row is a,b/);
   assert.match(tableOf(bytes("")).fault, /empty/);
+});
+
+test("keys that are given away are rows of an export", () => {
+  // As in the worked rows of docs/SPECIFICATION.md.
+  const key = {number: 1, type: "data-encryption", owner: "bob", activation: 0, protect_stop: 63072000,
+    deactivation: 157766400, state: "Active", initial: 100, destroyed: null, compromised: null, occurrence: null,
+    purpose: 'disks, "payroll"'};
+  assert.equal(exportOf([key]), "number,type,owner,activation,protect_stop,deactivation,state,initial,destroyed,"
+    + "compromised,occurrence,purpose\n1,data-encryption,bob,1970-01-01T00:00:00Z,1972-01-01T00:00:00Z,"
+    + '1975-01-01T00:00:00Z,Active,1970-01-01T00:01:40Z,,,,"disks, ""payroll"""\n');
+  assert.deepEqual(["=1", "+1", "-1", "@a", "a=1", " =1", "1"].map(isFormula),
+    [true, true, true, true, false, false, false]);
 });
 
 test("what is given back has its reasons, and is a table again", () => {
