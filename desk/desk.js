@@ -253,6 +253,9 @@ async function render(main, {word, number, given}, {isCurrent, put}) {
   if (word === "key") {
     const {keyPage} = await part("./key.js");
     if (isCurrent()) await keyPage(main, number, desk, {isCurrent, put});
+  } else if (word === "next") {
+    const {nextPage} = await part("./next.js");
+    if (isCurrent()) await nextPage(main, number, desk, {isCurrent, put});
   } else if (word === "mine") {
     const {minePage} = await part("./history.js");
     if (isCurrent()) await minePage(main, desk, isCurrent);
@@ -296,7 +299,8 @@ function showPages(current) {
 // Shows the page of the address. Where it stands already, what was typed into its forms stays, but of the kind `sent`.
 async function show({sent = null, asks = true} = {}) {
   const mine = ++turn, to = pageOf(), main = place("main");
-  const page = to.word === "key" ? `key/${to.number}` : to.word, isSame = main.dataset.page === page;
+  const page = ["key", "next"].includes(to.word) ? `${to.word}/${to.number}` : to.word;
+  const isSame = main.dataset.page === page;
   const put = (fill) => (isSame ? keepingForms(main, fill, sent) : fill());
   delete main.dataset.page;
   showPages(to.word);

@@ -98,9 +98,9 @@ function text(member, label, given = {}) {
 
 // A name that somebody has, or another one, which is told and has to be confirmed: what is given to a name that nobody
 // has is not to be had back. Without a list nobody knows.
-export function person(member, label, me) {
+export function person(member, label, me, value) {
   const names = allNames().add(me), id = freshId("names");
-  const entry = text(member, label, {list: id});
+  const entry = text(member, label, {list: id, value});
   const options = el("datalist", {id}, [...names].sort().slice(0, 2000).map((value) => el("option", {value})));
   const isNew = () => entry.input.value !== "" && !entry.fault() && !names.has(entry.input.value);
   const sure = el("input", {type: "checkbox", required: true, id: freshId("sure")});
@@ -131,7 +131,7 @@ function months(member, label) {
   return {member, input, fault, value, ...described(label, input, hint)};
 }
 
-const types = () => choice("type", "Type", Object.keys(PERIODS).map((type) => [type, type]));
+const types = (chosen) => choice("type", "Type", Object.keys(PERIODS).map((type) => [type, type]), {chosen});
 
 // The months of a type, which begin with those that stand, also where another type is chosen.
 function periodFields() {
@@ -155,11 +155,13 @@ function reasons(isOwners) {
   return choice("reason", "Reason", options.map(([number, name]) => [number, `${number} ${name}`]), {take: Number});
 }
 
-// The fields of a command about a key, or about none. `isOwners` is whether the owner's reasons may be taken.
-function fieldsOf(kind, {key, isOwners, desk}) {
+// The fields of a command about a key, or about none. `isOwners` is whether the owner's reasons may be taken, and
+// `given` has what stands in those of a registration.
+function fieldsOf(kind, {key, isOwners, desk, given}) {
   const fields = {
-    "register": () => [types(), person("owner", "Owner", desk.me), text("purpose", "Purpose"),
-      ...SETTABLE.map((name) => date(name, LABELS[name]))],
+    "register": () => [types(given.type), person("owner", "Owner", desk.me, given.owner),
+      text("purpose", "Purpose", {value: given.purpose}),
+      ...SETTABLE.map((name) => date(name, LABELS[name], given[name]))],
     "set": () => SETTABLE.map((name) => edit(name, LABELS[name], key[name])),
     "revoke": () => [reasons(isOwners), date("occurrence", "Compromised since")],
     "assign": () => [person("owner", "New owner", desk.me)],
@@ -225,8 +227,9 @@ const heard = (place, fields) => [...[...place.querySelectorAll("p, li")].map((p
   ...fields.map((entry) => entry.open?.()).filter(Boolean)].join("; ");
 
 // A form of a command. `desk` has the user's name as `me`, and `send`, which sends the command and shows its answer.
-export function commandForm(kind, {desk, key, isOwners = true}) {
-  const fields = fieldsOf(kind, {key, isOwners, desk}), {title, tells} = WORDS[kind];
+// `bar` says of a command why it is not sent from here, if so.
+export function commandForm(kind, {desk, key, isOwners = true, given = {}, bar = () => ""}) {
+  const fields = fieldsOf(kind, {key, isOwners, desk, given}), {title, tells} = WORDS[kind];
   const before = el("div", {class: "foretold"}), sentence = el("code", {class: "sentence"});
   const sure = LAST.includes(kind) ? el("input", {type: "checkbox", required: true, id: freshId("sure")}) : null;
   const button = el("button", {type: "submit", class: "send"}, title);
@@ -244,20 +247,22 @@ export function commandForm(kind, {desk, key, isOwners = true}) {
     markWrong(fields, wrong, isTried);
     if (kind === "revoke") fields[1].element.hidden = !COMPROMISES.includes(body.reason);
     replace(sentence, shown(JSON.stringify(body)));
-    replace(before, wrong.length ? lacking(fields, wrong) : foretold(body, answer, changes));
+    const barred = wrong.length ? "" : bar(body);
+    replace(before, wrong.length ? lacking(fields, wrong) : barred ? el("p", {class: "refused"}, barred)
+      : foretold(body, answer, changes));
     if (form.contains(document.activeElement)) announce(heard(before, fields));
-    return {body, wrong, changes};
+    return {body, wrong, nothing: barred || (changes?.length === 0 ? NOTHING : "")};
   };
   const submit = (event) => {
     event.preventDefault();
     isTried = true;
-    const {body, wrong, changes} = look(), open = fields.find((entry) => entry.open?.());
+    const {body, wrong, nothing} = look(), open = fields.find((entry) => entry.open?.());
     if (wrong.length) fields.find(({member}) => wrong.includes(member))?.input.focus();
     else if (open) open.sure.focus();
-    else if (changes?.length === 0) {
+    else if (nothing) {
       // At each press anew.
       hush();
-      announce(NOTHING, 100);
+      announce(nothing, 100);
     } else desk.send(body);
   };
   const form = el("form", {class: `command ${kind}`, novalidate: !sure, "aria-label": title, onsubmit: submit,

@@ -2,9 +2,11 @@
 import {cards, el, keepingForms, name, replace, shown, svg} from "./dom.js";
 import {commandForm} from "./forms.js";
 import {followHistory, historyPart} from "./history.js";
-import {keyAt, latest, learnKey, learntOf, list, periodOf, requestsOf} from "./list.js";
+import {keyAt, latest, learnKey, learntOf, list, periodOf, replacementsOf, requestsOf} from "./list.js";
 import {AnotherUser, Unanswered, keyOf, now} from "./register.js";
-import {COMMANDS, RANGES, SETTABLE, barred, isLong, isOverdue, spansOf, stateAt, usageAt} from "./rules.js";
+import {
+  COMMANDS, RANGES, SETTABLE, barred, isLong, isOverdue, predecessorOf, spansOf, stateAt, usageAt,
+} from "./rules.js";
 import {WORDS, moment, refusalText, state, utcText} from "./words.js";
 
 // Each date with its words and its letter.
@@ -132,6 +134,7 @@ function acts(key, desk, at) {
     }
   }
   return el("section", {class: "acts", "aria-labelledby": "acts"}, el("h2", {id: "acts"}, "What you may do"),
+    key.owner === desk.me ? el("p", {}, el("a", {href: `#next/${key.number}`}, "Register its next key")) : null,
     may.length ? may : el("p", {}, "Nothing of this key is yours to do now."),
     not.length ? el("details", {class: "not"}, el("summary", {}, "What you may not do now, and why"),
       el("dl", {}, not.map(([kind, why]) => [el("dt", {}, WORDS[kind].title), el("dd", {}, why)]))) : null);
@@ -143,12 +146,16 @@ function names(list, none) {
   return list.length ? el("ul", {class: "names"}, list.map((one) => el("li", {}, name(one)))) : none;
 }
 
+const linked = (head, numbers) => (numbers.length ? [[head, el("ul", {class: "names"}, numbers.map((number) =>
+  el("li", {}, el("a", {href: `#key/${number}`}, `key ${number}`))))]] : []);
+
 function facts(key, at) {
   const have = key.approvals.length, period = periodOf(key.type);
   return el("dl", {class: "facts"}, [
     ["Type", `${key.type}, ${period[0]} months of protecting and ${period[1]} of processing after`],
     ["Owner", name(key.owner)],
     ["Purpose", shown(key.purpose)],
+    ...linked("Replaces", [predecessorOf(key)].filter(Boolean)), ...linked("Replaced by", replacementsOf(key.number)),
     ["Custodians", names(key.custodians, "none")],
     ["Approvals", el("span", {}, `${have} of ${key.need} that its destruction needs`, names(key.approvals, ""))],
     ...DATES.filter(([member]) => (key[member] ?? null) !== null || SETTABLE.includes(member))
@@ -169,7 +176,7 @@ function picture(key, at) {
 
 // What is seen of a key, but for times. Where it is as it was, the page stays, with whatever has the focus in it.
 const seen = (number, note) => JSON.stringify([number, note, latest(), keyAt(number, now()), learntOf(number)?.usage,
-  requestsOf(number)]);
+  requestsOf(number), replacementsOf(number)]);
 
 function sourceText(number) {
   const heard = learntOf(number);

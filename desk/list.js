@@ -1,11 +1,11 @@
 // The keys that the desk knows: those of the list, and over them what it learnt from the register since the list was
 // made.
 import {listed, now} from "./register.js";
-import {DAY, NEAR, PERIODS, STATES, isLong, judged, mayHaveMade, stateAt, textOf} from "./rules.js";
+import {DAY, NEAR, PERIODS, STATES, isLong, judged, mayHaveMade, predecessorOf, stateAt, textOf} from "./rules.js";
 
 const LEARNT = "keyreg.learnt";
 const DATES = ["activation", "protect_stop", "deactivation", "destroyed", "compromised", "occurrence"];
-const COLUMNS = ["type", "owner", "purpose", "initial", ...DATES, "need", "custodians", "approvals"];
+const COLUMNS = ["type", "owner", "purpose", "initial", ...DATES, "need", "custodians", "approvals", "replaces"];
 const noColumns = () => Object.fromEntries(COLUMNS.map((name) => [name, []]));
 
 function stored(part, otherwise) {
@@ -204,6 +204,14 @@ export function requestsOf(number) {
   const {key, caller} = registered.get(number) ?? {}, command = {kind: "register", ...key};
   return [...(caller ? [requestOf({key: number, moment: key.initial, state: key.state}, command, caller)] : []),
     ...sentSince().filter((one) => one.key === number)];
+}
+
+// The keys that replace a key, by the ends of their purposes.
+export function replacementsOf(number) {
+  const listed = columns.replaces.flatMap((before, place) => (before === number ? [place + 1] : []));
+  const own = [...Object.values(learnt.keys), ...registered.values()].map(({key}) => key);
+  const others = own.filter((key) => predecessorOf(key) === number).map((key) => key.number);
+  return [...new Set([...listed, ...others])].sort((one, other) => one - other);
 }
 
 // How many keys are known, and the greatest of their numbers.

@@ -222,6 +222,18 @@ export function spansOf(key) {
   return spans.filter(([, from, to]) => from < to);
 }
 
+// The end of a purpose that names the key which its key replaces. office/register_rules.py has the same rule.
+const REPLACES = / \(replaces key ([1-9]\d{0,6})\)$/;
+
+// The number of the key that a key replaces, which came before it; null where its purpose names none.
+export function predecessorOf({number, purpose}) {
+  const named = Number(REPLACES.exec(purpose)?.[1]);
+  return named < number ? named : null;
+}
+
+// The purpose of the key that replaces a key.
+export const purposeOfNext = ({number, purpose}) => `${purpose.replace(REPLACES, "")} (replaces key ${number})`;
+
 // Whether a registration with these fields may have made the key: type, owner, purpose and each date that is given are
 // the key's, and a date that is left out may be any. Where no date is given, the key is in use still: one that ended
 // may be followed by another of its name. office/check_table.py goes by the same rule.

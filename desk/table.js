@@ -1,9 +1,10 @@
 // The page on which a table of keys is taken in: each row is judged before it is sent, the rows are sent one after the
 // other, and what is not registered is given back as a table.
+import {learnBehind} from "./behind.js";
 import {COLUMNS, tableOf} from "./csv.js";
 import {announce, byParts, el, field, freshId, plain, replace, select, shown} from "./dom.js";
-import {last, learnRegistered, list} from "./list.js";
-import {AnotherUser, StoreFull, Unanswered, keysFrom, lastKey} from "./register.js";
+import {list} from "./list.js";
+import {AnotherUser, StoreFull, Unanswered} from "./register.js";
 import {SORTS, commandOf} from "./rows.js";
 import {current, putAway, takeIn} from "./taken.js";
 import {counted} from "./words.js";
@@ -15,14 +16,6 @@ const SAID = 10_000;
 // ---- sending
 
 let isGoing = false;
-
-// Learns the keys that came since the list was made, so that no row is sent that somebody else sent meanwhile. Gives
-// the last key. Without a list that is known alone, and no row is compared.
-async function learnBehind() {
-  const known = list.hasKeys ? last() : list.count, end = await lastKey(known);
-  if (list.hasKeys) for await (const key of keysFrom(known + 1, end)) learnRegistered(key);
-  return end;
-}
 
 // Sends the rows that are marked, one after the other. `look` shows what was said to a row.
 async function sendRows(table, desk, look) {

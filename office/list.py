@@ -19,8 +19,9 @@ The list has these members:
     periods   of each type whose period was set, its originator and its recipient months
     names     the names of owners, custodians and callers; others have them by their places here, from 0
     types     the seven types; keys have them by their places here
-    keys      a column for each member of a key that `GET /keys/<key>` has, but `number` and `state`. The n-th cell of
-              each is key n's
+    keys      a column for each member of a key that `GET /keys/<key>` has, but `number` and `state`, and `replaces`,
+              the number of the key that it replaces by the end of its purpose, or null. The n-th cell of each is
+              key n's
     history   the name of a folder below `history` beside LIST
 
 A register of more keys than --most, which is 100,000, has null as its `keys` and its `history`: a page that is to hold
@@ -50,7 +51,7 @@ from typing import Any, Iterable, Iterator, Mapping, Optional
 
 # What is read from beside this file leaves none there.
 sys.dont_write_bytecode = True
-from register_rules import TYPES, UNSET, command_of, text_of
+from register_rules import TYPES, UNSET, command_of, predecessor, text_of
 from replay import Unreadable, columns_of, opened, row_place
 
 # How often a copy is begun anew of a register that is written to meanwhile.
@@ -58,7 +59,7 @@ TRIES = 50
 DATES = ("activation", "protect_stop", "deactivation", "destroyed", "compromised", "occurrence")
 # After each key.
 END = (float("inf"), ())
-COLUMNS = ("type", "owner", "purpose", "initial", *DATES, "need", "custodians", "approvals")
+COLUMNS = ("type", "owner", "purpose", "initial", *DATES, "need", "custodians", "approvals", "replaces")
 
 
 json_text = json.JSONEncoder(ensure_ascii=False).encode
@@ -109,7 +110,7 @@ def rows_of(connection: sqlite3.Connection, names: Names) -> Iterator[tuple[str,
             raise Unreadable(f"key {number} of type {kind} stands at place {place}")
         yield (str(kind - 1), str(names[owner]), json_text(purpose), str(initial),
                *("null" if date == UNSET else str(date) for date in dates), str(needs.get(number, 2)),
-               custodians.of(number), approvals.of(number))
+               custodians.of(number), approvals.of(number), str(predecessor(number, purpose) or "null"))
 
 
 def columns(connection: sqlite3.Connection, names: Names) -> dict[str, bytearray]:

@@ -164,6 +164,16 @@ class Key(NamedTuple):
         return {ACTIVE: "yes", DEACTIVATED: "special", COMPROMISED: "special"}.get(self.state(moment), "no")
 
 
+# The end of a purpose that names the key which its key replaces: a rule of an office, not of a register.
+REPLACES = re.compile(r" \(replaces key ([1-9][0-9]{0,6})\)\Z")
+
+
+def predecessor(number: int, purpose: str) -> Optional[int]:
+    """The number of the key that a key replaces, which came before it; None where its purpose names none."""
+    named = REPLACES.search(purpose)
+    return int(named[1]) if named and int(named[1]) < number else None
+
+
 # ---- commands, and what a request does to a key
 
 class Command(NamedTuple):

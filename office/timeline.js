@@ -3,7 +3,8 @@
 const table = document.querySelector('table'), body = table.tBodies[0], form = document.querySelector('form');
 const {states, dates, today, years, keys} = JSON.parse(document.getElementById('data').textContent);
 const count = document.getElementById('count'), PAGE = +table.dataset.page;
-const [NUMBER, OWNER, TYPE, STATE, DUE, PURPOSE, MOMENTS, LINES, MARKS] = keys.columns.map((_, place) => place);
+const [NUMBER, OWNER, TYPE, STATE, DUE, PURPOSE, MOMENTS, LINES, MARKS, REPLACES] =
+  keys.columns.map((_, place) => place);
 const STOP = dates.indexOf('protect_stop'), field = name => form.elements[name];
 const part = (name, attributes) => {
   const made = document.createElementNS('http://www.w3.org/2000/svg', name);
@@ -64,8 +65,11 @@ function toggle(row, button, key) {
   button.setAttribute('aria-expanded', !is_open);
   if (is_open) return row.nextSibling.remove();
   const more = document.createElement('tr'), list = document.createElement('dl'), all = cell('all', list);
+  const others = keys.rows.filter(one => one[REPLACES] === key[NUMBER]).map(one => one[NUMBER]);
   const facts = [['key', key[NUMBER]], ['owner', key[OWNER]], ['type', key[TYPE]],
     ['state', states[key[STATE]] + (key[DUE] && ', ' + key[DUE])], ['purpose', key[PURPOSE]],
+    ...(key[REPLACES] ? [['replaces', 'key ' + key[REPLACES]]] : []),
+    ...(others.length ? [['replaced by', 'key ' + others.join(', ')]] : []),
     ...dates.map((name, place) => [name.replace('_', ' '), moment(key[MOMENTS][place])]).filter(([, text]) => text)];
   for (const [name, text] of facts) {
     list.append(document.createElement('dt'), document.createElement('dd'));

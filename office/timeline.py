@@ -8,7 +8,8 @@ state, and turns the pages of 1000 keys. A key's bar is high from its Activation
 protect data, and low from there to its Deactivation Date. A compromise ends the high part, a destruction the line. A
 state has a colour and a pattern, so that it is seen in grey too. Marked are the moments of a compromise and a
 destruction, and what is due within so many days. A row that is clicked, touched, or opened by its button from the
-keyboard, has all texts and dates of its key. Printed, the axis stands on each sheet, and no row is cut.
+keyboard, has all texts and dates of its key, and which key it replaces by the end of its purpose. Printed, the axis
+stands on each sheet, and no row is cut.
 
 --at    the moment of the states and of the line of today, in seconds since 1970; else the clock's. The states of the
         export itself are those of the latest accepted moment.
@@ -30,7 +31,7 @@ from datetime import datetime, timedelta
 from html import escape
 from typing import Any, Iterable, Iterator, Sequence
 
-from register_rules import EPOCH, STATES as NAMES, moment_of, shown, state_at, text_of
+from register_rules import EPOCH, STATES as NAMES, moment_of, predecessor, shown, state_at, text_of
 
 # The columns that are drawn: the dates, and all.
 DATES = ("initial", "activation", "protect_stop", "deactivation", "occurrence", "compromised", "destroyed")
@@ -131,7 +132,7 @@ def row_of(key: dict[str, Any], moment: int, days: int, scale: Scale) -> list[An
     return [int(key["number"]), shown(key["owner"]), key["type"], list(STATES).index(state), due, shown(key["purpose"]),
             [key[name] for name in DATES],
             [(kind, scale.x(first), scale.x(min(until, scale.last))) for kind, first, until in spans],
-            list(marks_of(key, spans, due, scale))]
+            list(marks_of(key, spans, due, scale)), predecessor(int(key["number"]), key["purpose"])]
 
 
 def choice(name: str, label: str, values: Iterable[tuple[str, str]]) -> str:
@@ -172,7 +173,8 @@ def page_of(keys: Sequence[dict[str, Any]], moment: int, days: int) -> Iterator[
     heads = "".join(f'<th scope="col" class="{name}">{"key" if name == "number" else name}</th>'
                     for name in columns[:-1])
     data = {"states": list(STATES), "dates": DATES, "today": scale.x(moment), "years": [x for _, x in scale.places()],
-            "keys": {"columns": ["number", "owner", "type", "state", "due", "purpose", "dates", "lines", "marks"],
+            "keys": {"columns": ["number", "owner", "type", "state", "due", "purpose", "dates", "lines", "marks",
+                                 "replaces"],
                      "rows": [row_of(key, moment, days, scale) for key in keys]}}
     # In a script's element only `<` could end the text.
     text = json.dumps(data, ensure_ascii=False, separators=(",", ":")).replace("<", "\\u003c")

@@ -1,11 +1,14 @@
 """A day of the desk: every command by those whom the rules let give it, what is refused, and what is found. What the
 page has to say comes from docs/SPECIFICATION.md and from office/register_rules.py."""
+import json
+import pathlib
+import re
 import time
 from typing import Callable
 
 from parts import By, Reader
 from registers import STATES
-from register_rules import ACTIVE, ALL, STILL, Key, Register, moment_of, request_of
+from register_rules import ACTIVE, ALL, STILL, Key, Register, moment_of, request_of, text_of
 from script import expect, not_none
 
 
@@ -165,10 +168,109 @@ def finds(reader: Reader) -> None:
     reader.says("Key 2", "h1")
 
 
-def whole_day(ann: Reader, bob: Reader, cat: Reader, office: Reader) -> None:
+# ---- a key and the next one
+
+
+def steps(reader: Reader) -> list[str]:
+    """The requests of a next key as its page has them in their order, those that are done behind that word."""
+    return [step.text.split("\n")[0] for step in reader.find("ol.steps > li")]
+
+
+def falls_due(ann: Reader) -> tuple[int, int, int]:
+    """A key that is due, and overdue from its Protect Stop on, within seconds; that moment, and the one at which it is
+    deactivated."""
+    stop, end = (int(time.time()) + seconds for seconds in (8, 50))
+    dates = (text_of(moment).removesuffix("Z") for moment in (stop, end))
+    key = register(ann, "data-encryption", "ann", "disks of site D", day(-40), *dates)
+    ann.adds(key, "bob", "cat")
+    ann.does(f"set-quorum {key} 3", [("Approvals needed", "3")])
+    ann.with_list("find?days=1").says("disks of site D")
+    ann.wait(lambda: time.time() > stop + 1, "time stands")
+    expect("overdue" in ann.key(key).text("h1"), f"it is past its Protect Stop: {ann.text('h1')}")
+    ann.says("It protects no new data", "section.history")
+    return key, stop, end
+
+
+def next_key(ann: Reader, other: Reader, key: int, stop: int) -> int:
+    """The next key as one act: told in its order before the first request goes, each of which is sent once, also by a
+    second window and over an answer that is lost, and gone on with in another window. Gives its number."""
+    for reader in (ann, other):
+        reader.with_list(f"next/{key}").says("The next key of key")
+    told = ["Register the new key, of type data-encryption, for ann", "Add bob as a custodian of the new key",
+            "Add cat as a custodian of the new key", "3 approvals needed for the new key"]
+    expect(all(is_so.startswith(wanted) for is_so, wanted in zip(steps(ann), told, strict=True)), f"{steps(ann)}")
+    ann.desk.line.todo = ["cut"]
+    foretold = ann.submit("register")
+    begin = text_of(stop).replace("T", " ").replace("Z", " UTC")
+    expect(f"Activation: {begin}" in foretold and "State: Active" in foretold, f"foretold is {foretold}")
+    ann.accepted(f"register data-encryption ann {stop} - - disks of site D (replaces key {key})")
+    new = int(not_none(re.search(r"Key (\d+) is", ann.text("#said")))[1])
+    other.submit("register")
+    other.answer(True, f"Key {new} is")
+    for reader, command, words in (
+            (ann, f"add-custodian {new} bob", f"Add bob as a custodian of key {new}"),
+            (other, f"add-custodian {new} cat", f"Add cat as a custodian of key {new}"),
+            (other, f"set-quorum {new} 3", f"3 approvals needed for key {new}")):
+        # The other window knows no more than the register says.
+        if reader is other:
+            other.reload(forgets=True)
+        reader.open(f"next/{key}").forget()
+        reader.press(words, "button.send")
+        reader.accepted(command)
+    other.says("All is done")
+    expect(all(step.startswith("Done: ") for step in steps(other)), f"{steps(other)}")
+    facts = other.key(new).text("dl.facts")
+    expect(f"Replaces\nkey {key}" in facts and "bob\ncat" in facts and "0 of 3" in facts, f"the next key has {facts}")
+    is_headed(other, "Active")
+    other.key(key).says(f"Replaced by\nkey {new}", "dl.facts")
+    return new
+
+
+def succession(ann: Reader, other: Reader, bob: Reader, cat: Reader) -> None:
+    """A key falls due, its owner registers the next one, its date deactivates the old one, two custodians approve, and
+    it is destroyed. Each page tells it so."""
+    key, stop, end = falls_due(ann)
+    new = next_key(ann, other, key, stop)
+    place = pathlib.Path(ann.desk.guard.list_folder, "list.json")
+    ann.key(key).does(f"set-quorum {key} 2", [("Approvals needed", "2")])
+    ann.wait(lambda: time.time() > end + 1, "time stands", 60)
+    is_headed(bob.with_list("waits").key(key), "Deactivated")
+    expect(bob.find("section.usage tbody tr") and "The two differ" in bob.text(), "the register's own answer is older")
+    for reader in (bob, cat):
+        reader.key(key).does(f"approve {key}")
+    ann.open("waits")
+    ann.with_list("waits").seen(f"section.destroyable a[href='#key/{key}']")
+    ann.key(key).does(f"destroy {key}")
+    is_headed(ann, "Destroyed")
+    ann.with_list(f"key/{key}").says("reached its Deactivation", "section.history")
+    told = [row.text for row in ann.find("section.history tbody tr")]
+    for words in ("State: Destroyed", "Approvals: bob, cat (it was bob)", "State: Deactivated", "It protects no new data"):
+        expect(any(words in row for row in told), f"the history does not say {words!r}: {told}")
+    replaces = json.loads(place.read_text("utf-8"))["keys"]["replaces"]
+    expect(replaces[new - 1] == key and replaces[key - 1] is None, f"the list has {replaces}")
+
+
+def long_purpose(ann: Reader) -> None:
+    """A purpose that the name of its predecessor would make too long is told; without that name it is no next key."""
+    key = register(ann, "master", "ann", "x" * 190, day(-9), day(100))
+    end = f" (replaces key {key})"
+    form = ann.open(f"next/{key}").form("register")
+    size = 190 + len(end)
+    expect(f"would have {size} of 200 bytes" in ann.text() and f"{size} of 200 bytes" in form.text, ann.text())
+    for purpose, words in (("y" * 20, "would not be the next key"), ("y" * 20 + end, "Would be accepted")):
+        ann.put(form.find_element("name", "purpose"), purpose)
+        ann.wait(lambda: words in form.text, f"{purpose} does not say {words}: {form.text}")
+        ann.forget()
+        form.find_element("css selector", "button.send").click()
+    ann.accepted(f"register master ann {second(day(100))} - - {'y' * 20}{end}")
+
+
+def whole_day(ann: Reader, bob: Reader, cat: Reader, office: Reader, other: Reader) -> None:
     """All of it, as four users."""
     destroyed(ann, bob, cat)
     custody(ann, bob, cat)
+    succession(ann, other, bob, cat)
+    long_purpose(ann)
     third = dates(ann, cat)
     periods(ann, office)
     moved_on(bob, third)

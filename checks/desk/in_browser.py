@@ -114,6 +114,7 @@ def whole(here: Office, folder: pathlib.Path, parts: Sequence[str], rows: int) -
     readers = [here.reader(name) for name in ("ann", "bob", "cat", "office")]
     ann, bob, cat, office = readers
     if "day" in parts:
+        readers.append(here.reader("ann"))
         day.whole_day(*readers)
         given = {command.split(" ")[0] for reader in readers for _, _, command in reader.said}
         expect(given == set(COMMANDS), f"the day of the pages lacks {set(COMMANDS) - given}")

@@ -154,7 +154,8 @@ def all_pages(ann: Reader, bob: Reader, cat: Reader, folder: pathlib.Path) -> st
            "authentication,ann,2027-01-01T00:00:00Z,2026-01-01T00:00:00Z,,in another order",
            "Master,ann,,,,no such type")
     parts = 0
-    for page in ("find", f"key/{key}", "waits", "due", "mine", "register", "table", "periods", "leaver", "help"):
+    for page in ("find", f"key/{key}", f"next/{key}", "waits", "due", "mine", "register", "table", "periods", "leaver",
+                 "help"):
         ann.anew(page)
         if page.startswith("key/"):
             ann.says("As the register told it")
@@ -174,7 +175,7 @@ def all_pages(ann: Reader, bob: Reader, cat: Reader, folder: pathlib.Path) -> st
     ann.desk.line.todo = []
     ann.execute("document.querySelector('#kept button')?.click()")
     ann.accepted(f"set-quorum {key} 3")
-    return f"{parts} parts of thirteen pages have their names and roles, at {len(WIDTHS)} widths, light, dark and printed"
+    return f"{parts} parts of fourteen pages have their names and roles, at {len(WIDTHS)} widths, light, dark and printed"
 
 
 # ---- many keys

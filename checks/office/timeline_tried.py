@@ -2,9 +2,9 @@
 """Looks at what office/timeline.py draws of an export, in chromium. Each key is drawn once, with the state that
 office/register_rules.py gives, and its line by the cases that the desk draws by. Every text of a key stays a text, and
 nothing is loaded. At 380, 800 and 1600 wide, light and dark, nothing runs over its neighbour or past the edge, and each
-row's button gives all texts and dates of its key; axe finds nothing. Printed, each row stands whole on one sheet. Ten
-thousand keys are sorted, filtered, and turned over by pages, and are shown in at most TIMES the time that a thousand
-take.
+row's button gives all texts and dates of its key, and the key that it replaces or that replaces it; axe finds nothing.
+Printed, each row stands whole on one sheet. Ten thousand keys are sorted, filtered, and turned over by pages, and are
+shown in at most TIMES the time that a thousand take.
 
     checks/office/timeline_tried.py
 
@@ -24,12 +24,14 @@ from places import TOP
 from axe import violations
 from browser import as_seen, as_usual, chromium, print_page
 from registers import EXPORT_COLUMNS, EXPORT_DATES, export_row, new_register
-from register_rules import STATES, moment_of, state_at, text_of
+from register_rules import STATES, moment_of, predecessor, state_at, text_of
 from script import expect, fresh_folder, in_order, not_none, output_of, verdict
 from timeline import NEVER, spans_of
 from tools import exported, run_tool
 
-SPANS = TOP / "desk" / "tests" / "spans.json"
+SPANS, REPLACES = (TOP / "desk" / "tests" / f"{name}.json" for name in ("spans", "replaces"))
+# What the rows of two keys have besides, by the last purpose.
+NEXT = {"2": "key 22", "22": "key 2"}
 NOW, DAY, DAYS = 1_800_000_000, 86400, 60
 TEXTS = ["<script>alert(1)</script>", '"><img src=x onerror=alert(1)>', "</title></svg><b>bold", "&amp; &lt;",
          "'; //", "a\u202eb", "</script><script src=http://evil.example/x>", "url(http://evil.example)"]
@@ -50,6 +52,7 @@ REQUESTS = [
     *(f"-90 ann {20 + place} register master eve - - - {text}" for place, text in enumerate(TEXTS)),
     f"-80 ann 30 register data-encryption {'W' * 17} -70 - - {'many words, ' * 14}last",
     f"-80 ann 31 register private-authentication {'w' * 64} +90 - - {'x' * 120}",
+    "-80 ann 32 register master eve +20 - - the one that is next (replaces key 2)",
 ]
 LINES = [re.sub(r"(?<![^ ])[+-]\d+(?![^ ])", lambda days: str(NOW + int(days[0]) * DAY), text) for text in REQUESTS]
 WIDTHS = (380, 800, 1600)
@@ -239,6 +242,7 @@ def layout_faults(view: Mapping[str, Any], rows: list[Row], width: int, is_dark:
         state = ", ".join(filter(None, (row["state"], row["due"])))
         dates = [text_of(row[name]) for name in EXPORT_DATES if row[name] is not None]
         wanted = [row["number"], plain(row["owner"]), row["type"], state, plain(row["purpose"]), *dates]
+        wanted += filter(None, [NEXT.get(row["number"])])
         if not is_reached or sorted(texts) != sorted(wanted):
             yield f"{width} wide: key {row['number']}: its button gives {texts}"
 
@@ -295,6 +299,9 @@ def main() -> None:
     for case in json.loads(SPANS.read_text(encoding="utf-8")):
         spans = [[kind, first, None if until == NEVER else until] for kind, first, until in spans_of(case["key"])]
         expect(spans == case["spans"], f"{case['case']}: {spans}, not {case['spans']}")
+    for case in json.loads(REPLACES.read_text(encoding="utf-8")):
+        named = predecessor(case["number"], case["purpose"])
+        expect(named == case["replaces"], f"{case} replaces {named}")
     with fresh_folder() as folder:
         replies = new_register(folder / "office.keyreg", LINES)
         expect(all(reply.startswith("ok ") for reply in replies), f"{replies}")

@@ -1,7 +1,9 @@
 // What the desk decides of one key, by cases that were worked out by hand from docs/SPECIFICATION.md.
 import assert from "node:assert/strict";
 import {test} from "node:test";
-import {isOverdue, judged, mayHaveMade, spansOf} from "../rules.js";
+import {
+  MOST_BYTES, bytesOf, isOverdue, judged, mayHaveMade, predecessorOf, purposeOfNext, spansOf,
+} from "../rules.js";
 import {momentOf, textFault} from "../words.js";
 import {cases, madeCases} from "./shared.js";
 
@@ -22,6 +24,21 @@ for (const {case: name, row, made, key, moment} of madeCases()) {
     assert.equal(mayHaveMade(keyOf(row), keyOf(fields(key)), momentOf(moment)), made);
   });
 }
+
+for (const {number, purpose, replaces} of cases("replaces.json")) {
+  test(`the key that key ${number} replaces: ${purpose}`, () => {
+    assert.equal(predecessorOf({number, purpose}), replaces);
+  });
+}
+
+test("the next key's purpose names the key, and no key before it", () => {
+  for (const purpose of ["disks", "disks (replaces key 12)"]) {
+    const next = purposeOfNext({number: 40, purpose});
+    assert.equal(next, "disks (replaces key 40)");
+    assert.equal(predecessorOf({number: 41, purpose: next}), 40);
+  }
+  assert.equal(bytesOf(purposeOfNext({number: 7, purpose: "ü".repeat(92)})), MOST_BYTES + 1);
+});
 
 test("a key is overdue from its Protect Stop Date on, while it is Active", () => {
   const key = {activation: 10, protect_stop: 50, deactivation: 80, destroyed: null, compromised: null};

@@ -1,5 +1,6 @@
 // What the tests share: a register's list as office/list.py makes it, and a window's store.
 import {readFileSync} from "node:fs";
+import {predecessorOf} from "../rules.js";
 import {momentOf} from "../words.js";
 
 export const cases = (name) => JSON.parse(readFileSync(new URL(name, import.meta.url), "utf-8"));
@@ -36,6 +37,7 @@ export function listOf(keys, {made = 1_780_000_000, periods = {}} = {}) {
       need: column(({need = 2}) => need),
       custodians: column(({custodians = []}) => custodians.map(placeOf)),
       approvals: column(({approvals = []}) => approvals.map(placeOf)),
+      replaces: keys.map(({purpose}, place) => predecessorOf({number: place + 1, purpose})),
     },
   };
 }
