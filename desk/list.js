@@ -307,7 +307,7 @@ export function matching(filter, moment) {
 
 // The numbers of the keys that are due within so many days, in order of their Protect Stop Dates.
 export const dueWithin = (days, moment) =>
-  matching({text: "", owner: "", type: "", state: "", days, waits: false}, moment);
+  matching({text: "", owner: "", custodian: "", mine: "", type: "", state: "", days, waits: false}, moment);
 
 // By what keys are sorted. One that lacks it comes last.
 export const SORTS = {

@@ -70,6 +70,10 @@ def as_bytes(text: str) -> bytes:
     return text.encode(errors="backslashreplace")
 
 
+class Unwritable(Exception):
+    """A file of the history cannot be written."""
+
+
 class Names(dict[str, int]):
     """The places of names, in the order in which they are asked for."""
 
@@ -139,7 +143,8 @@ class History:
             return
         made = self.folder.with_name(f".{self.folder.name}")
         shutil.rmtree(made, ignore_errors=True)
-        made.mkdir(parents=True)
+        made.parent.mkdir(exist_ok=True)
+        made.mkdir()
         # A million texts go from the database to the files as they are.
         self.connection.text_factory = bytes
         index = {"keys": list(self.files(made / "keys", "key_no", "typeof(key_no) = 'integer' AND key_no > 0", count)),
@@ -196,7 +201,11 @@ def list_of(path: str, most: int, rows: int, folder: pathlib.Path
         for caller, in connection.execute("SELECT DISTINCT caller FROM request"):
             names[caller]
         if history:
-            history.put(rows)
+            try:
+                history.put(rows)
+            except OSError as fault:
+                # Not that of a register that cannot be read.
+                raise Unwritable(fault.strerror) from None
     return {"form": 2, "made": made, "latest": latest, "count": count, "periods": periods, "names": list(names),
             "types": TYPES, "history": history and history.folder.name}, keys, history
 
@@ -246,8 +255,8 @@ def main() -> int:
     except (Unreadable, sqlite3.Error, ValueError) as fault:
         print(f"{words.register} cannot be read as a register: {fault}", file=sys.stderr)
         return 2
-    except OSError as fault:
-        print(f"{words.list} cannot be written: {fault.strerror}", file=sys.stderr)
+    except (OSError, Unwritable) as fault:
+        print(f"{words.list} cannot be written: {getattr(fault, 'strerror', fault)}", file=sys.stderr)
         return 3
     count = f"{members['count']} keys" if keys else f"no keys, since there are {members['count']}"
     print(f"{words.list}: {count}, up to {text_of(members['latest'])}, {size} bytes")

@@ -16,6 +16,8 @@ LABELS = {"activation": "Activation", "stop": "Protect Stop", "end": "Deactivati
 # The cells of the rows of a table, each line by itself, without the words that tell how long ago it was.
 CELLS = """return [...document.querySelectorAll(arguments[0] + " tbody tr")].map((row) =>
   [...row.cells].map((cell) => cell.innerText.replace(/ \\(.* ago\\)| \\(now\\)/, "").split("\\n")))"""
+# So many keys are looked at.
+MOST = 40
 # When, who, under which number, and what it changed.
 Entry = tuple[str, str, str, list[str]]
 
@@ -66,16 +68,19 @@ def histories(reader: Reader) -> dict[int, list[Entry]]:
 
 
 def cells(reader: Reader, selector: str) -> list[list[list[str]]]:
-    """The rows of a table, all of them."""
-    while reader.find(f"{selector} button.more"):
-        reader.find(f"{selector} button.more")[0].click()
+    """The rows of a table, after some presses for more."""
+    for _ in range(6):
+        count = len(reader.execute(CELLS, selector))
+        if more := reader.find(f"{selector} button.more"):
+            more[0].click()
+            reader.wait(lambda: len(reader.execute(CELLS, selector)) > count, f"no more rows come behind {count}")
     return reader.execute(CELLS, selector)
 
 
 def of_keys(reader: Reader) -> int:
-    """Each key's page has its history, the newest first; how many requests they are."""
+    """The pages of the keys of which most is told have their histories, the newest first; how many entries they are."""
     count, told = 0, histories(reader)
-    for key, wanted in told.items():
+    for key, wanted in sorted(told.items(), key=lambda item: -len(item[1]))[:MOST]:
         reader.key(key).says("of this key, the newest first", "section.history")
         rows = cells(reader, "section.history")
         # What came by dates since the last request is not the rules' to say.
@@ -96,8 +101,8 @@ def of_reader(reader: Reader) -> int:
     reader.with_list("mine").says("Advances are left out")
     expect(not reader.find("section.lost"), f"the page takes requests for lost: {reader.text('section.lost')}")
     rows = [(when[0], number[0]) for when, number, _, _ in cells(reader, "#main > .results")]
-    in_order(rows, wanted[::-1], f"{reader.user}'s own requests")
-    return len(wanted)
+    in_order(rows, wanted[::-1][:max(len(rows), 50)], f"{reader.user}'s own requests")
+    return len(rows)
 
 
 def gone(reader: Reader, other: Reader, key: int) -> None:
@@ -143,5 +148,5 @@ def all_histories(ann: Reader, bob: Reader, office: Reader) -> str:
     gone(bob, ann, key)
     restored(ann, key)
     ann.with_list()
-    return (f"{of_keys(ann)} entries of keys' histories are as the rules give them, and "
+    return (f"{of_keys(ann)} entries of histories are as the rules give them, and "
             f"{sum(map(of_reader, (ann, bob, office)))} requests stand under Mine")
