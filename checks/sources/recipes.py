@@ -97,7 +97,7 @@ KINDS = (
     Kind("Add a command of the program", r"Task::Report|\breport_file\b|keyreg report|\[\"report\"|\"report\":|"
                                          r"\n +report\)|from report'", {
         "they ask for a report": "checks/office/audit_views.py checks/office/due_tried.py "
-                                 "checks/office/metrics_tried.py checks/office/why_tried.py office/due.py "
+                                 "checks/office/metrics_tried.py office/due.py "
                                  "office/metrics.py checks/sqlite/copied_while_served.py "
                                  "checks/package/in_systemd.sh checks/program/full_register.py "
                                  "checks/office/replay_tried.py docs/CHECKS.md office/units/keyreg.service "
