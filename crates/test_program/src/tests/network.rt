@@ -115,7 +115,12 @@ impl Network for Tested {
     fn see_off(&mut self, client: Client<Sender, Taker>)
         ensures { Notes None None (Went None ∷ []) }
     {
-        let _ = self.replies.push(client.write_half.taken);
+        let Client {
+            read_half: _,
+            write_half,
+        } = client;
+        let Taker { calls: _, taken } = write_half;
+        let _ = self.replies.push(taken);
     }
 }
 
