@@ -24,7 +24,7 @@ import stat
 import struct
 import sys
 import tempfile
-from typing import Iterator
+from typing import Iterator, Union
 
 # What is read from beside this file leaves none there.
 sys.dont_write_bytecode = True
@@ -41,12 +41,22 @@ ROOM = 64 * 1024
 FLOCK = "hhqqi4x"
 
 
+def may_not(do: str, place: Union[str, pathlib.Path]) -> str:
+    """That the user may not do this at a place that is there."""
+    told = os.stat(place)
+    return (f"{pwd.getpwuid(os.geteuid()).pw_name} may not {do} {place}, of user {told.st_uid} and group {told.st_gid}, "
+            f"mode {stat.S_IMODE(told.st_mode):o}: give the user access")
+
+
 def of_name(path: str) -> Iterator[str]:
     """What is wrong with the name alone."""
-    folder = os.path.dirname(os.path.abspath(path))
+    folder = pathlib.Path(os.path.abspath(path)).parent
+    shut = [place for place in (*reversed(folder.parents), folder) if not os.access(place, os.X_OK, effective_ids=True)]
     if path in ("", ":memory:") or path.startswith("file:"):
         yield f"{path!r} is no name of a file: name another one"
-    elif not os.path.isdir(folder):
+    elif shut and shut[0].is_dir():
+        yield may_not("enter", shut[0])
+    elif not folder.is_dir():
         yield f"there is no folder {folder}: make it, or name another one"
     elif os.path.isdir(path) or path.endswith("/"):
         yield f"{path} is a folder: name a file"
@@ -58,16 +68,13 @@ def of_name(path: str) -> Iterator[str]:
 
 
 def of_rights(path: str) -> Iterator[str]:
-    user = pwd.getpwuid(os.geteuid()).pw_name
     wanted = {path + end: os.R_OK | os.W_OK for end in ("", "-wal") if os.path.exists(path + end)}
     if len(wanted) == 1:
         # The log is made there.
         wanted[os.path.dirname(os.path.realpath(path))] = os.W_OK | os.X_OK
     for place, mode in wanted.items():
         if not os.access(place, mode, effective_ids=True):
-            told = os.stat(place)
-            yield (f"{user} may not read and write {place}, of user {told.st_uid} and group {told.st_gid}, mode "
-                   f"{stat.S_IMODE(told.st_mode):o}: give the user access")
+            yield may_not("read and write", place)
     if (count := os.stat(path).st_nlink) > 1:
         yield f"the file has {count} hard links: remove the others"
 

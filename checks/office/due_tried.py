@@ -17,7 +17,7 @@ import re
 import sys
 import time
 from datetime import datetime, timedelta, timezone
-from typing import Any, NamedTuple
+from typing import Any, NamedTuple, Sequence
 
 sys.path.insert(1, str(pathlib.Path(__file__).resolve().parents[1] / "shared"))
 # Debian's package is of the system's Python; another one finds it here.
@@ -80,7 +80,7 @@ def reported(file: File) -> dict[int, Row]:
     return rows
 
 
-def registered(file: File) -> int:
+def registered(file: File, before: Sequence[str] = ()) -> int:
     """A register of keys that are due, overdue, long and none of these, of whose destructions one was begun and one is
     approved; its latest moment."""
     now = int(time.time())
@@ -96,7 +96,7 @@ def registered(file: File) -> int:
         [(begun, "cat"), (begun, "dan"), (approved, "cat"), (approved, "dan")], 1)]
     lines += [f"{now} {name} {key} approve {key}" for name, key in (
         ("dan", begun), ("cat", approved), ("dan", approved))]
-    expect(all(reply.startswith("ok ") for reply in new_register(file, lines)), "a line is refused")
+    expect(all(reply.startswith("ok ") for reply in new_register(file, [*before, *lines])), "a line is refused")
     return now
 
 
@@ -156,7 +156,8 @@ def days_pass(folder: pathlib.Path, file: File, now: int) -> int:
     expect(before.items() <= after.items(), f"UIDs change: {before}, {after}")
     expect(not (folder / f"due/owners/{owner}.ics").exists(), "who owns nothing any more has a calendar still")
     other = folder / "other.keyreg"
-    registered(other)
+    # Another first request tells it apart, also where both are made in one second.
+    registered(other, ["1 other 1 advance"])
     keyreg(["run", "--file", other], [f"{now + DAY} ann 1 advance"])
     run_tool("due", other, folder / "due_other", "--days", DAYS)
     shared = {event.uid.value for event in events(folder / "due_other/all.ics").values()} & {*after.values()}

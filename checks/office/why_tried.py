@@ -65,6 +65,15 @@ def with_mode(folder: pathlib.Path, name: str, mode: int) -> Iterator[Any]:
     yield file
 
 
+def below(folder: pathlib.Path) -> Iterator[Any]:
+    """Another user looks, who may not enter a folder on the way."""
+    inner = folder / "inner"
+    inner.mkdir()
+    file = made(inner, 3)
+    folder.chmod(0o700)
+    yield file
+
+
 def linked(folder: pathlib.Path) -> Iterator[Any]:
     os.link(file := made(folder), folder / "other")
     yield file
@@ -165,11 +174,12 @@ CAUSES: dict[str, tuple[Any, ...]] = {
     "auto_vacuum": ("its auto_vacuum is on", edited, "PRAGMA auto_vacuum = 1; VACUUM"),
 }
 # The same where another user looks, or root alone can make it.
-SHUT = "may not read and write"
+SHUT, NO_WAY = "may not read and write", "may not enter"
 FOR_ROOT: dict[str, tuple[Any, ...]] = {
     "a full disk": ("the disk is full", full), "another's file": (SHUT, with_mode, "office.keyreg", 0o600),
     "a file that is read alone": (SHUT, with_mode, "office.keyreg", 0o444),
     "another's log": (SHUT, with_mode, "office.keyreg-wal", 0o600), "another's folder": (SHUT, with_mode, ".", 0o755),
+    "another's folder on the way": (NO_WAY, below),
 }
 
 
@@ -194,8 +204,11 @@ def said_of(path: Any, user: int = 0) -> tuple[int, list[str]]:
 
 
 def told(name: str, words: str, make: Callable[..., Iterator[Any]], *given: Any) -> None:
-    user = NOBODY if words == SHUT else 0
+    user = NOBODY if words in (SHUT, NO_WAY) else 0
     with fresh_folder() as folder:
+        # A folder of the gate's may be shut to others.
+        for place in (folder, *folder.parents) if user else ():
+            place.chmod(place.stat().st_mode | 0o011)
         folder.chmod(0o755)
         with contextlib.contextmanager(make)(folder, *given) as path:
             status, said = said_of(path, user)
