@@ -130,7 +130,8 @@ def heard(served: Served, request: bytes) -> Any:
     with served.connected() as first, served.connected() as second:
         sends = threading.Thread(target=send_all, args=(second, request + BEHIND), daemon=True)
         sends.start()
-        sends.join(1)
+        # On a busy machine that takes its time; the first may be silent for ten seconds.
+        sends.join(8)
         first.shutdown(socket.SHUT_WR)
         expect(to_the_end(first) == b"", "the client before it")
         reply = to_the_end(second)
